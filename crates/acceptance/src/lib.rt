@@ -1,0 +1,1 @@
+// What the customer is promised, each promise in one file. No code.

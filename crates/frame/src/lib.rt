@@ -1,0 +1,68 @@
+// The bench frame's writer: the head, the payload through the part of the request buffer from byte 10 on, the check.
+use wire::Written;
+ghost use mathlib.Core.Path.{_≡_};
+ghost use mathlib.Core.List.{_++_};
+ghost use Prim.Native.Nat.{_+_, _≤_};
+ghost use lib.ListN.{length, take, drop, replicate};
+ghost use Rattle.paper.specs.Frame.{le, check, frameHead, frameBytes};
+ghost use Rattle.frame.specs.Writing.{frameOf, headOf, written};
+
+pub struct Head {
+    pub command: u8,
+    pub status: u8,
+    pub flags: u8,
+    pub address: u32,
+}
+
+// The first ten bytes of a frame with n bytes of payload.
+pub fn put_head(buf: &mut [u8], head: Head, n: u16)
+    requires { ⌜ 10 ≤ length (now buf) ⌝ }
+    ensures { λ _. ⌜ now (buf .exit) ≡ headOf head n ++ drop 10 (now (buf .entry)) ⌝ }
+{
+    buf[0] = 0xA5;
+    buf[1] = head.command;
+    buf[2] = head.status;
+    buf[3] = head.flags;
+    wire::put32(buf, 4, head.address);
+    wire::put16(buf, 8, n);
+}
+
+// The payload writer: bytes, then FF so many times.
+pub fn put_padded(dst: &mut [u8], bytes: &[u8], pad: usize)
+    requires { ⌜ length (now bytes) + pad ≤ length (now dst) ⌝ }
+    ensures { λ _. ⌜ now (dst .exit) ≡ (now (bytes .entry) ++ replicate pad 0xFF) ++ drop (length (now (bytes .entry)) + pad) (now (dst .entry)) ⌝ }
+{
+    let n = bytes.len();
+    wire::copy(dst, bytes);
+    wire::fill(&mut dst[n..], pad, 0xFF);
+}
+
+// The check behind the first n bytes.
+pub fn seal(buf: &mut [u8], n: usize)
+    requires { ⌜ n + 2 ≤ length (now buf) ⌝ }
+    ensures { λ _. ⌜ now (buf .exit) ≡ take n (now (buf .entry)) ++ le 2 (check (take n (now (buf .entry)))) ++ drop (n + 2) (now (buf .entry)) ⌝ }
+{
+    let c = crc::crc16(0xFFFF, &buf[..n]);
+    wire::put16(buf, n, c);
+}
+
+// A frame whose payload is the bytes given and then FF so many times.
+pub fn write_frame(head: Head, bytes: &[u8], pad: usize, buf: &mut [u8]) -> Written
+    ensures { λ r. ⌜ record { answer = r; bytes = now (buf .exit) } ≡ written (frameOf head (now (bytes .entry) ++ replicate pad 0xFF)) (now (buf .entry)) ⌝ }
+{
+    let m = bytes.len();
+    if 1024 < m {
+        return Written::TooLong;
+    }
+    if 1024 - m < pad {
+        return Written::TooLong;
+    }
+    let n = m + pad;
+    if buf.len() < n + 12 {
+        return Written::Short(n + 12);
+    }
+    put_head(buf, head, n as u16);
+    put_padded(&mut buf[10..], bytes, pad);
+    seal(buf, n + 10);
+    Written::Done(n + 12)
+}

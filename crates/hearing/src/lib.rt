@@ -1,0 +1,163 @@
+// What a record says: what a Select hears in it, the one frame that answers a request, and its unread rest.
+use ids::Id;
+use reader::Frame;
+use reader::Reading;
+ghost use mathlib.Core.Path.{_≡_};
+ghost use Prim.Native.Nat.{_+_, _≤_};
+ghost use lib.ListN.{length, take, drop};
+ghost use Rattle.paper.specs.Hearing.{hear};
+ghost use Rattle.paper.specs.Answers.{answer, rest};
+ghost use Rattle.hearing.specs.Heard.{Within, heardAs, noted, oneHeard, concluded, shownHeard, shownAnswer};
+
+// What one Select heard. An id over 16 bytes is TooLong.
+pub enum Heard {
+    Nothing,
+    One,
+    TooLong,
+    Unaddressed,
+    Garble,
+}
+
+// With the id of One; no id else.
+pub struct Hearing {
+    pub heard: Heard,
+    pub id: Id,
+}
+
+// The replies among the frames so far.
+pub enum Replies {
+    None,
+    One(Frame),
+    Several,
+}
+
+// The frame that answers a request with one answer: where its payload begins, the payload's length, and the frame's end.
+pub enum Answer {
+    Lost,
+    Device(u8, usize),
+    Ok(usize, usize, usize),
+}
+
+pub fn heard_as(heard: Heard) -> Hearing
+    ensures { λ r. ⌜ r ≡ heardAs heard ⌝ }
+{
+    let id = Id::none();
+    Hearing { heard, id }
+}
+
+// One more frame: an echo is no reply.
+pub fn noted(replies: Replies, f: Frame) -> Replies
+    ensures { λ r. ⌜ r ≡ noted replies f ⌝ }
+{
+    if f.status == 0 {
+        return replies;
+    }
+    match replies {
+        Replies::None => Replies::One(f),
+        Replies::One(_) => Replies::Several,
+        Replies::Several => Replies::Several,
+    }
+}
+
+// The id in a frame's payload.
+fn one_heard(bytes: &[u8], at: usize, len: usize) -> Hearing
+    requires { ⌜ at + len ≤ length (now bytes) ⌝ }
+    ensures { λ r. ⌜ r ≡ oneHeard (take len (drop at (now (bytes .entry)))) ⌝ }
+{
+    if 16 < len {
+        return heard_as(Heard::TooLong);
+    }
+    let e = at + len;
+    let id = Id::of(&bytes[at..e]);
+    Hearing {
+        heard: Heard::One,
+        id,
+    }
+}
+
+fn concluded(bytes: &[u8], replies: Replies) -> Hearing
+    requires { ⌜ Within (now bytes) replies ⌝ }
+    ensures { λ r. ⌜ r ≡ concluded (now (bytes .entry)) replies ⌝ }
+{
+    match replies {
+        Replies::None => heard_as(Heard::Nothing),
+        Replies::Several => heard_as(Heard::Garble),
+        Replies::One(f) => {
+            if f.status == 1 {
+                return one_heard(bytes, f.payload, f.len);
+            }
+            if f.status == 2 {
+                return heard_as(Heard::Unaddressed);
+            }
+            heard_as(Heard::Garble)
+        }
+    }
+}
+
+// What a Select hears in its record.
+pub fn hear(bytes: &[u8]) -> Hearing
+    ensures { λ r. ⌜ r ≡ shownHeard (hear (now (bytes .entry))) ⌝ }
+{
+    let mut at = 0;
+    let mut replies = Replies::None;
+    while at < bytes.len() {
+        let r = reader::read(bytes, at);
+        let Reading::Whole(f) = r else {
+            return heard_as(Heard::Garble);
+        };
+        if f.payload != at + 10 {
+            return heard_as(Heard::Garble);
+        }
+        replies = noted(replies, f);
+        at = f.end;
+    }
+    concluded(bytes, replies)
+}
+
+// The first frame that is no echo.
+pub fn answer(bytes: &[u8]) -> Answer
+    ensures { λ r. ⌜ r ≡ shownAnswer (answer (now (bytes .entry))) ⌝ }
+{
+    let mut at = 0;
+    let found = loop {
+        let r = reader::read(bytes, at);
+        match r {
+            Reading::Short => break Answer::Lost,
+            Reading::TooLong => break Answer::Lost,
+            Reading::BadCheck(f) => {
+                if f.status != 0 {
+                    break Answer::Device(3, f.end);
+                }
+                at = f.end;
+            }
+            Reading::Whole(f) => {
+                if f.status != 0 {
+                    break replied(f);
+                }
+                at = f.end;
+            }
+        }
+    };
+    found
+}
+
+// A whole frame that is no echo.
+fn replied(f: Frame) -> Answer
+    ensures { λ r. ⌜ r ≡ repliedBy f ⌝ }
+{
+    if f.status == 1 {
+        return Answer::Ok(f.payload, f.len, f.end);
+    }
+    Answer::Device(f.status, f.end)
+}
+
+// The unread rest of the lent record; empty if the place is past the end.
+pub fn rest(bytes: &[u8], at: usize) -> &[u8]
+    ensures { λ r. ⌜ now r ≡ rest (now (bytes .entry)) at ⌝ }
+{
+    if at <= bytes.len() {
+        &bytes[at..]
+    } else {
+        &bytes[..0]
+    }
+}

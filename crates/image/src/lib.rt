@@ -1,0 +1,168 @@
+// The device information and the rules on images: key, chunk, padding, size, erase addresses.
+ghost use mathlib.Core.Path.{_≡_};
+ghost use Prim.Native.Nat.{_+_, _≤_};
+ghost use lib.ListN.{length};
+ghost use Rattle.paper.specs.Answers.{sound, informed, spansTooFar, tooLarge, reported, key, incompatible, chunk, padding};
+ghost use Rattle.image.specs.Images.{infoOf, shownInfo, paperInfo, shownKey, eraseAfter};
+
+// Device geometry from an Info response.
+pub struct Info {
+    pub capacity: u32,
+    pub erase_size: u16,
+    pub boot_version: u16,
+    pub app_version: u16,
+    pub mode: u8,
+    pub boot_baud: u8,
+    pub compat: u32,
+    pub max_payload: u16,
+}
+
+// The information of a payload, or 5.
+pub enum Informed {
+    Sound(Info),
+    BadInfo,
+}
+
+pub enum Compat {
+    Key(u32),
+    Missing,
+}
+
+// The address of the next Erase.
+pub enum Erase {
+    At(u32),
+    Done,
+}
+
+// The eight fields of a payload of 18 bytes or more.
+fn fields(payload: &[u8]) -> Info
+    requires { ⌜ 18 ≤ length (now payload) ⌝ }
+    ensures { λ r. ⌜ r ≡ infoOf (now (payload .entry)) ⌝ }
+{
+    Info {
+        capacity: wire::get32(payload, 0),
+        erase_size: wire::get16(payload, 4),
+        boot_version: wire::get16(payload, 6),
+        app_version: wire::get16(payload, 8),
+        mode: payload[10],
+        boot_baud: payload[11],
+        compat: wire::get32(payload, 12),
+        max_payload: wire::get16(payload, 16),
+    }
+}
+
+// The information of an Info response: 5 for a short payload and for one that breaks the Info rule.
+pub fn info(payload: &[u8]) -> Informed
+    ensures { λ r. ⌜ r ≡ shownInfo (informed (now (payload .entry))) ⌝ }
+{
+    if payload.len() < 18 {
+        return Informed::BadInfo;
+    }
+    let i = fields(payload);
+    if i.sound() {
+        return Informed::Sound(i);
+    }
+    Informed::BadInfo
+}
+
+// The compatibility key in an image's tail.
+pub fn image_compat(image: &[u8]) -> Compat
+    ensures { λ r. ⌜ r ≡ shownKey (key (now (image .entry))) ⌝ }
+{
+    let n = image.len();
+    if n < 6 {
+        return Compat::Missing;
+    }
+    if n % 4 == 2 {
+        return Compat::Key(wire::get32(image, n - 6));
+    }
+    Compat::Missing
+}
+
+// An image's length in 32 bits, the largest number where it has more.
+pub fn reported(n: usize) -> u32
+    ensures { λ r. ⌜ r ≡ reported n ⌝ }
+{
+    if n <= 0xFFFF_FFFF {
+        n as u32
+    } else {
+        0xFFFF_FFFF
+    }
+}
+
+// How many bytes FF make a length a multiple of 4.
+pub fn padding(n: usize) -> usize
+    ensures { λ r. ⌜ r ≡ padding n ⌝ }
+{
+    (4 - n % 4) % 4
+}
+
+impl Info {
+    // The Info rule.
+    pub fn sound(self) -> bool
+        ensures { λ r. ⌜ r ≡ sound (paperInfo self) ⌝ }
+    {
+        if self.erase_size == 0 {
+            return false;
+        }
+        if self.capacity == 0 {
+            return false;
+        }
+        4 <= self.max_payload
+    }
+
+    // The capacity rounded up to the erase size is above 2^32 - 1.
+    pub fn spans_too_far(self) -> bool
+        ensures { λ r. ⌜ r ≡ spansTooFar (paperInfo self) ⌝ }
+    {
+        let e = self.erase_size as u64;
+        let c = self.capacity as u64;
+        if e == 0 {
+            return false;
+        }
+        0xFFFF_FFFF < (c + (e - 1)) / e * e
+    }
+
+    // An image of n bytes exceeds the capacity.
+    pub fn too_large(self, n: usize) -> bool
+        ensures { λ r. ⌜ r ≡ tooLarge (paperInfo self) n ⌝ }
+    {
+        (self.capacity as usize) < n
+    }
+
+    // The device's key is set, and the image's is missing or different.
+    pub fn incompatible(self, image: &[u8]) -> bool
+        ensures { λ r. ⌜ r ≡ incompatible (paperInfo self) (now (image .entry)) ⌝ }
+    {
+        if self.compat == 0xFFFF_FFFF {
+            return false;
+        }
+        let k = image_compat(image);
+        match k {
+            Compat::Missing => true,
+            Compat::Key(x) => x != self.compat,
+        }
+    }
+
+    // How many bytes a Write carries at most.
+    pub fn chunk(self) -> usize
+        ensures { λ r. ⌜ r ≡ chunk (self .«max_payload») ⌝ }
+    {
+        let m = self.max_payload as usize;
+        if m <= 1024 { m / 4 * 4 } else { 1024 }
+    }
+
+    // The address that follows in the row 0, e, 2e .. below the capacity.
+    pub fn erase_after(self, address: u32) -> Erase
+        ensures { λ r. ⌜ r ≡ eraseAfter (paperInfo self) address ⌝ }
+    {
+        let next = address as u64 + self.erase_size as u64;
+        if self.erase_size == 0 {
+            return Erase::Done;
+        }
+        if next < self.capacity as u64 {
+            return Erase::At(next as u32);
+        }
+        Erase::Done
+    }
+}

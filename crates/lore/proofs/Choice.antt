@@ -1,0 +1,23 @@
+-- A choice by a test, from the fact that a branch of the code has: `search (ways, needs)`.
+-- Assumes nothing.
+use mathlib.Core.Bool.{Bool, true, false, cond, _&&_, _||_, not}
+use mathlib.Core.Path.{_≡_, refl}
+use borrow.Author.Tests.{lt-ltb, le-ltb, le-leb, lt-leb, eq-eqb, ne-eqb}
+
+pub cond-yes : {A : Type 0} (b : Bool) (x y r : A) → b ≡ true → r ≡ x → r ≡ cond b x y
+cond-yes b x y r h e = rw h e
+
+pub cond-no : {A : Type 0} (b : Bool) (x y r : A) → b ≡ false → r ≡ y → r ≡ cond b x y
+cond-no b x y r h e = rw h e
+
+pub and-yes : (a b : Bool) → a ≡ true → b ≡ true → (a && b) ≡ true
+and-yes a b h k = rw (h, k)
+
+pub and-not-left : (a b : Bool) → a ≡ false → (a && b) ≡ false
+and-not-left a b h = rw h
+
+pub and-not-right : (a b : Bool) → b ≡ false → (a && b) ≡ false
+and-not-right true b h = h
+and-not-right false b h = refl
+
+pub ruleset ways = (cond-yes, cond-no, and-yes, and-not-left, and-not-right, lt-ltb, le-ltb, le-leb, lt-leb, eq-eqb, ne-eqb)

@@ -1,0 +1,4 @@
+pub mod Choice
+pub mod Words
+pub mod Copy
+pub mod Parts

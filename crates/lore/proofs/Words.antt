@@ -1,0 +1,53 @@
+-- Byte order, once over the width: a number written is read back, bytes read are written back, and a field byte by byte.
+-- Assumes nothing.
+use Prim.Native.Nat.{ℕ, zero, suc, _+_, _*_, _/_, _%_, _^_, _<_, _≤_}
+use mathlib.Core.List.{List, [], _∷_, _++_}
+use mathlib.Core.Path.{_≡_, refl, sym, _∙_, ap, ap₂}
+use native.Mathlib.Omega.{arith}
+use native.Mathlib.Nat.{pow-suc}
+use native.Mathlib.Numerals.{add-one}
+use lib.ListN.{length, getD, take, drop, drop-of-length-le, List·getD-eq-default}
+use lib.Seq.{drop-cons, take-nil}
+use native.Mathlib.Decide.{decLt}
+use Rattle.paper.specs.Frame.{le, number, field}
+
+pub le-length : (k x : ℕ) → length (le k x) ≡ k
+unfolding le
+le-length zero x = refl
+le-length (suc k) x = ap suc (le-length k (x / 256))
+
+pub number-le : (k x : ℕ) → x < 256 ^ k → number (le k x) ≡ x
+unfolding le number
+number-le zero x h = omega arith
+number-le (suc k) x h = omega (arith, number-le k (x / 256) (omega (arith, rw (pow-suc 256 k) at h)))
+
+-- Each is a byte.
+abbrev pub Bytes : List ℕ → Type 0
+Bytes [] = Unit {0}
+Bytes (b ∷ bs) = (b < 256) × Bytes bs
+
+pub le-number : (bs : List ℕ) → Bytes bs → le (length bs) (number bs) ≡ bs
+unfolding le number
+le-number [] h = refl
+le-number (b ∷ bs) h = ap₂ _∷_ (low b (number bs) (h .0)) (ap (le (length bs)) (high b (number bs) (h .0)) ∙ le-number bs (h .1))
+  where
+    low : (b n : ℕ) → b < 256 → (b + 256 * n) % 256 ≡ b
+    low b n h = omega arith
+
+    high : (b n : ℕ) → b < 256 → (b + 256 * n) / 256 ≡ n
+    high b n h = omega arith
+
+-- A field is its first byte and the field after it.
+pub field-suc : (at k : ℕ) (s : List ℕ) → field at (suc k) s ≡ getD s at 0 + 256 * field (at + 1) k s
+unfolding number
+field-suc at k s = go (decLt at (length s))
+  where
+    go : Dec (at < length s) → field at (suc k) s ≡ getD s at 0 + 256 * field (at + 1) k s
+    go (yes h) = rw (drop-cons s at 0 h, add-one at)
+    go (no h) =
+        let past : length s ≤ at = omega arith in
+        rw (drop-of-length-le s {i = at} past, drop-of-length-le s {i = at + 1} (omega arith), List·getD-eq-default s 0 {n = at} past, take-nil k) (omega arith)
+
+pub field-none : (at : ℕ) (s : List ℕ) → field at 0 s ≡ 0
+unfolding number
+field-none at s = refl

@@ -1,0 +1,4 @@
+pub mod Frame
+pub mod Hearing
+pub mod Answers
+pub mod Text

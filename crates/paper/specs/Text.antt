@@ -1,0 +1,47 @@
+-- Document 01, "Refusal numbers", hex text: an id written as text, and text read as an id.
+-- Assumes nothing.
+use Prim.Native.Nat.{ℕ, _+_, _-_, _*_, _/_, _%_}
+use mathlib.Core.Bool.{Bool, true, false, _&&_, cond}
+use mathlib.Core.List.{List, [], _∷_}
+use mathlib.Core.Option.{Option, none, some}
+use lib.Dec.{leb, ltb}
+use lib.ListN.{length}
+use Rattle.paper.specs.Hearing.{Id, longest, onSome}
+
+-- "either letter case read, lower case written": 0 is 48, A is 65, a is 97.
+unfoldable pub hexDigit : ℕ → ℕ
+hexDigit v = cond (ltb v 10) (48 + v) (87 + v)
+
+-- The value of a digit; 16 for any other character.
+unfoldable pub digit : ℕ → ℕ
+digit c =
+    cond (leb 48 c && leb c 57) (c - 48)
+    (cond (leb 65 c && leb c 70) (c - 55)
+    (cond (leb 97 c && leb c 102) (c - 87) 16))
+
+-- Two digits a byte, the higher one first.
+unfoldable pub hexText : List ℕ → List ℕ
+hexText [] = []
+hexText (b ∷ bs) = hexDigit (b / 16) ∷ hexDigit (b % 16) ∷ hexText bs
+
+-- "even length .. else 22": none where a digit is bad or one is left over.
+unfoldable pub unhex : List ℕ → Option (List ℕ)
+unhex [] = some []
+unhex (h ∷ []) = none
+unhex (h ∷ l ∷ text) =
+    cond (ltb (digit h) 16 && ltb (digit l) 16) (onSome (unhex text) none (λ bytes. some ((digit h * 16 + digit l) ∷ bytes))) none
+
+-- "at most 32 digits".
+unfoldable pub parseUid : List ℕ → Option Id
+parseUid text = cond (leb (length text) (2 * longest)) (unhex text) none
+
+-- "Writing an id's text gives 13, then 16, with nothing written": the number and what it carries, or the text.
+pub data Written : Type 0 where
+  wrote : List ℕ → Written
+  refuses13 : Written
+  refuses16 : ℕ → Written
+
+unfoldable pub uidHex : Id → ℕ → Written
+uidHex id room =
+    cond (ltb longest (length id)) refuses13
+    (cond (ltb room (length (hexText id))) (refuses16 (length (hexText id))) (wrote (hexText id)))

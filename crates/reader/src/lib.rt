@@ -1,0 +1,105 @@
+// The bench frame's reader: the frame that begins at the next A5 from a place of a record on.
+ghost use mathlib.Core.Path.{_≡_};
+ghost use Prim.Native.Nat.{_+_, _≤_, _^_};
+ghost use lib.ListN.{length, drop};
+ghost use Rattle.paper.specs.Frame.{skipped, rightCheck, readSized, readSynced, read};
+ghost use Rattle.reader.specs.Shown.{fieldsAt, shownFrom};
+
+// A frame's fields, and where in the record its payload begins and where it ends.
+pub struct Frame {
+    pub command: u8,
+    pub status: u8,
+    pub flags: u8,
+    pub address: u32,
+    pub payload: usize,
+    pub len: usize,
+    pub end: usize,
+}
+
+pub enum Reading {
+    Short,
+    TooLong,
+    BadCheck(Frame),
+    Whole(Frame),
+}
+
+// How many bytes stand before the first A5.
+fn skipped(s: &[u8]) -> usize
+    ensures { λ r. ⌜ r ≡ skipped (now (s .entry)) ⌝ }
+    ensures { λ r. ⌜ r ≤ length (now (s .entry)) ⌝ }
+{
+    let mut i = 0;
+    while i < s.len() {
+        if s[i] == 0xA5 {
+            return i;
+        }
+        i += 1;
+    }
+    i
+}
+
+// s begins with the A5 of a frame with n bytes of payload; base is where s begins in the record.
+fn fields(s: &[u8], base: usize, n: usize) -> Frame
+    requires { ⌜ 12 + n ≤ length (now s) ⌝ }
+    requires { ⌜ base + length (now s) ≤ 2 ^ 64 ⌝ }
+    ensures { λ r. ⌜ r ≡ fieldsAt base n (now (s .entry)) ⌝ }
+{
+    Frame {
+        command: s[1],
+        status: s[2],
+        flags: s[3],
+        address: wire::get32(s, 4),
+        payload: base + 10,
+        len: n,
+        end: base + (12 + n),
+    }
+}
+
+fn right_check(s: &[u8], n: usize) -> bool
+    requires { ⌜ 12 + n ≤ length (now s) ⌝ }
+    ensures { λ r. ⌜ r ≡ rightCheck n (now (s .entry)) ⌝ }
+{
+    let e = 10 + n;
+    let c = crc::crc16(0xFFFF, &s[..e]);
+    c == wire::get16(s, e)
+}
+
+fn read_sized(s: &[u8], base: usize, n: usize) -> Reading
+    requires { ⌜ base + length (now s) ≤ 2 ^ 64 ⌝ }
+    ensures { λ r. ⌜ r ≡ shownFrom base (readSized 0 n (now (s .entry))) ⌝ }
+{
+    if 1024 < n {
+        return Reading::TooLong;
+    }
+    if s.len() < 12 + n {
+        return Reading::Short;
+    }
+    let f = fields(s, base, n);
+    if right_check(s, n) {
+        Reading::Whole(f)
+    } else {
+        Reading::BadCheck(f)
+    }
+}
+
+fn read_synced(s: &[u8], base: usize) -> Reading
+    requires { ⌜ base + length (now s) ≤ 2 ^ 64 ⌝ }
+    ensures { λ r. ⌜ r ≡ shownFrom base (readSynced 0 (now (s .entry))) ⌝ }
+{
+    if s.len() < 10 {
+        return Reading::Short;
+    }
+    let n = wire::get16(s, 8) as usize;
+    read_sized(s, base, n)
+}
+
+// The frame from a place of the record on; short if the place is past the end.
+pub fn read(bytes: &[u8], at: usize) -> Reading
+    ensures { λ r. ⌜ r ≡ shownFrom at (read (drop at (now (bytes .entry)))) ⌝ }
+{
+    if bytes.len() < at {
+        return Reading::Short;
+    }
+    let from = at + skipped(&bytes[at..]);
+    read_synced(&bytes[from..], from)
+}

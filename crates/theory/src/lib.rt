@@ -1,0 +1,1 @@
+// What follows from document 01's definitions. No code.

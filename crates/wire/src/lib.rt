@@ -1,0 +1,86 @@
+// Little-endian numbers in slices, bytes copied and filled, and the answer of every writer into a lent buffer.
+ghost use mathlib.Core.Path.{_≡_};
+ghost use mathlib.Core.List.{_++_};
+ghost use Prim.Native.Nat.{_+_, _≤_};
+ghost use lib.ListN.{length, take, drop, replicate};
+ghost use Rattle.paper.specs.Frame.{le, field};
+
+// What a writer answers: the bytes written at the buffer's front; the length that the buffer lacks; that no buffer would do.
+pub enum Written {
+    Done(usize),
+    Short(usize),
+    TooLong,
+}
+
+pub fn wide16(x: u8) -> u16
+    ensures { λ r. ⌜ r ≡ x ⌝ }
+{
+    x as u16
+}
+
+pub fn wide32(x: u8) -> u32
+    ensures { λ r. ⌜ r ≡ x ⌝ }
+{
+    x as u32
+}
+
+pub fn get16(s: &[u8], at: usize) -> u16
+    requires { ⌜ at + 2 ≤ length (now s) ⌝ }
+    ensures { λ r. ⌜ r ≡ field at 2 (now (s .entry)) ⌝ }
+{
+    wide16(s[at]) + 0x100 * wide16(s[at + 1])
+}
+
+pub fn get32(s: &[u8], at: usize) -> u32
+    requires { ⌜ at + 4 ≤ length (now s) ⌝ }
+    ensures { λ r. ⌜ r ≡ field at 4 (now (s .entry)) ⌝ }
+{
+    let low = wide32(s[at]) + 0x100 * wide32(s[at + 1]);
+    let high = wide32(s[at + 2]) + 0x100 * wide32(s[at + 3]);
+    low + 0x1_0000 * high
+}
+
+pub fn put16(buf: &mut [u8], at: usize, x: u16)
+    requires { ⌜ at + 2 ≤ length (now buf) ⌝ }
+    ensures { λ _. ⌜ now (buf .exit) ≡ take at (now (buf .entry)) ++ le 2 x ++ drop (at + 2) (now (buf .entry)) ⌝ }
+{
+    buf[at] = (x % 0x100) as u8;
+    buf[at + 1] = (x / 0x100 % 0x100) as u8;
+}
+
+pub fn put32(buf: &mut [u8], at: usize, x: u32)
+    requires { ⌜ at + 4 ≤ length (now buf) ⌝ }
+    ensures { λ _. ⌜ now (buf .exit) ≡ take at (now (buf .entry)) ++ le 4 x ++ drop (at + 4) (now (buf .entry)) ⌝ }
+{
+    let x1 = x / 0x100;
+    let x2 = x1 / 0x100;
+    let x3 = x2 / 0x100;
+    buf[at] = (x % 0x100) as u8;
+    buf[at + 1] = (x1 % 0x100) as u8;
+    buf[at + 2] = (x2 % 0x100) as u8;
+    buf[at + 3] = (x3 % 0x100) as u8;
+}
+
+// src at the front of dst.
+pub fn copy(dst: &mut [u8], src: &[u8])
+    requires { ⌜ length (now src) ≤ length (now dst) ⌝ }
+    ensures { λ _. ⌜ now (dst .exit) ≡ now (src .entry) ++ drop (length (now (src .entry))) (now (dst .entry)) ⌝ }
+{
+    let mut i = 0;
+    while i < src.len() {
+        dst[i] = src[i];
+        i += 1;
+    }
+}
+
+// n bytes v at the front of dst.
+pub fn fill(dst: &mut [u8], n: usize, v: u8)
+    requires { ⌜ n ≤ length (now dst) ⌝ }
+    ensures { λ _. ⌜ now (dst .exit) ≡ replicate n v ++ drop n (now (dst .entry)) ⌝ }
+{
+    let mut i = 0;
+    while i < n {
+        dst[i] = v;
+        i += 1;
+    }
+}
