@@ -51,3 +51,20 @@ field-suc at k s = go (decLt at (length s))
 pub field-none : (at : ℕ) (s : List ℕ) → field at 0 s ≡ 0
 unfolding number
 field-none at s = refl
+
+-- The same for the widths in use, from the bytes that the code reads.
+pub field-2 : (s : List ℕ) (at a b : ℕ) → a ≡ getD s at 0 → b ≡ getD s (at + 1) 0 → a + 256 * b ≡ field at 2 s
+field-2 s at a b ea eb = rw (field-suc at 1 s, field-suc (at + 1) 0 s, field-none (at + 1 + 1) s, ← ea, ← eb) (omega arith)
+
+pub field-4 : (s : List ℕ) (at a b c d : ℕ) → a ≡ getD s at 0 → b ≡ getD s (at + 1) 0 → c ≡ getD s (at + 2) 0 → d ≡ getD s (at + 3) 0
+    → a + 256 * b + 65536 * (c + 256 * d) ≡ field at 4 s
+field-4 s at a b c d ea eb ec ed =
+    let low : a + 256 * b ≡ field at 2 s = field-2 s at a b ea eb in
+    let high : c + 256 * d ≡ field (at + 2) 2 s = field-2 s (at + 2) c d ec (ed ∙ ap (λ (i : ℕ). getD s i 0) (plus at)) in
+    rw (field-suc at 3 s, field-suc (at + 1) 2 s, ← ea, ← eb, one at, ← high) (omega arith)
+  where
+    plus : (at : ℕ) → at + 3 ≡ at + 2 + 1
+    plus at = omega arith
+
+    one : (at : ℕ) → at + 1 + 1 ≡ at + 2
+    one at = omega arith

@@ -1,7 +1,7 @@
 // Little-endian numbers in slices, bytes copied and filled, and the answer of every writer into a lent buffer.
 ghost use mathlib.Core.Path.{_≡_};
 ghost use mathlib.Core.List.{_++_};
-ghost use Prim.Native.Nat.{_+_, _≤_};
+ghost use Prim.Native.Nat.{_+_, _≤_, _<_};
 ghost use lib.ListN.{length, take, drop, replicate};
 ghost use Rattle.paper.specs.Frame.{le, field};
 
@@ -14,12 +14,14 @@ pub enum Written {
 
 pub fn wide16(x: u8) -> u16
     ensures { λ r. ⌜ r ≡ x ⌝ }
+    ensures { λ r. ⌜ r < 256 ⌝ }
 {
     x as u16
 }
 
 pub fn wide32(x: u8) -> u32
     ensures { λ r. ⌜ r ≡ x ⌝ }
+    ensures { λ r. ⌜ r < 256 ⌝ }
 {
     x as u32
 }

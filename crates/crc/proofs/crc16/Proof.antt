@@ -1,0 +1,53 @@
+use Rattle.crc.proofs.crc16.Statement.{statement}
+use Rattle.crc.proofs.crc16.Tie as tie
+use Rattle.crc.proofs.crc16.Reads as reads
+use Rattle.crc.proofs.crc16.Lts as lts
+use Rattle.crc.proofs.crc_byte.Reads as crc-byte-reads
+
+abbrev Inv-loop : tie.InvT-loop
+Inv-loop start bytes c₀ i₀ c i = ?
+
+abbrev μ-loop : tie.MeasureT-loop
+μ-loop start bytes c₀ i₀ c i = ?
+
+-- src/lib.rt:32:5
+loop-holds : tie.Need-loop-holds Inv-loop μ-loop
+loop-holds c = ?
+
+-- src/lib.rt:33:25
+shared-slice-read-crc-byte : tie.Need-shared-slice-read-crc-byte Inv-loop μ-loop
+shared-slice-read-crc-byte c = ?
+
+-- src/lib.rt:33:9
+crc-byte-requires : tie.Need-crc-byte-requires Inv-loop μ-loop
+crc-byte-requires c κs = ?
+
+-- src/lib.rt:34:9
+add-i : tie.Need-add-i Inv-loop μ-loop
+add-i c = ?
+
+-- src/lib.rt:32:5
+loop-less : tie.Need-loop-less Inv-loop μ-loop
+loop-less c = ?
+
+-- src/lib.rt:32:5
+loop-again : tie.Need-loop-again Inv-loop μ-loop
+loop-again c = ?
+
+-- src/lib.rt:27:1
+returns : tie.Need-returns Inv-loop μ-loop
+returns c = ?
+
+pub crc16-spec : {M : Type 1} → statement M
+crc16-spec =
+    tie.close
+    (tie.spec
+    Inv-loop
+    μ-loop
+    loop-holds
+    shared-slice-read-crc-byte
+    crc-byte-requires
+    add-i
+    loop-less
+    loop-again
+    returns)
