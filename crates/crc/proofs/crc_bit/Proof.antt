@@ -1,3 +1,4 @@
+use Rattle.crc.proofs.Steps.{branchless}
 use borrow.Author.Needs.{needs}
 use Rattle.crc.proofs.crc_bit.Statement.{statement}
 use Rattle.crc.proofs.crc_bit.Tie as tie
@@ -10,7 +11,7 @@ mul-result c = search needs
 
 -- src/lib.rt:6:1
 returns : tie.Need-returns
-returns c = ?
+returns c = branchless (c .args .c) (search needs)
 
 pub crc-bit-spec : {M : Type 1} → statement M
 crc-bit-spec = tie.close (tie.spec mul-result returns)

@@ -1,3 +1,4 @@
+use Rattle.crc.proofs.Steps.{eight}
 use borrow.Author.Needs.{needs}
 use Rattle.crc.proofs.crc_byte.Statement.{statement}
 use Rattle.crc.proofs.crc_byte.Tie as tie
@@ -39,7 +40,7 @@ crc-bit-requires-8 c κs = search needs
 
 -- src/lib.rt:12:1
 returns : tie.Need-returns
-returns c = ?
+returns c = search (eight, needs)
 
 pub crc-byte-spec : {M : Type 1} → statement M
 crc-byte-spec =
