@@ -7,7 +7,7 @@ ghost use Prim.Native.Nat.{_+_, _≤_};
 ghost use lib.ListN.{length, take, drop};
 ghost use Rattle.paper.specs.Hearing.{hear};
 ghost use Rattle.paper.specs.Answers.{answer, rest};
-ghost use Rattle.hearing.specs.Heard.{Within, heardAs, noted, oneHeard, concluded, shownHeard, shownAnswer};
+ghost use Rattle.hearing.specs.Heard.{Within, heardAs, noted, oneHeard, concluded, shownHeard, repliedBy, shownAnswer};
 
 // What one Select heard. An id over 16 bytes is TooLong.
 pub enum Heard {

@@ -1,0 +1,65 @@
+-- What a record says, as the code's values.
+-- Assumes nothing.
+use Prim.Native.Nat.{ℕ, _+_, _-_, _≤_}
+use mathlib.Core.Bool.{Bool, true, false, cond}
+use mathlib.Core.List.{List}
+use lib.Dec.{ltb, eqb}
+use lib.ListN.{length, take, drop}
+use Rattle.paper.specs.Hearing as Paper
+use Rattle.paper.specs.Hearing.{longest, nothing, one, unaddressed, garble}
+use Rattle.paper.specs.Answers as Paper₂
+use Rattle.paper.specs.Answers.{lost, answered, ok, device}
+use Rattle.ids.specs.Ids.{noId, idFrom}
+use Rattle.reader.specs.declared.Frame.{Frame}
+use Rattle.hearing.specs.declared.Heard.{Heard}
+use Rattle.hearing.specs.declared.Heard.the-variants as Heard
+use Rattle.hearing.specs.declared.Heard.the-variants.{Nothing, TooLong, Unaddressed, Garble}
+use Rattle.hearing.specs.declared.Hearing.{Hearing}
+use Rattle.hearing.specs.declared.Replies.{Replies}
+use Rattle.hearing.specs.declared.Replies.the-variants as Replies
+use Rattle.hearing.specs.declared.Replies.the-variants.{None, Several}
+use Rattle.hearing.specs.declared.Answer.{Answer}
+use Rattle.hearing.specs.declared.Answer.the-variants.{Lost, Device, Ok}
+
+abbrev pub onReplies {ℓ} : {A : Type ℓ} → Replies → A → (Frame → A) → A → A
+onReplies None none one several = none
+onReplies (Replies.One f) none one several = one f
+onReplies Several none one several = several
+
+-- The reply's payload lies in the record.
+abbrev pub Within : List ℕ → Replies → Type 0
+Within bytes r = onReplies r (Unit {0}) (λ f. f .payload + f .len ≤ length bytes) (Unit {0})
+
+-- Heard, with no id.
+abbrev pub heardAs : Heard → Hearing
+heardAs h = record { heard = h; id = noId }
+
+unfoldable pub noted : Replies → Frame → Replies
+noted r f = cond (eqb (f .status) 0) r (onReplies r (Replies.One f) (λ g. Several) Several)
+
+-- An id of over 16 bytes is too long.
+unfoldable pub oneHeard : List ℕ → Hearing
+oneHeard id = cond (ltb longest (length id)) (heardAs TooLong) (record { heard = Heard.One; id = idFrom id })
+
+unfoldable pub concluded : List ℕ → Replies → Hearing
+concluded bytes r =
+    onReplies r (heardAs Nothing)
+    (λ f.
+    cond (eqb (f .status) 1) (oneHeard (take (f .len) (drop (f .payload) bytes)))
+    (cond (eqb (f .status) 2) (heardAs Unaddressed) (heardAs Garble)))
+    (heardAs Garble)
+
+abbrev pub shownHeard : Paper.Heard → Hearing
+shownHeard nothing = heardAs Nothing
+shownHeard (one id) = oneHeard id
+shownHeard unaddressed = heardAs Unaddressed
+shownHeard garble = heardAs Garble
+
+unfoldable pub repliedBy : Frame → Answer
+repliedBy f = cond (eqb (f .status) 1) (Ok (f .payload) (f .len) (f .end)) (Device (f .status) (f .end))
+
+-- The payload of the frame that answers stands before its check.
+abbrev pub shownAnswer : Paper₂.Answer → Answer
+shownAnswer lost = Lost
+shownAnswer (answered (ok payload) end) = Ok (end - (2 + length payload)) (length payload) end
+shownAnswer (answered (device status) end) = Device status end
