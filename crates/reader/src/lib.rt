@@ -1,6 +1,6 @@
 // The bench frame's reader: the frame that begins at the next A5 from a place of a record on.
 ghost use mathlib.Core.Path.{_≡_};
-ghost use Prim.Native.Nat.{_+_, _≤_, _^_};
+ghost use Prim.Native.Nat.{_+_, _≤_, _<_, _^_};
 ghost use lib.ListN.{length, drop};
 ghost use Rattle.paper.specs.Frame.{skipped, rightCheck, readSized, readSynced, read};
 ghost use Rattle.reader.specs.Shown.{fieldsAt, shownFrom};
@@ -41,7 +41,7 @@ fn skipped(s: &[u8]) -> usize
 // s begins with the A5 of a frame with n bytes of payload; base is where s begins in the record.
 fn fields(s: &[u8], base: usize, n: usize) -> Frame
     requires { ⌜ 12 + n ≤ length (now s) ⌝ }
-    requires { ⌜ base + length (now s) ≤ 2 ^ 64 ⌝ }
+    requires { ⌜ base + length (now s) < 2 ^ 64 ⌝ }
     ensures { λ r. ⌜ r ≡ fieldsAt base n (now (s .entry)) ⌝ }
 {
     Frame {
@@ -65,7 +65,7 @@ fn right_check(s: &[u8], n: usize) -> bool
 }
 
 fn read_sized(s: &[u8], base: usize, n: usize) -> Reading
-    requires { ⌜ base + length (now s) ≤ 2 ^ 64 ⌝ }
+    requires { ⌜ base + length (now s) < 2 ^ 64 ⌝ }
     ensures { λ r. ⌜ r ≡ shownFrom base (readSized 0 n (now (s .entry))) ⌝ }
 {
     if 1024 < n {
@@ -83,7 +83,7 @@ fn read_sized(s: &[u8], base: usize, n: usize) -> Reading
 }
 
 fn read_synced(s: &[u8], base: usize) -> Reading
-    requires { ⌜ base + length (now s) ≤ 2 ^ 64 ⌝ }
+    requires { ⌜ base + length (now s) < 2 ^ 64 ⌝ }
     ensures { λ r. ⌜ r ≡ shownFrom base (readSynced 0 (now (s .entry))) ⌝ }
 {
     if s.len() < 10 {
