@@ -2,7 +2,7 @@
 -- Assumes nothing.
 use Prim.Native.Nat.{ℕ}
 use mathlib.Core.Bool.{cond}
-use mathlib.Core.List.{List, _∷_, _++_}
+use mathlib.Core.List.{List, [], _∷_, _++_}
 use lib.Dec.{ltb}
 use lib.ListN.{length, drop}
 use Rattle.paper.specs.Frame.{le, Frame, most, frameBytes}
@@ -14,8 +14,11 @@ abbrev pub frameOf : Head → List ℕ → Frame
 frameOf h payload = record { command = h .command; status = h .status; flags = h .flags; address = h .address; payload = payload }
 
 -- The bytes before a payload of n bytes.
+abbrev pub tagOf : Head → List ℕ
+tagOf h = 0xA5 ∷ h .command ∷ h .status ∷ h .flags ∷ []
+
 unfoldable pub headOf : Head → ℕ → List ℕ
-headOf h n = 0xA5 ∷ h .command ∷ h .status ∷ h .flags ∷ le 4 (h .address) ++ le 2 n
+headOf h n = tagOf h ++ le 4 (h .address) ++ le 2 n
 
 -- A writer's answer, and the buffer after it.
 pub record Outcome : Type 0 where

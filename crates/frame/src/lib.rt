@@ -5,7 +5,7 @@ ghost use mathlib.Core.List.{_++_};
 ghost use Prim.Native.Nat.{_+_, _≤_};
 ghost use lib.ListN.{length, take, drop, replicate};
 ghost use Rattle.paper.specs.Frame.{le, check, frameHead, frameBytes};
-ghost use Rattle.frame.specs.Writing.{frameOf, headOf, written};
+ghost use Rattle.frame.specs.Writing.{frameOf, tagOf, headOf, written};
 
 pub struct Head {
     pub command: u8,
@@ -14,15 +14,23 @@ pub struct Head {
     pub address: u32,
 }
 
-// The first ten bytes of a frame with n bytes of payload.
-pub fn put_head(buf: &mut [u8], head: Head, n: u16)
-    requires { ⌜ 10 ≤ length (now buf) ⌝ }
-    ensures { λ _. ⌜ now (buf .exit) ≡ headOf head n ++ drop 10 (now (buf .entry)) ⌝ }
+// A5, command, status and flags.
+fn put_tag(buf: &mut [u8], head: Head)
+    requires { ⌜ 4 ≤ length (now buf) ⌝ }
+    ensures { λ _. ⌜ now (buf .exit) ≡ tagOf head ++ drop 4 (now (buf .entry)) ⌝ }
 {
     buf[0] = 0xA5;
     buf[1] = head.command;
     buf[2] = head.status;
     buf[3] = head.flags;
+}
+
+// The first ten bytes of a frame with n bytes of payload.
+pub fn put_head(buf: &mut [u8], head: Head, n: u16)
+    requires { ⌜ 10 ≤ length (now buf) ⌝ }
+    ensures { λ _. ⌜ now (buf .exit) ≡ headOf head n ++ drop 10 (now (buf .entry)) ⌝ }
+{
+    put_tag(buf, head);
     wire::put32(buf, 4, head.address);
     wire::put16(buf, 8, n);
 }

@@ -52,7 +52,7 @@ fn fields(payload: &[u8]) -> Info
 }
 
 // The information of an Info response: 5 for a short payload and for one that breaks the Info rule.
-pub fn info(payload: &[u8]) -> Informed
+pub fn device_info(payload: &[u8]) -> Informed
     ensures { λ r. ⌜ r ≡ shownInfo (informed (now (payload .entry))) ⌝ }
 {
     if payload.len() < 18 {

@@ -101,7 +101,7 @@ abbrev pub size : Frame → ℕ
 size f = 12 + length (f .payload)
 
 unfoldable pub frameHead : Frame → List ℕ
-frameHead f = 0xA5 ∷ f .command ∷ f .status ∷ f .flags ∷ le 4 (f .address) ++ le 2 (length (f .payload))
+frameHead f = (0xA5 ∷ f .command ∷ f .status ∷ f .flags ∷ []) ++ le 4 (f .address) ++ le 2 (length (f .payload))
 
 unfoldable pub frameBody : Frame → List ℕ
 frameBody f = frameHead f ++ f .payload

@@ -2,43 +2,31 @@ use Rattle.crc.proofs.Steps.{eight}
 use borrow.Author.Needs.{needs}
 use Rattle.crc.proofs.crc_byte.Statement.{statement}
 use Rattle.crc.proofs.crc_byte.Tie as tie
-use Rattle.crc.proofs.crc_byte.Reads as reads
-use Rattle.crc.proofs.crc_byte.Lts as lts
-use Rattle.crc.proofs.crc_bit.Reads as crc-bit-reads
 
--- src/lib.rt:16:5
 crc-bit-requires : tie.Need-crc-bit-requires
 crc-bit-requires c κs = search needs
 
--- src/lib.rt:17:5
 crc-bit-requires-2 : tie.Need-crc-bit-requires-2
 crc-bit-requires-2 c κs = search needs
 
--- src/lib.rt:18:5
 crc-bit-requires-3 : tie.Need-crc-bit-requires-3
 crc-bit-requires-3 c κs = search needs
 
--- src/lib.rt:19:5
 crc-bit-requires-4 : tie.Need-crc-bit-requires-4
 crc-bit-requires-4 c κs = search needs
 
--- src/lib.rt:20:5
 crc-bit-requires-5 : tie.Need-crc-bit-requires-5
 crc-bit-requires-5 c κs = search needs
 
--- src/lib.rt:21:5
 crc-bit-requires-6 : tie.Need-crc-bit-requires-6
 crc-bit-requires-6 c κs = search needs
 
--- src/lib.rt:22:5
 crc-bit-requires-7 : tie.Need-crc-bit-requires-7
 crc-bit-requires-7 c κs = search needs
 
--- src/lib.rt:23:5
 crc-bit-requires-8 : tie.Need-crc-bit-requires-8
 crc-bit-requires-8 c κs = search needs
 
--- src/lib.rt:12:1
 returns : tie.Need-returns
 returns c = search (eight, needs)
 

@@ -6,8 +6,6 @@ use Prim.Native.Nat.{_≤_, _-_}
 use Rattle.lore.proofs.Copy.{copy-more, copy-done}
 use Rattle.wire.proofs.copy.Statement.{statement}
 use Rattle.wire.proofs.copy.Tie as tie
-use Rattle.wire.proofs.copy.Reads as reads
-use Rattle.wire.proofs.copy.Lts as lts
 
 abbrev Inv-loop : tie.InvT-loop
 Inv-loop dst₀ src i₀ dst i = (i ≤ length src) × (length dst ≡ length dst₀) × (dst ≡ take i src ++ drop i dst₀)
@@ -15,35 +13,27 @@ Inv-loop dst₀ src i₀ dst i = (i ≤ length src) × (length dst ≡ length ds
 abbrev μ-loop : tie.MeasureT-loop
 μ-loop dst₀ src i₀ dst i = length src - i
 
--- src/lib.rt:70:5
 loop-holds : tie.Need-loop-holds Inv-loop μ-loop
 loop-holds c = search needs
 
--- src/lib.rt:71:18
 shared-slice-read-dst : tie.Need-shared-slice-read-dst Inv-loop μ-loop
 shared-slice-read-dst c = search needs
 
--- src/lib.rt:71:9
 slice-write-dst : tie.Need-slice-write-dst Inv-loop μ-loop
 slice-write-dst c = search needs
 
--- src/lib.rt:72:9
 add-i : tie.Need-add-i Inv-loop μ-loop
 add-i c = search needs
 
--- src/lib.rt:70:5
 loop-less : tie.Need-loop-less Inv-loop μ-loop
 loop-less c = search needs
 
--- src/lib.rt:70:5
 loop-again : tie.Need-loop-again Inv-loop μ-loop
 loop-again c = (search needs, search needs, search (copy-more, needs))
 
--- src/lib.rt:65:1
 same-length : tie.Need-same-length Inv-loop μ-loop
 same-length c = search needs
 
--- src/lib.rt:65:1
 returns : tie.Need-returns Inv-loop μ-loop
 returns c = search (copy-done, needs)
 

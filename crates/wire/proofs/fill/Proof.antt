@@ -6,8 +6,6 @@ use Prim.Native.Nat.{_≤_, _-_}
 use Rattle.lore.proofs.Copy.{fill-more, fill-done}
 use Rattle.wire.proofs.fill.Statement.{statement}
 use Rattle.wire.proofs.fill.Tie as tie
-use Rattle.wire.proofs.fill.Reads as reads
-use Rattle.wire.proofs.fill.Lts as lts
 
 abbrev Inv-loop : tie.InvT-loop
 Inv-loop dst₀ n v i₀ dst i = (i ≤ n) × (length dst ≡ length dst₀) × (dst ≡ take i (replicate n v) ++ drop i dst₀)
@@ -15,31 +13,24 @@ Inv-loop dst₀ n v i₀ dst i = (i ≤ n) × (length dst ≡ length dst₀) × 
 abbrev μ-loop : tie.MeasureT-loop
 μ-loop dst₀ n v i₀ dst i = n - i
 
--- src/lib.rt:82:5
 loop-holds : tie.Need-loop-holds Inv-loop μ-loop
 loop-holds c = search needs
 
--- src/lib.rt:83:9
 slice-write-dst : tie.Need-slice-write-dst Inv-loop μ-loop
 slice-write-dst c = search needs
 
--- src/lib.rt:84:9
 add-i : tie.Need-add-i Inv-loop μ-loop
 add-i c = search needs
 
--- src/lib.rt:82:5
 loop-less : tie.Need-loop-less Inv-loop μ-loop
 loop-less c = search needs
 
--- src/lib.rt:82:5
 loop-again : tie.Need-loop-again Inv-loop μ-loop
 loop-again c = (search needs, search needs, search (fill-more, needs))
 
--- src/lib.rt:77:1
 same-length : tie.Need-same-length Inv-loop μ-loop
 same-length c = search needs
 
--- src/lib.rt:77:1
 returns : tie.Need-returns Inv-loop μ-loop
 returns c = search (fill-done, needs)
 

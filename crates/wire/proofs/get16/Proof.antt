@@ -2,39 +2,28 @@ use Rattle.lore.proofs.Words.{field-2}
 use borrow.Author.Needs.{needs}
 use Rattle.wire.proofs.get16.Statement.{statement}
 use Rattle.wire.proofs.get16.Tie as tie
-use Rattle.wire.proofs.get16.Reads as reads
-use Rattle.wire.proofs.get16.Lts as lts
-use Rattle.wire.proofs.wide16.Reads as wide16-reads
 
--- src/lib.rt:33:12
 shared-slice-read-wide16 : tie.Need-shared-slice-read-wide16
 shared-slice-read-wide16 c = search needs
 
--- src/lib.rt:33:5
 wide16-requires : tie.Need-wide16-requires
 wide16-requires c κs = search needs
 
--- src/lib.rt:33:38
 add-wide16 : tie.Need-add-wide16
 add-wide16 c = search needs
 
--- src/lib.rt:33:36
 shared-slice-read-wide16-2 : tie.Need-shared-slice-read-wide16-2
 shared-slice-read-wide16-2 c = search needs
 
--- src/lib.rt:33:29
 wide16-requires-2 : tie.Need-wide16-requires-2
 wide16-requires-2 c κs = search needs
 
--- src/lib.rt:33:21
 mul-result : tie.Need-mul-result
 mul-result c = search needs
 
--- src/lib.rt:33:5
 add-result : tie.Need-add-result
 add-result c = search needs
 
--- src/lib.rt:29:1
 returns : tie.Need-returns
 returns c = search (field-2, needs)
 

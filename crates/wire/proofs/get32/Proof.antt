@@ -2,79 +2,58 @@ use Rattle.lore.proofs.Words.{field-4}
 use borrow.Author.Needs.{needs}
 use Rattle.wire.proofs.get32.Statement.{statement}
 use Rattle.wire.proofs.get32.Tie as tie
-use Rattle.wire.proofs.get32.Reads as reads
-use Rattle.wire.proofs.get32.Lts as lts
-use Rattle.wire.proofs.wide32.Reads as wide32-reads
 
--- src/lib.rt:40:22
 shared-slice-read-wide32 : tie.Need-shared-slice-read-wide32
 shared-slice-read-wide32 c = search needs
 
--- src/lib.rt:40:15
 wide32-requires : tie.Need-wide32-requires
 wide32-requires c κs = search needs
 
--- src/lib.rt:40:48
 add-wide32 : tie.Need-add-wide32
 add-wide32 c = search needs
 
--- src/lib.rt:40:46
 shared-slice-read-wide32-2 : tie.Need-shared-slice-read-wide32-2
 shared-slice-read-wide32-2 c = search needs
 
--- src/lib.rt:40:39
 wide32-requires-2 : tie.Need-wide32-requires-2
 wide32-requires-2 c κs = search needs
 
--- src/lib.rt:40:31
 mul-low : tie.Need-mul-low
 mul-low c = search needs
 
--- src/lib.rt:40:15
 add-low : tie.Need-add-low
 add-low c = search needs
 
--- src/lib.rt:41:25
 add-wide32-2 : tie.Need-add-wide32-2
 add-wide32-2 c = search needs
 
--- src/lib.rt:41:23
 shared-slice-read-wide32-3 : tie.Need-shared-slice-read-wide32-3
 shared-slice-read-wide32-3 c = search needs
 
--- src/lib.rt:41:16
 wide32-requires-3 : tie.Need-wide32-requires-3
 wide32-requires-3 c κs = search needs
 
--- src/lib.rt:41:53
 add-wide32-3 : tie.Need-add-wide32-3
 add-wide32-3 c = search needs
 
--- src/lib.rt:41:51
 shared-slice-read-wide32-4 : tie.Need-shared-slice-read-wide32-4
 shared-slice-read-wide32-4 c = search needs
 
--- src/lib.rt:41:44
 wide32-requires-4 : tie.Need-wide32-requires-4
 wide32-requires-4 c κs = search needs
 
--- src/lib.rt:41:36
 mul-high : tie.Need-mul-high
 mul-high c = search needs
 
--- src/lib.rt:41:16
 add-high : tie.Need-add-high
 add-high c = search needs
 
--- src/lib.rt:42:11
 mul-result : tie.Need-mul-result
 mul-result c = search needs
 
--- src/lib.rt:42:5
 add-result : tie.Need-add-result
 add-result c = search needs
 
--- src/lib.rt:36:1
 returns : tie.Need-returns
 returns c = search (field-4, needs)
 

@@ -1,0 +1,12 @@
+use borrow.Author.Needs.{needs}
+use Rattle.image.proofs.padding.Statement.{statement}
+use Rattle.image.proofs.padding.Tie as tie
+
+sub-result : tie.Need-sub-result
+sub-result c = search needs
+
+returns : tie.Need-returns
+returns c = ?
+
+pub padding-spec : {M : Type 1} → statement M
+padding-spec = tie.close (tie.spec sub-result returns)

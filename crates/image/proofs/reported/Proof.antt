@@ -1,0 +1,15 @@
+use borrow.Author.Needs.{needs}
+use Rattle.image.proofs.reported.Statement.{statement}
+use Rattle.image.proofs.reported.Tie as tie
+
+cast-result : tie.Need-cast-result
+cast-result c = search needs
+
+returns : tie.Need-returns
+returns c = ?
+
+returns-2 : tie.Need-returns-2
+returns-2 c = ?
+
+pub reported-spec : {M : Type 1} → statement M
+reported-spec = tie.close (tie.spec cast-result returns returns-2)
