@@ -1,3 +1,4 @@
+use Rattle.image.proofs.Ways.{fields-are}
 use borrow.Author.Needs.{needs}
 use Rattle.image.proofs.fields.Statement.{statement}
 use Rattle.image.proofs.fields.Tie as tie
@@ -27,7 +28,7 @@ get16-requires-4 : tie.Need-get16-requires-4
 get16-requires-4 c κs = search needs
 
 returns : tie.Need-returns
-returns c = ?
+returns c = search (fields-are, needs)
 
 pub fields-spec : {M : Type 1} → statement M
 fields-spec =

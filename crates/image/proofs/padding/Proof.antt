@@ -1,3 +1,5 @@
+use Rattle.paper.specs.Answers.{padding}
+use mathlib.Core.Path.{refl}
 use borrow.Author.Needs.{needs}
 use Rattle.image.proofs.padding.Statement.{statement}
 use Rattle.image.proofs.padding.Tie as tie
@@ -6,7 +8,8 @@ sub-result : tie.Need-sub-result
 sub-result c = search needs
 
 returns : tie.Need-returns
-returns c = ?
+unfolding padding
+returns c = refl
 
 pub padding-spec : {M : Type 1} → statement M
 padding-spec = tie.close (tie.spec sub-result returns)

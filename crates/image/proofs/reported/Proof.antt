@@ -1,3 +1,5 @@
+use Rattle.paper.specs.Answers.{reported}
+use Rattle.lore.proofs.Choice.{ways}
 use borrow.Author.Needs.{needs}
 use Rattle.image.proofs.reported.Statement.{statement}
 use Rattle.image.proofs.reported.Tie as tie
@@ -6,10 +8,12 @@ cast-result : tie.Need-cast-result
 cast-result c = search needs
 
 returns : tie.Need-returns
-returns c = ?
+unfolding reported
+returns c = search (ways, needs)
 
 returns-2 : tie.Need-returns-2
-returns-2 c = ?
+unfolding reported
+returns-2 c = search (ways, needs)
 
 pub reported-spec : {M : Type 1} → statement M
 reported-spec = tie.close (tie.spec cast-result returns returns-2)

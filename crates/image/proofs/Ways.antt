@@ -1,0 +1,137 @@
+-- The ways through the rules on device information and images, from the facts that the code has.
+-- Assumes nothing.
+use Prim.Native.Nat.{ℕ, _+_, _-_, _*_, _/_, _%_, _^_, _<_, _≤_}
+use mathlib.Core.Bool.{Bool, true, false, cond, not, _&&_}
+use mathlib.Core.List.{List, [], _∷_}
+use mathlib.Core.Option.{Option, none, some}
+use mathlib.Core.Path.{_≡_, refl, sym, _∙_, ap}
+use native.Mathlib.Decide.{decLt}
+use native.Mathlib.Nat.{div-mul-le-self}
+use native.Mathlib.Omega.{arith}
+use lib.Dec.{leb, ltb, eqb}
+use lib.ListN.{length, getD}
+use borrow.Author.Tests.{lt-ltb, le-ltb, le-leb, lt-leb, eq-eqb, ne-eqb}
+use Rattle.paper.specs.Frame as Paper
+use Rattle.paper.specs.Frame.{field}
+use Rattle.paper.specs.Answers.{sound, informed, spansTooFar, steps, below, key, sameKey, incompatible, chunk, tooLarge, reported}
+use Rattle.lore.proofs.Rows.{below-nil, below-still, below-cons}
+use Rattle.image.specs.declared.Info.{Info}
+use Rattle.image.specs.declared.Informed.the-variants.{Sound, BadInfo}
+use Rattle.image.specs.declared.Compat.{Compat}
+use Rattle.image.specs.declared.Compat.the-variants.{Key, Missing}
+use Rattle.image.specs.declared.Erase.the-variants.{At, Done}
+use Rattle.image.specs.Images.{paperInfo, infoOf, shownInfo, shownKey, eraseAfter}
+
+module _ (i : Paper.Info) where
+  pub no-size : i .eraseSize ≡ 0 → false ≡ sound i
+  unfolding sound
+  no-size h = rw (le-ltb 0 (i .eraseSize) (omega arith))
+
+  pub no-capacity : (i .eraseSize ≡ 0 → ⊥) → i .capacity ≡ 0 → false ≡ sound i
+  unfolding sound
+  no-capacity h k = rw (lt-ltb 0 (i .eraseSize) (omega arith), le-ltb 0 (i .capacity) (omega arith))
+
+  pub sizes : (r : Bool) → (i .eraseSize ≡ 0 → ⊥) → (i .capacity ≡ 0 → ⊥) → r ≡ leb 4 (i .maxPayload) → r ≡ sound i
+  unfolding sound
+  sizes r h k e = rw (e, lt-ltb 0 (i .eraseSize) (omega arith), lt-ltb 0 (i .capacity) (omega arith))
+
+  pub no-span : i .eraseSize ≡ 0 → false ≡ spansTooFar i
+  unfolding spansTooFar
+  no-span h = sym (le-ltb 0xFFFFFFFF (steps (i .eraseSize) (i .capacity) * i .eraseSize) (rw h (none (steps 0 (i .capacity)))))
+    where
+      none : (n : ℕ) → n * 0 ≤ 0xFFFFFFFF
+      none n = omega arith
+
+  pub span : (r : Bool) → r ≡ ltb 0xFFFFFFFF ((i .capacity + (i .eraseSize - 1)) / i .eraseSize * i .eraseSize) → r ≡ spansTooFar i
+  unfolding spansTooFar steps
+  span r e = e
+
+-- A capacity of 32 bits rounded up to a step of 16 bits fits 64.
+pub rounds : (c e : ℕ) → c < 2 ^ 32 → e < 2 ^ 16 → (c + (e - 1)) / e * e < 2 ^ 64
+rounds c e h k = omega (arith, div-mul-le-self (c + (e - 1)) e)
+
+module _ (i : Paper.Info) (a : ℕ) where
+  pub still : i .eraseSize ≡ 0 → Done ≡ eraseAfter i a
+  unfolding eraseAfter
+  still h = rw (h, below-still (i .capacity) a)
+
+  module _ (h : i .eraseSize ≡ 0 → ⊥) where
+    pub next-erase : (n : ℕ) → n ≡ a + i .eraseSize → n < i .capacity → At n ≡ eraseAfter i a
+    unfolding eraseAfter
+    next-erase n e k = rw (e, below-cons (i .eraseSize) (i .capacity) a (omega arith) (omega arith), below-cons (i .eraseSize) (i .capacity) (a + i .eraseSize) (omega arith) (omega arith))
+
+    pub last-erase : i .capacity ≤ a + i .eraseSize → Done ≡ eraseAfter i a
+    unfolding eraseAfter
+    last-erase k = go (decLt a (i .capacity))
+      where
+        go : Dec (a < i .capacity) → Done ≡ eraseAfter i a
+        go (yes l) = rw (below-cons (i .eraseSize) (i .capacity) a (omega arith) l, below-nil (i .eraseSize) (i .capacity) (a + i .eraseSize) k)
+        go (no l) = rw (below-nil (i .eraseSize) (i .capacity) a (omega arith))
+
+module _ (p : List ℕ) where
+  pub fields-are : (c e b a m u k x : ℕ) → c ≡ field 0 4 p → e ≡ field 4 2 p → b ≡ field 6 2 p → a ≡ field 8 2 p → m ≡ getD p 10 0 → u ≡ getD p 11 0
+      → k ≡ field 12 4 p → x ≡ field 16 2 p
+      → _≡_ {A = Info} (record { capacity = c; «erase_size» = e; «boot_version» = b; «app_version» = a; mode = m; «boot_baud» = u; compat = k; «max_payload» = x }) (infoOf p)
+  unfolding infoOf Paper.infoOf
+  fields-are c e b a m u k x ec ee eb ea em eu ek ex = rw (ec, ee, eb, ea, em, eu, ek, ex)
+
+  pub short-info : length p < 18 → BadInfo ≡ shownInfo (informed p)
+  unfolding informed
+  short-info h = rw (lt-leb 18 (length p) h)
+
+  module _ (h : 18 ≤ length p) (i : Info) (ei : i ≡ infoOf p) (t : Bool) (et : t ≡ sound (paperInfo i)) where
+    rule : sound (Paper.infoOf p) ≡ t
+    unfolding infoOf
+    rule = sym (et ∙ ap (λ (j : Info). sound (paperInfo j)) ei)
+
+    pub sound-info : t ≡ true → Sound i ≡ shownInfo (informed p)
+    unfolding informed infoOf
+    sound-info e = rw (le-leb 18 (length p) h, rule, e) (ap Sound ei)
+
+    pub unsound-info : t ≡ false → BadInfo ≡ shownInfo (informed p)
+    unfolding informed
+    unsound-info e = rw (le-leb 18 (length p) h, rule, e)
+
+module _ (image : List ℕ) where
+  pub key-short : length image < 6 → Missing ≡ shownKey (key image)
+  unfolding key
+  key-short h = rw (lt-leb 6 (length image) h)
+
+  pub key-here : (k : ℕ) → 6 ≤ length image → length image % 4 ≡ 2 → k ≡ field (length image - 6) 4 image → Key k ≡ shownKey (key image)
+  unfolding key
+  key-here k h m e = rw (le-leb 6 (length image) h, eq-eqb (length image % 4) 2 m, e)
+
+  pub key-elsewhere : 6 ≤ length image → (length image % 4 ≡ 2 → ⊥) → Missing ≡ shownKey (key image)
+  unfolding key
+  key-elsewhere h m = rw (le-leb 6 (length image) h, ne-eqb (length image % 4) 2 m)
+
+  module _ (i : Paper.Info) where
+    pub no-key-set : i .compat ≡ 0xFFFFFFFF → false ≡ incompatible i image
+    unfolding incompatible
+    no-key-set h = rw (eq-eqb (i .compat) 0xFFFFFFFF h)
+
+    module _ (h : i .compat ≡ 0xFFFFFFFF → ⊥) (r : Compat) (er : r ≡ shownKey (key image)) where
+      pub key-missing : r ≡ Missing → true ≡ incompatible i image
+      unfolding incompatible
+      key-missing e = rw (ne-eqb (i .compat) 0xFFFFFFFF h) (go (key image) (sym er ∙ e))
+        where
+          go : (o : Option ℕ) → shownKey o ≡ Missing → true ≡ not (sameKey (i .compat) o)
+          go none q = refl
+          go (some k) q = let z : _≡_ {A = ℕ} 0 1 = cc in absurd (omega arith)
+
+      pub key-compared : (k : ℕ) (t : Bool) → r ≡ Key k → t ≡ not (eqb k (i .compat)) → t ≡ incompatible i image
+      unfolding incompatible
+      key-compared k t e q = rw (q, ne-eqb (i .compat) 0xFFFFFFFF h) (go (key image) (sym er ∙ e))
+        where
+          go : (o : Option ℕ) → shownKey o ≡ Key k → not (eqb k (i .compat)) ≡ not (sameKey (i .compat) o)
+          go none q = let z : _≡_ {A = ℕ} 0 1 = cc in absurd (omega arith)
+          go (some x) q = let same : x ≡ k = cc in rw same
+
+module _ (m : ℕ) where
+  pub chunk-small : m ≤ 1024 → m / 4 * 4 ≡ chunk m
+  unfolding chunk
+  chunk-small h = rw (le-leb m 1024 h)
+
+  pub chunk-most : 1024 < m → 1024 ≡ chunk m
+  unfolding chunk
+  chunk-most h = rw (lt-leb m 1024 h)
