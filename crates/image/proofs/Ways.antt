@@ -46,9 +46,9 @@ module _ (i : Paper.Info) where
   unfolding spansTooFar steps
   span r e = e
 
--- A capacity of 32 bits rounded up to a step of 16 bits fits 64.
-pub rounds : (c e : ℕ) → c < 2 ^ 32 → e < 2 ^ 16 → (c + (e - 1)) / e * e < 2 ^ 64
-rounds c e h k = omega (arith, div-mul-le-self (c + (e - 1)) e)
+-- A number rounded down to a multiple fits where it does.
+pub rounds : (x e : ℕ) → x < 2 ^ 40 → x / e * e < 2 ^ 64
+rounds x e h = omega (arith, div-mul-le-self x e)
 
 module _ (i : Paper.Info) (a : ℕ) where
   pub still : i .eraseSize ≡ 0 → Done ≡ eraseAfter i a

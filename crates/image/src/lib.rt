@@ -83,11 +83,10 @@ pub fn image_compat(image: &[u8]) -> Compat
 pub fn reported(n: usize) -> u32
     ensures { λ r. ⌜ r ≡ reported n ⌝ }
 {
-    if n <= 0xFFFF_FFFF {
-        n as u32
-    } else {
-        0xFFFF_FFFF
+    if 0xFFFF_FFFF < n {
+        return 0xFFFF_FFFF;
     }
+    n as u32
 }
 
 // How many bytes FF make a length a multiple of 4.
@@ -120,7 +119,8 @@ impl Info {
         if e == 0 {
             return false;
         }
-        0xFFFF_FFFF < (c + (e - 1)) / e * e
+        let most = c + (e - 1);
+        0xFFFF_FFFF < most / e * e
     }
 
     // An image of n bytes exceeds the capacity.

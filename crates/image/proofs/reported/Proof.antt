@@ -4,16 +4,16 @@ use borrow.Author.Needs.{needs}
 use Rattle.image.proofs.reported.Statement.{statement}
 use Rattle.image.proofs.reported.Tie as tie
 
-cast-result : tie.Need-cast-result
-cast-result c = search needs
-
 returns : tie.Need-returns
 unfolding reported
 returns c = search (ways, needs)
+
+cast-result : tie.Need-cast-result
+cast-result c = search needs
 
 returns-2 : tie.Need-returns-2
 unfolding reported
 returns-2 c = search (ways, needs)
 
 pub reported-spec : {M : Type 1} → statement M
-reported-spec = tie.close (tie.spec cast-result returns returns-2)
+reported-spec = tie.close (tie.spec returns cast-result returns-2)

@@ -12,22 +12,21 @@ cast-c c = search needs
 returns : tie.Need-returns
 returns c = search (no-span, needs)
 
-sub-result : tie.Need-sub-result
-sub-result c = search needs
+sub-most : tie.Need-sub-most
+sub-most c = search needs
 
-add-result : tie.Need-add-result
-add-result c = search needs
+add-most : tie.Need-add-most
+add-most c = search needs
 
 div-result : tie.Need-div-result
 div-result c = search needs
 
 mul-result : tie.Need-mul-result
-mul-result c = record { fits = rounds _ _ (search needs) (search needs) }
+mul-result c = record { fits = rounds _ _ (search needs) }
 
 returns-2 : tie.Need-returns-2
 returns-2 c = search (span, needs)
 
 pub spans-too-far-spec : {M : Type 1} → statement M
 spans-too-far-spec =
-    tie.close
-    (tie.spec cast-e cast-c returns sub-result add-result div-result mul-result returns-2)
+    tie.close (tie.spec cast-e cast-c returns sub-most add-most div-result mul-result returns-2)
