@@ -3,3 +3,4 @@ pub mod Words
 pub mod Copy
 pub mod Parts
 pub mod Rows
+pub mod Bits
