@@ -4,3 +4,4 @@ pub mod Copy
 pub mod Parts
 pub mod Rows
 pub mod Bits
+pub mod Hex
