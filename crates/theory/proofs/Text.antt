@@ -1,7 +1,7 @@
 -- An id's text reads back, and a text that reads is that id's text but for the letters' case.
 -- Assumes nothing.
 use Prim.Native.Nat.{ℕ, _+_, _-_, _*_, _/_, _%_, _<_, _≤_}
-use mathlib.Core.Bool.{Bool, true, false, _&&_, cond, false≢true}
+use mathlib.Core.Bool.{Bool, true, false, _&&_, cond}
 use mathlib.Core.List.{List, [], _∷_}
 use mathlib.Core.Option.{Option, none, some, Option·none-ne-some, Option·some-injective}
 use mathlib.Core.Path.{_≡_, refl, sym, _∙_, ap₂}
@@ -9,10 +9,9 @@ use native.Mathlib.Decide.{decLt}
 use native.Mathlib.Omega.{arith}
 use lib.Dec.{leb}
 use lib.ListN.{length}
-use borrow.Author.Tests.{leb-true, lt-ltb, le-ltb, le-leb, lt-leb}
+use borrow.Author.Tests.{leb-true, lt-ltb, le-ltb, le-leb}
 use Rattle.paper.specs.Text.{hexDigit, digit, hexText, unhex, parseUid}
-use Rattle.lore.proofs.Choice.{and-not-left, and-not-right, and-yes}
-use Rattle.lore.proofs.Hex.{hexText-length, unhex-pair, unhex-bad-high, unhex-bad-low}
+use Rattle.lore.proofs.Hex.{Kind, number, upper, small, other, kind, within, inside, under, over, digit-number, digit-upper, digit-small, hexText-length, unhex-pair, unhex-bad-high, unhex-bad-low}
 use Rattle.lore.proofs.Words.{Bytes}
 
 -- A character in lower case, if it is one of A to F; and a text.
@@ -22,56 +21,6 @@ lowerCase c = cond (leb 65 c && leb c 70) (c + 32) c
 unfoldable pub lower : List ℕ → List ℕ
 lower [] = []
 lower (c ∷ text) = lowerCase c ∷ lower text
-
-data Kind (c : ℕ) : Type 0 where
-  number : 48 ≤ c → c ≤ 57 → Kind c
-  upper : 65 ≤ c → c ≤ 70 → Kind c
-  small : 97 ≤ c → c ≤ 102 → Kind c
-  other : digit c ≡ 16 → Kind c
-
-module _ (lo hi c : ℕ) where
-  abbrev within : Bool
-  within = leb lo c && leb c hi
-
-  inside : lo ≤ c → c ≤ hi → within ≡ true
-  inside h g = and-yes (leb lo c) (leb c hi) (le-leb lo c h) (le-leb c hi g)
-
-  under : c < lo → within ≡ false
-  under h = and-not-left (leb lo c) (leb c hi) (lt-leb lo c h)
-
-  over : hi < c → within ≡ false
-  over h = and-not-right (leb lo c) (leb c hi) (lt-leb c hi h)
-
-  is-inside : within ≡ true → (lo ≤ c) × (c ≤ hi)
-  is-inside e = go (leb lo c) refl (leb c hi) refl e
-    where
-      go : (a : Bool) → leb lo c ≡ a → (b : Bool) → leb c hi ≡ b → (a && b) ≡ true → (lo ≤ c) × (c ≤ hi)
-      go true f true g h = (leb-true lo c f, leb-true c hi g)
-      go true f false g h = absurd (false≢true h)
-      go false f b g h = absurd (false≢true h)
-
-module _ (c : ℕ) where
-  kind : Kind c
-  unfolding digit
-  kind = go (within 48 57 c) refl (within 65 70 c) refl (within 97 102 c) refl
-    where
-      go : (a : Bool) → within 48 57 c ≡ a → (b : Bool) → within 65 70 c ≡ b → (d : Bool) → within 97 102 c ≡ d → Kind c
-      go true e b f d g = let w = is-inside 48 57 c e in number (w .0) (w .1)
-      go false e true f d g = let w = is-inside 65 70 c f in upper (w .0) (w .1)
-      go false e false f true g = let w = is-inside 97 102 c g in small (w .0) (w .1)
-      go false e false f false g = other (rw (e, f, g))
-
-  digit-number : 48 ≤ c → c ≤ 57 → digit c ≡ c - 48
-  unfolding digit
-  digit-number h g = rw (inside 48 57 c h g)
-
-  digit-upper : 65 ≤ c → c ≤ 70 → digit c ≡ c - 55
-  unfolding digit
-  digit-upper h g = rw (over 48 57 c (omega arith), inside 65 70 c h g)
-
-  digit-small : 97 ≤ c → c ≤ 102 → digit c ≡ c - 87
-  unfolding digit
-  digit-small h g = rw (over 48 57 c (omega arith), over 65 70 c (omega arith), inside 97 102 c h g)
 
 module _ (v : ℕ) where
   hexDigit-few : v < 10 → hexDigit v ≡ 48 + v
