@@ -3,3 +3,5 @@ pub mod Words
 pub mod Copy
 pub mod Parts
 pub mod Rows
+pub mod Bits
+pub mod Hex
