@@ -2,3 +2,4 @@ pub mod Choice
 pub mod Words
 pub mod Copy
 pub mod Parts
+pub mod Readings
