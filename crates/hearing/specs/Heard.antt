@@ -18,13 +18,13 @@ use Rattle.hearing.specs.declared.Hearing.{Hearing}
 use Rattle.hearing.specs.declared.Replies.{Replies}
 use Rattle.hearing.specs.declared.Replies.the-variants as Replies
 use Rattle.hearing.specs.declared.Replies.the-variants.{None, Several}
-use Rattle.hearing.specs.declared.Answer.{Answer}
-use Rattle.hearing.specs.declared.Answer.the-variants.{Lost, Device, Ok}
+use Rattle.hearing.specs.declared.Answered.{Answered}
+use Rattle.hearing.specs.declared.Answered.the-variants.{Lost, Device, Ok}
 
 abbrev pub onReplies {ℓ} : {A : Type ℓ} → Replies → A → (Frame → A) → A → A
-onReplies None none one several = none
-onReplies (Replies.One f) none one several = one f
-onReplies Several none one several = several
+onReplies None none this many = none
+onReplies (Replies.One f) none this many = this f
+onReplies Several none this many = many
 
 -- The reply's payload lies in the record.
 abbrev pub Within : List ℕ → Replies → Type 0
@@ -55,11 +55,11 @@ shownHeard (one id) = oneHeard id
 shownHeard unaddressed = heardAs Unaddressed
 shownHeard garble = heardAs Garble
 
-unfoldable pub repliedBy : Frame → Answer
+unfoldable pub repliedBy : Frame → Answered
 repliedBy f = cond (eqb (f .status) 1) (Ok (f .payload) (f .len) (f .end)) (Device (f .status) (f .end))
 
 -- The payload of the frame that answers stands before its check.
-abbrev pub shownAnswer : Paper₂.Answer → Answer
+abbrev pub shownAnswer : Paper₂.Answer → Answered
 shownAnswer lost = Lost
 shownAnswer (answered (ok payload) end) = Ok (end - (2 + length payload)) (length payload) end
 shownAnswer (answered (device status) end) = Device status end

@@ -32,7 +32,7 @@ pub enum Replies {
 }
 
 // The frame that answers a request with one answer: where its payload begins, the payload's length, and the frame's end.
-pub enum Answer {
+pub enum Answered {
     Lost,
     Device(u8, usize),
     Ok(usize, usize, usize),
@@ -115,18 +115,18 @@ pub fn hear(bytes: &[u8]) -> Hearing
 }
 
 // The first frame that is no echo.
-pub fn answer(bytes: &[u8]) -> Answer
+pub fn answer(bytes: &[u8]) -> Answered
     ensures { λ r. ⌜ r ≡ shownAnswer (answer (now (bytes .entry))) ⌝ }
 {
     let mut at = 0;
     let found = loop {
         let r = reader::read(bytes, at);
         match r {
-            Reading::Short => break Answer::Lost,
-            Reading::TooLong => break Answer::Lost,
+            Reading::Short => break Answered::Lost,
+            Reading::TooLong => break Answered::Lost,
             Reading::BadCheck(f) => {
                 if f.status != 0 {
-                    break Answer::Device(3, f.end);
+                    break Answered::Device(3, f.end);
                 }
                 at = f.end;
             }
@@ -142,13 +142,13 @@ pub fn answer(bytes: &[u8]) -> Answer
 }
 
 // A whole frame that is no echo.
-fn replied(f: Frame) -> Answer
+fn replied(f: Frame) -> Answered
     ensures { λ r. ⌜ r ≡ repliedBy f ⌝ }
 {
     if f.status == 1 {
-        return Answer::Ok(f.payload, f.len, f.end);
+        return Answered::Ok(f.payload, f.len, f.end);
     }
-    Answer::Device(f.status, f.end)
+    Answered::Device(f.status, f.end)
 }
 
 // The unread rest of the lent record; empty if the place is past the end.

@@ -5,3 +5,4 @@ pub mod Parts
 pub mod Rows
 pub mod Bits
 pub mod Hex
+pub mod Readings
