@@ -9,14 +9,19 @@ fn print(text: &[u8]) {
     io::write_all(STDOUT_FILENO, text);
 }
 
-// A name, and up to 16 bytes as hexadecimal.
-fn print_bytes(name: &[u8], bytes: &[u8]) {
+fn print_front(text: &[u8], n: usize) {
+    if n <= text.len() {
+        print(&text[0..n]);
+    }
+}
+
+// The first bytes, 16 at most, as hexadecimal.
+fn print_hex(bytes: &[u8], n: usize) {
     let mut text = [0u8; 32];
-    print(name);
-    let w = text::uid_hex(bytes, &mut text);
-    if let Written::Done(n) = w {
-        if n <= 32 {
-            print(&text[..n]);
+    if n <= bytes.len() {
+        let w = text::uid_hex(&bytes[0..n], &mut text);
+        if let Written::Done(m) = w {
+            print_front(&text, m);
         }
     }
     print(b"\n");
@@ -32,24 +37,26 @@ fn print_frame(name: &[u8], command: u8, status: u8, payload: &[u8], pad: usize)
         address: 0,
     };
     let w = frame::write_frame(head, payload, pad, &mut room);
+    print(name);
     if let Written::Done(n) = w {
-        if n <= 16 {
-            print_bytes(name, &room[..n]);
-            print_heard(&room[..n]);
-        }
+        print_hex(&room, n);
+        print_heard(&room, n);
     }
 }
 
-fn print_heard(bytes: &[u8]) {
-    let h = hearing::hear(bytes);
+fn print_heard(bytes: &[u8], n: usize) {
+    if bytes.len() < n {
+        return;
+    }
+    let h = hearing::hear(&bytes[0..n]);
     let kind = h.heard;
     match kind {
         Heard::Nothing => print(b"  heard: nothing\n"),
         Heard::One => {
             let id = h.id;
             let x = id.bytes;
-            let n = id.size();
-            print_bytes(b"  heard: one ", &x[..n]);
+            print(b"  heard: one ");
+            print_hex(&x, id.size());
         }
         Heard::TooLong => print(b"  heard: too long\n"),
         Heard::Unaddressed => print(b"  heard: unaddressed\n"),
