@@ -84,8 +84,12 @@ module _ (text : List ℕ) (r : Parsed) (bad : r ≡ badText) where
   unfolding parsed parseUid
   not-read h e = rw (le-leb (length text) 32 h, e) bad
 
-  pub odd : length text ≤ 32 → (length text % 2 ≡ 0 → ⊥) → r ≡ parsed (parseUid text)
-  odd h n = let m : length text % 2 ≡ 1 = not-even (length text) n in not-read h (unhex-odd text m)
+  pub odd : (length text % 2 ≡ 0 → ⊥) → r ≡ parsed (parseUid text)
+  odd n = go (decLt 32 (length text))
+    where
+      go : Dec (32 < length text) → r ≡ parsed (parseUid text)
+      go (yes h) = too-long h
+      go (no h) = not-read (omega arith) (unhex-odd text (not-even (length text) n))
 
 module _ (text out : List ℕ) (i h l : ℕ) (inv : Joined (take i out) (unhex (drop (2 * i) text)) ≡ unhex text) (short : length text ≤ 32) (inside : i < length text / 2)
     (eh : h ≡ digit (getD text (2 * i) 0)) (el : l ≡ digit (getD text (2 * i + 1) 0)) where
@@ -125,12 +129,8 @@ module _ (text out : List ℕ) (i h l : ℕ) (inv : Joined (take i out) (unhex (
       stored : take (i + 1) (set out i (h * 16 + l)) ≡ take i out ++ ((h * 16 + l) ∷ [])
       stored = rw (add-one i) (take-suc-set out i (h * 16 + l) (omega arith))
 
-  pub zero-more : length out ≡ 16 → drop i out ≡ drop i (replicate 16 0) → drop (i + 1) (set out i (h * 16 + l)) ≡ drop (i + 1) (replicate 16 0)
-  zero-more long e =
-      drop-set-lt (i + 1) out i (h * 16 + l) (omega arith)
-      ∙ sym (drop-drop 1 i out)
-      ∙ ap (drop 1) e
-      ∙ drop-drop 1 i (replicate 16 0)
+pub zero-more : (out : List ℕ) (i v : ℕ) → drop i out ≡ drop i (replicate 16 0) → drop (i + 1) (set out i v) ≡ drop (i + 1) (replicate 16 0)
+zero-more out i v e = drop-set-lt (i + 1) out i v (omega arith) ∙ sym (drop-drop 1 i out) ∙ ap (drop 1) e ∙ drop-drop 1 i (replicate 16 0)
 
 pub read-all : (text out : List ℕ) (i n : ℕ) → Joined (take i out) (unhex (drop (2 * i) text)) ≡ unhex text → n ≡ length text → n ≤ 32 → n % 2 ≡ 0 → i ≤ n / 2 → n / 2 ≤ i
     → length out ≡ 16 → drop i out ≡ drop i (replicate 16 0) → record { answer = Uid; id = record { bytes = out; len = n / 2 } } ≡ parsed (parseUid text)

@@ -34,7 +34,7 @@ slice-write-text : tie.Need-slice-write-text Inv-loop μ-loop
 slice-write-text c = search needs
 
 hex-digit-requires-2 : tie.Need-hex-digit-requires-2 Inv-loop μ-loop
-hex-digit-requires-2 c κs = search needs
+hex-digit-requires-2 c κs = search (high-digit, needs)
 
 mul-text-2 : tie.Need-mul-text-2 Inv-loop μ-loop
 mul-text-2 c = search needs
