@@ -1,4 +1,9 @@
 pub mod Frame
 pub mod Hearing
+pub mod Walk
+pub mod Count
+pub mod Talk
+pub mod Attach
 pub mod Answers
 pub mod Text
+pub mod Client
