@@ -1,6 +1,6 @@
 -- Where the loop over frames is, against the paper's answer.
 -- Assumes nothing.
-use Prim.Native.Nat.{ℕ, zero, suc, _+_, _-_, _<_, _≤_}
+use Prim.Native.Nat.{ℕ, zero, suc, _+_, _-_, _≤_}
 use mathlib.Core.Bool.{Bool, true, false, cond}
 use mathlib.Core.List.{List}
 use mathlib.Core.Path.{_≡_, refl, sym, _∙_, ap}
@@ -19,7 +19,7 @@ use Rattle.reader.specs.Shown.{frameAt, shownFrom}
 use Rattle.hearing.specs.declared.Answered.{Answered}
 use Rattle.hearing.specs.declared.Answered.the-variants.{Lost, Device, Ok}
 use Rattle.hearing.specs.Heard.{repliedBy, shownAnswer}
-use Rattle.hearing.proofs.Shows.{Shows, readAs, shows, end-is, end-after, end-within}
+use Rattle.hearing.proofs.Shows.{Shows, readAs, shows, end-is, end-after, inside}
 
 -- From here on, within the frames left, the answer is that of the whole record.
 pub record Reach (bytes : List ℕ) (at : ℕ) : Type 0 where
@@ -40,12 +40,6 @@ module _ (right : Bool) (bytes : List ℕ) (at : ℕ) (x : Reading) (e : x ≡ s
   found : Shows bytes at f right
   found = shows right bytes at x e f c
 
-  pub inside : f .end ≤ length bytes
-  inside = end-within bytes at f right found
-
-  pub less : length bytes - f .end < length bytes - at
-  less = omega (arith, inside, end-after bytes at f right found)
-
   next : (n : ℕ) → answerFrom (suc n) at bytes ≡ cond (eqb (f .status) 0) (answerFrom n (f .end) bytes) (answered (reply right (found .frame)) (f .end))
   unfolding answerFrom
   next n = go right found
@@ -60,7 +54,7 @@ module _ (right : Bool) (bytes : List ℕ) (at : ℕ) (x : Reading) (e : x ≡ s
     further z = go (r .left) (r .enough) (r .same)
       where
         go : (n : ℕ) → length bytes ≤ at + n → answerFrom n at bytes ≡ answer bytes → Reach bytes (f .end)
-        go zero h q = absurd (omega (arith, inside, end-after bytes at f right found))
+        go zero h q = absurd (omega (arith, inside right bytes at x e f c, end-after bytes at f right found))
         go (suc n) h q =
             record {
               left = n;
@@ -72,7 +66,7 @@ module _ (right : Bool) (bytes : List ℕ) (at : ℕ) (x : Reading) (e : x ≡ s
     halted z = go (r .left) (r .enough) (r .same)
       where
         go : (n : ℕ) → length bytes ≤ at + n → answerFrom n at bytes ≡ answer bytes → answered (reply right (found .frame)) (f .end) ≡ answer bytes
-        go zero h q = absurd (omega (arith, inside, end-after bytes at f right found))
+        go zero h q = absurd (omega (arith, inside right bytes at x e f c, end-after bytes at f right found))
         go (suc n) h q = sym (next n ∙ simp (ne-eqb _ _ z)) ∙ q
 
 -- The payload stands between the head and the check.

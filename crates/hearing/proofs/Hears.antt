@@ -1,6 +1,6 @@
 -- Where the loop over frames is, against what the paper hears in the record.
 -- Assumes nothing.
-use Prim.Native.Nat.{ℕ, zero, suc, _+_, _-_, _^_, _<_, _≤_}
+use Prim.Native.Nat.{ℕ, zero, suc, _+_, _^_, _<_, _≤_}
 use mathlib.Core.Bool.{Bool, true, false, cond}
 use mathlib.Core.List.{List, [], _∷_, _++_, append-nil, append-assoc}
 use mathlib.Core.Option.{Option, none, some}
@@ -29,7 +29,7 @@ use Rattle.hearing.specs.declared.Heard.the-variants.{Unaddressed, Garbl
 use Rattle.hearing.specs.declared.Replies.{Replies}
 use Rattle.hearing.specs.declared.Replies.the-variants.{None, One, Several}
 use Rattle.hearing.specs.Heard.{Within, onReplies, heardAs, oneHeard, noted, concluded, shownHeard}
-use Rattle.hearing.proofs.Shows.{Shows, shows, end-is, end-after, end-within}
+use Rattle.hearing.proofs.Shows.{Shows, shows, end-is, inside}
 
 -- The code's replies, and the paper's that they stand for.
 pub data Stands (bytes : List ℕ) : List Paper.Frame → Replies → Type 0 where
@@ -144,12 +144,6 @@ module _ (bytes : List ℕ) (at : ℕ) (rs : Replies) (h : at < length bytes) (r
       found : Shows bytes at f true
       found = shows true bytes at x e f c
 
-      pub inside : f .end ≤ length bytes
-      inside = end-within bytes at f true found
-
-      pub less : length bytes - f .end < length bytes - at
-      less = omega (arith, inside, end-after bytes at f true found)
-
       pub hears-skipped : (f .payload ≡ at + 10 → ⊥) → (g : Hearing) → g ≡ heardAs Garble → g ≡ shownHeard (hear bytes)
       unfolding clean
       hears-skipped z g q = q ∙ ap shownHeard (unclean (rw (found .came, ne-eqb _ _ moved)))
@@ -158,7 +152,7 @@ module _ (bytes : List ℕ) (at : ℕ) (rs : Replies) (h : at < length bytes) (r
           moved k = z (ap (λ (g : Frame). g .payload) (found .shown) ∙ omega (arith, k))
 
       pub ten-fit : length bytes < 2 ^ 64 → Fits w64 (at + 10)
-      ten-fit l = omega (arith, inside, end-is bytes at f true found)
+      ten-fit l = omega (arith, inside true bytes at x e f c, end-is bytes at f true found)
 
       pub further : f .payload ≡ at + 10 → (next : Replies) → next ≡ noted rs f → Reach bytes (f .end) next
       further z next en = rw (en, shown) (stepped (found .frame) (found .came ∙ ap (λ (k : ℕ). whole k (found .frame)) skip))

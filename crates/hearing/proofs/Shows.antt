@@ -1,6 +1,6 @@
 -- A frame that the code read, and the paper's frame that it shows.
 -- Assumes nothing.
-use Prim.Native.Nat.{ℕ, _+_, _<_, _≤_}
+use Prim.Native.Nat.{ℕ, _+_, _-_, _<_, _≤_}
 use mathlib.Core.Bool.{Bool, true, false}
 use mathlib.Core.List.{List}
 use mathlib.Core.Path.{_≡_, refl, sym, _∙_, ap}
@@ -50,3 +50,10 @@ module _ (bytes : List ℕ) (at : ℕ) (f : Frame) (right : Bool) (s : Shows byt
   pub end-within : f .end ≤ length bytes
   end-within =
       omega (arith, end-is, length-drop at bytes, read-known (drop at bytes) (s .skip) (s .frame) right (s .came) .room)
+
+module _ (right : Bool) (bytes : List ℕ) (at : ℕ) (x : Reading) (e : x ≡ shownFrom at (read (drop at bytes))) (f : Frame) (c : x ≡ readAs right f) where
+  pub inside : f .end ≤ length bytes
+  inside = end-within bytes at f right (shows right bytes at x e f c)
+
+  pub less : length bytes - f .end < length bytes - at
+  less = omega (arith, inside, end-after bytes at f right (shows right bytes at x e f c))

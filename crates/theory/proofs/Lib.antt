@@ -1,3 +1,6 @@
 pub mod Order
 pub mod Bits
 pub mod Text
+pub mod Checks
+pub mod Frames
+pub mod Heard

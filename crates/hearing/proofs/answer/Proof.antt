@@ -2,7 +2,8 @@ use borrow.Author.Needs.{needs}
 use Prim.Native.Nat.{_≤_, _-_}
 use mathlib.Core.Bool.{true, false}
 use lib.ListN.{length}
-use Rattle.hearing.proofs.Answers.{Reach, begun, inside, less, further, ended, answers-whole, answers-bad}
+use Rattle.hearing.proofs.Shows.{inside, less}
+use Rattle.hearing.proofs.Answers.{Reach, begun, further, ended, answers-whole, answers-bad}
 use Rattle.hearing.proofs.answer.Statement.{statement}
 use Rattle.hearing.proofs.answer.Tie as tie
 

@@ -1,7 +1,9 @@
 use borrow.Author.Needs.{needs}
 use Prim.Native.Nat.{_≤_, _-_}
+use mathlib.Core.Bool.{true}
 use lib.ListN.{length}
-use Rattle.hearing.proofs.Hears.{Reach, begun, hears-unfit, ten-fit, hears-skipped, less, inside, further, hears-within, hears-end}
+use Rattle.hearing.proofs.Shows.{inside, less}
+use Rattle.hearing.proofs.Hears.{Reach, begun, hears-unfit, ten-fit, hears-skipped, further, hears-within, hears-end}
 use Rattle.hearing.proofs.hear.Statement.{statement}
 use Rattle.hearing.proofs.hear.Tie as tie
 
@@ -39,10 +41,10 @@ noted-requires : tie.Need-noted-requires Inv-loop μ-loop
 noted-requires c κs = search needs
 
 loop-less : tie.Need-loop-less Inv-loop μ-loop
-loop-less c = search (less, needs)
+loop-less c = search (less true, needs)
 
 loop-again : tie.Need-loop-again Inv-loop μ-loop
-loop-again c = (search (inside, needs), search (further, needs))
+loop-again c = (search (inside true, needs), search (further, needs))
 
 concluded-requires : tie.Need-concluded-requires Inv-loop μ-loop
 concluded-requires c κs = search (hears-within, needs)
