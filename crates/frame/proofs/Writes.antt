@@ -11,7 +11,7 @@ use borrow.Author.Tests.{lt-ltb, le-ltb}
 use borrow.Rule.Slice.PartMut.{putMid}
 use Rattle.paper.specs.Frame.{le, crcFrom, check, Frame, most, frameHead, frameBody, frameBytes}
 use Rattle.lore.proofs.Parts.{part-all, mid-all}
-use Rattle.lore.proofs.Words.{le-length}
+use Rattle.lore.proofs.Frames.{head-length, body-length, frame-length}
 use Rattle.wire.specs.declared.Written.{Written}
 use Rattle.wire.specs.declared.Written.the-variants.{Done, Short, TooLong}
 use Rattle.frame.specs.declared.Head.{Head}
@@ -55,17 +55,11 @@ module _ (h : Head) (p : List ℕ) (pad : ℕ) (buf : List ℕ) where
   unfolding headOf frameHead
   head-is n e = ap (λ (k : ℕ). tagOf h ++ le 4 (h .address) ++ le 2 k) (e ∙ sym load-length)
 
-  head-length : length (frameHead f) ≡ 10
-  unfolding frameHead le
-  head-length = refl
+  body-is : length (frameBody f) ≡ length p + pad + 10
+  body-is = body-length f ∙ ap (λ (n : ℕ). 10 + n) load-length ∙ add-comm 10 (length p + pad)
 
-  body-length : length (frameBody f) ≡ length p + pad + 10
-  unfolding frameBody
-  body-length = length-append (frameHead f) load ∙ ap₂ _+_ head-length load-length ∙ add-comm 10 (length p + pad)
-
-  frame-length : length (frameBytes f) ≡ length p + pad + 12
-  unfolding frameBytes
-  frame-length = length-append (frameBody f) (le 2 (check (frameBody f))) ∙ ap₂ _+_ body-length (le-length 2 (check (frameBody f))) ∙ twelve (length p + pad)
+  frame-is : length (frameBytes f) ≡ length p + pad + 12
+  frame-is = frame-length f ∙ ap (λ (n : ℕ). 12 + n) load-length ∙ add-comm 12 (length p + pad)
 
   over : most < length p + pad → record { answer = TooLong; bytes = buf } ≡ written f buf
   unfolding written
@@ -87,7 +81,7 @@ module _ (h : Head) (p : List ℕ) (pad : ℕ) (buf : List ℕ) where
 
     pub no-room : length buf < length p + pad + 12 → record { answer = Short (length p + pad + 12); bytes = buf } ≡ written f buf
     unfolding placed
-    no-room k = rw (fitting fits, frame-length, lt-ltb (length buf) (length p + pad + 12) k)
+    no-room k = rw (fitting fits, frame-is, lt-ltb (length buf) (length p + pad + 12) k)
 
     module _ (n : ℕ) (en : n ≡ length p + pad) (d₁ d₂ d₃ : List ℕ) (e₁ : d₁ ≡ headOf h n ++ drop 10 buf)
         (e₂ : d₂ ≡ load ++ drop (length p + pad) (take (length d₁ - 10) (drop 10 d₁))) where
@@ -98,8 +92,8 @@ module _ (h : Head) (p : List ℕ) (pad : ℕ) (buf : List ℕ) where
       unfolding frameBody
       filled-is =
           mid-all 10 d₁ d₂
-          ∙ ap₂ (λ (x y : List ℕ). x ++ y) (ap (take 10) head ∙ take-at (frameHead f) (drop 10 buf) 10 head-length)
-          (e₂ ∙ ap (λ (r : List ℕ). load ++ drop (length p + pad) r) (part-all 10 d₁ ∙ ap (drop 10) head ∙ drop-at (frameHead f) (drop 10 buf) 10 head-length)
+          ∙ ap₂ (λ (x y : List ℕ). x ++ y) (ap (take 10) head ∙ take-at (frameHead f) (drop 10 buf) 10 (head-length f))
+          (e₂ ∙ ap (λ (r : List ℕ). load ++ drop (length p + pad) r) (part-all 10 d₁ ∙ ap (drop 10) head ∙ drop-at (frameHead f) (drop 10 buf) 10 (head-length f))
           ∙ ap (λ (r : List ℕ). load ++ r) (drop-drop (length p + pad) 10 buf ∙ ap (λ (k : ℕ). drop k buf) (add-comm 10 (length p + pad))))
           ∙ sym (append-assoc (frameHead f) load (drop (length p + pad + 10) buf))
         where
@@ -107,13 +101,13 @@ module _ (h : Head) (p : List ℕ) (pad : ℕ) (buf : List ℕ) where
           head = e₁ ∙ ap (λ (x : List ℕ). x ++ drop 10 buf) (head-is n en)
 
       front : take (length p + pad + 10) filled ≡ frameBody f
-      front = ap (take (length p + pad + 10)) filled-is ∙ take-at (frameBody f) (drop (length p + pad + 10) buf) (length p + pad + 10) body-length
+      front = ap (take (length p + pad + 10)) filled-is ∙ take-at (frameBody f) (drop (length p + pad + 10) buf) (length p + pad + 10) body-is
 
       back : drop (length p + pad + 10 + 2) filled ≡ drop (length p + pad + 12) buf
       back =
           ap (drop (length p + pad + 10 + 2)) filled-is
           ∙ sym (drop-drop 2 (length p + pad + 10) (frameBody f ++ drop (length p + pad + 10) buf))
-          ∙ ap (drop 2) (drop-at (frameBody f) (drop (length p + pad + 10) buf) (length p + pad + 10) body-length)
+          ∙ ap (drop 2) (drop-at (frameBody f) (drop (length p + pad + 10) buf) (length p + pad + 10) body-is)
           ∙ drop-drop 2 (length p + pad + 10) buf
           ∙ ap (λ (k : ℕ). drop k buf) (twelve (length p + pad))
 
@@ -122,6 +116,6 @@ module _ (h : Head) (p : List ℕ) (pad : ℕ) (buf : List ℕ) where
           → record { answer = Done (length p + pad + 12); bytes = d₃ } ≡ written f buf
       unfolding placed frameBytes
       wrote room e₃ =
-          rw (fitting fits, frame-length, le-ltb (length buf) (length p + pad + 12) room)
+          rw (fitting fits, frame-is, le-ltb (length buf) (length p + pad + 12) room)
           (ap (λ (l : List ℕ). record { answer = Done (length p + pad + 12); bytes = l })
           (e₃ ∙ ap₂ (λ (x y : List ℕ). x ++ le 2 (check x) ++ y) front back))

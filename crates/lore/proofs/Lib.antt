@@ -5,4 +5,5 @@ pub mod Parts
 pub mod Rows
 pub mod Bits
 pub mod Hex
+pub mod Frames
 pub mod Readings

@@ -10,6 +10,7 @@ use lib.ListN.{length, take, drop, length-append, length-drop, take-append-drop}
 use lib.Seq.{take-at, drop-at, take-add, drop-drop, length-take-le}
 use lib.Dec.{eqb, lit<}
 use borrow.Author.Tests.{le-ltb, eq-eqb, eqb-true}
+use Rattle.lore.proofs.Frames.{head-length, body-length, frame-length}
 use Rattle.lore.proofs.Readings.{Read, read-known}
 use Rattle.lore.proofs.Words.{Bytes, le-length, number-le, le-number}
 use Rattle.paper.specs.Frame.{le, number, byte, field, check, Frame, size, most, frameHead, frameBody, frameBytes, fields, rightCheck, skipped, readSized, readSynced, read, whole}
@@ -58,18 +59,6 @@ read-made : (s : List ℕ) (n : ℕ) → skipped s ≡ 0 → field 8 2 s ≡ n �
 unfolding read readSynced readSized
 read-made s n e en small room right =
     rw (e, en, le-ltb (length s) 10 (omega arith), le-ltb most n small, le-ltb (length s) (12 + n) room, right)
-
-pub head-length : (f : Frame) → length (frameHead f) ≡ 10
-unfolding frameHead le
-head-length f = refl
-
-pub body-length : (f : Frame) → length (frameBody f) ≡ 10 + length (f .payload)
-unfolding frameBody
-body-length f = length-append (frameHead f) (f .payload) ∙ ap (λ (n : ℕ). n + length (f .payload)) (head-length f)
-
-pub frame-length : (f : Frame) → length (frameBytes f) ≡ size f
-unfolding frameBytes
-frame-length f = omega (arith, length-append (frameBody f) (le 2 (check (frameBody f))), body-length f, le-length 2 (check (frameBody f)))
 
 body-bytes : (f : Frame) → Fits f → Bytes (frameBody f)
 unfolding frameBody frameHead

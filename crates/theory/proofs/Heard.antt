@@ -15,7 +15,8 @@ use Rattle.lore.proofs.Readings.{frames-first, frames-none}
 use Rattle.paper.specs.Frame.{Frame, size, frameBytes, Reading, short, tooLong, badCheck, whole, read, onReading, readSized, readSynced, skipped, number, rightCheck, check, crcFrom, crcByte, crcBit, status-CrcMismatch}
 use Rattle.paper.specs.Hearing.{nothing, one, unaddressed, garble, clean, frames, replies, alone, hear, onSome}
 use Rattle.paper.specs.Answers.{Answer, lost, answered, Reply, device, replyOf, unlessEcho, answerFrom, answer}
-use Rattle.theory.proofs.Frames.{Fits, read-written, frame-length}
+use Rattle.lore.proofs.Frames.{frame-length}
+use Rattle.theory.proofs.Frames.{Fits, read-written}
 
 -- More frames than enough change nothing.
 pub frames-fuel : (m n : ℕ) (s : List ℕ) → length s ≤ m → length s ≤ n → frames m s ≡ frames n s
