@@ -4,3 +4,4 @@ pub mod Text
 pub mod Checks
 pub mod Frames
 pub mod Heard
+pub mod Images

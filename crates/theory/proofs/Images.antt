@@ -1,0 +1,78 @@
+-- What the rules on images come to: chunks and padding are multiples of 4, and no erase address passes the capacity or 32 bits.
+-- Assumes nothing.
+use Prim.Native.Nat.{ℕ, zero, suc, _+_, _-_, _*_, _/_, _%_, _<_, _≤_}
+use mathlib.Core.Bool.{Bool, true, false, cond}
+use mathlib.Core.List.{List, [], _∷_}
+use mathlib.Core.Path.{_≡_, refl}
+use native.Mathlib.Nat.{div-mul-le-self}
+use native.Mathlib.Omega.{arith}
+use lib.Dec.{leb, ltb}
+use borrow.Author.Tests.{leb-true, ltb-false}
+use Rattle.paper.specs.Frame.{Info}
+use Rattle.paper.specs.Count.{All}
+use Rattle.paper.specs.Answers.{chunk, padding, padded, steps, apart, below, eraseAddresses, spansTooFar}
+
+pub chunk-multiple : (m : ℕ) → chunk m % 4 ≡ 0
+unfolding chunk
+chunk-multiple m = go (cond (leb m 1024) m 1024)
+  where
+    go : (x : ℕ) → x / 4 * 4 % 4 ≡ 0
+    go x = omega arith
+
+pub chunk-most : (m : ℕ) → chunk m ≤ 1024
+unfolding chunk
+chunk-most m = go (leb m 1024) refl
+  where
+    go : (b : Bool) → leb m 1024 ≡ b → cond b m 1024 / 4 * 4 ≤ 1024
+    go true e = omega (arith, leb-true m 1024 e)
+    go false e = omega arith
+
+pub chunk-least : (m : ℕ) → 4 ≤ m → 4 ≤ chunk m
+unfolding chunk
+chunk-least m h = go (leb m 1024)
+  where
+    go : (b : Bool) → 4 ≤ cond b m 1024 / 4 * 4
+    go true = omega arith
+    go false = omega arith
+
+pub padded-multiple : (n : ℕ) → padded n % 4 ≡ 0
+unfolding padding
+padded-multiple n = omega arith
+
+pub padded-close : (n : ℕ) → padded n < n + 4
+unfolding padding
+padded-close n = omega arith
+
+-- Of k numbers from a on, e apart, each is below the number that would follow.
+apart-below : (e k a c : ℕ) → 0 < e → a + k * e ≤ c → All (λ x. x + e ≤ c) (apart e k a)
+unfolding apart
+apart-below e zero a c h r = tt
+apart-below e (suc k) a c h r = (omega arith, apart-below e k (a + e) c h (omega arith))
+
+pub addresses-span : (info : Info) → 0 < info .eraseSize
+    → All (λ x. x + info .eraseSize ≤ steps (info .eraseSize) (info .capacity) * info .eraseSize) (eraseAddresses info)
+unfolding eraseAddresses below
+addresses-span info h =
+    let none : info .capacity - 0 ≡ info .capacity = omega arith in
+    rw none (apart-below (info .eraseSize) (steps (info .eraseSize) (info .capacity)) 0 (steps (info .eraseSize) (info .capacity) * info .eraseSize) h (omega arith))
+
+all-weaken : (P Q : ℕ → Type 0) (xs : List ℕ) → ((x : ℕ) → P x → Q x) → All P xs → All Q xs
+all-weaken P Q [] f h = tt
+all-weaken P Q (x ∷ xs) f h = (f x (h .0), all-weaken P Q xs f (h .1))
+
+-- No address wraps, nor the number reported after it, unless 19 was given.
+pub addresses-fit : (info : Info) → 0 < info .eraseSize → spansTooFar info ≡ false → All (λ x. x + info .eraseSize ≤ 0xFFFFFFFF) (eraseAddresses info)
+unfolding spansTooFar
+addresses-fit info h e =
+    let top : steps (info .eraseSize) (info .capacity) * info .eraseSize ≤ 0xFFFFFFFF = ltb-false 0xFFFFFFFF (steps (info .eraseSize) (info .capacity) * info .eraseSize) e in
+    all-weaken (λ x. x + info .eraseSize ≤ steps (info .eraseSize) (info .capacity) * info .eraseSize) (λ x. x + info .eraseSize ≤ 0xFFFFFFFF)
+    (eraseAddresses info) (λ x l. omega arith) (addresses-span info h)
+
+rounded-up : (e c : ℕ) → 0 < e → steps e c * e < c + e
+unfolding steps
+rounded-up e c h = omega (arith, div-mul-le-self (c + (e - 1)) e)
+
+pub addresses-below : (info : Info) → 0 < info .eraseSize → All (λ x. x < info .capacity) (eraseAddresses info)
+addresses-below info h =
+    all-weaken (λ x. x + info .eraseSize ≤ steps (info .eraseSize) (info .capacity) * info .eraseSize) (λ x. x < info .capacity)
+    (eraseAddresses info) (λ x l. omega (arith, rounded-up (info .eraseSize) (info .capacity) h)) (addresses-span info h)
