@@ -1,12 +1,12 @@
 -- Document 01, "Examples on both sides": those marked M, as a single table.
 -- Assumes nothing.
 use Prim.Native.Nat.{ℕ}
-use mathlib.Core.Bool.{Bool, true, false}
-use mathlib.Core.List.{List, [], _∷_, map}
-use mathlib.Core.Option.{Option, none, some}
+use mathlib.Core.Bool.{true, false}
+use mathlib.Core.List.{[], _∷_, map}
+use mathlib.Core.Option.{none, some}
 use mathlib.Core.Path.{_≡_, refl}
 use lib.ListN.{replicate}
-use Rattle.paper.specs.Frame.{Info, le, number, crcFrom}
+use Rattle.paper.specs.Frame.{Info, number}
 use Rattle.paper.specs.Hearing.{bit, bitsOf, counting, binary, packed, selectPayload}
 use Rattle.paper.specs.Answers.{key, chunk, steps, apart, below, eraseAddresses, eraseProgress}
 

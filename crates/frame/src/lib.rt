@@ -4,7 +4,7 @@ ghost use mathlib.Core.Path.{_≡_};
 ghost use mathlib.Core.List.{_++_};
 ghost use Prim.Native.Nat.{_+_, _≤_};
 ghost use lib.ListN.{length, take, drop, replicate};
-ghost use Rattle.paper.specs.Frame.{le, check, frameHead, frameBytes};
+ghost use Rattle.paper.specs.Frame.{le, check};
 ghost use Rattle.frame.specs.Writing.{frameOf, tagOf, headOf, written};
 
 pub struct Head {

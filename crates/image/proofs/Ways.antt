@@ -1,8 +1,8 @@
 -- The ways through the rules on device information and images, from the facts that the code has.
 -- Assumes nothing.
 use Prim.Native.Nat.{ℕ, _+_, _-_, _*_, _/_, _%_, _^_, _<_, _≤_}
-use mathlib.Core.Bool.{Bool, true, false, cond, not, _&&_}
-use mathlib.Core.List.{List, [], _∷_}
+use mathlib.Core.Bool.{Bool, true, false, not}
+use mathlib.Core.List.{List}
 use mathlib.Core.Option.{Option, none, some}
 use mathlib.Core.Path.{_≡_, refl, sym, _∙_, ap}
 use native.Mathlib.Decide.{decLt}
@@ -13,7 +13,7 @@ use lib.ListN.{length, getD}
 use borrow.Author.Tests.{lt-ltb, le-ltb, le-leb, lt-leb, eq-eqb, ne-eqb}
 use Rattle.paper.specs.Frame as Paper
 use Rattle.paper.specs.Frame.{field}
-use Rattle.paper.specs.Answers.{sound, informed, spansTooFar, steps, below, key, sameKey, incompatible, chunk, tooLarge, reported}
+use Rattle.paper.specs.Answers.{sound, informed, spansTooFar, steps, key, sameKey, incompatible, chunk}
 use Rattle.lore.proofs.Rows.{below-nil, below-still, below-cons}
 use Rattle.image.specs.declared.Info.{Info}
 use Rattle.image.specs.declared.Informed.the-variants.{Sound, BadInfo}

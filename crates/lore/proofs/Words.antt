@@ -1,12 +1,12 @@
 -- Byte order, once over the width: a number written is read back, bytes read are written back, and a field byte by byte.
 -- Assumes nothing.
 use Prim.Native.Nat.{ℕ, zero, suc, _+_, _*_, _/_, _%_, _^_, _<_, _≤_}
-use mathlib.Core.List.{List, [], _∷_, _++_}
-use mathlib.Core.Path.{_≡_, refl, sym, _∙_, ap, ap₂}
+use mathlib.Core.List.{List, [], _∷_}
+use mathlib.Core.Path.{_≡_, refl, _∙_, ap, ap₂}
 use native.Mathlib.Omega.{arith}
 use native.Mathlib.Nat.{pow-suc}
 use native.Mathlib.Numerals.{add-one}
-use lib.ListN.{length, getD, take, drop, drop-of-length-le, List·getD-eq-default}
+use lib.ListN.{length, getD, drop-of-length-le, List·getD-eq-default}
 use lib.Seq.{drop-cons, take-nil}
 use native.Mathlib.Decide.{decLt}
 use Rattle.paper.specs.Frame.{le, number, field}

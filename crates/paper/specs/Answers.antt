@@ -1,12 +1,12 @@
 -- Document 01, "Requests with one answer": the frame that answers, the device information, and the rules on images.
 -- Assumes nothing.
 use Prim.Native.Nat.{ℕ, zero, suc, _+_, _-_, _*_, _/_, _%_}
-use mathlib.Core.Bool.{Bool, true, false, _&&_, _||_, not, cond}
-use mathlib.Core.List.{List, [], _∷_, _++_}
+use mathlib.Core.Bool.{Bool, false, _&&_, not, cond}
+use mathlib.Core.List.{List, [], _∷_}
 use mathlib.Core.Option.{Option, none, some}
 use lib.Dec.{leb, ltb, eqb}
 use lib.ListN.{length, drop}
-use Rattle.paper.specs.Frame.{field, Frame, size, most, Reading, short, tooLong, badCheck, whole, onReading, read, status-Request, status-Ok, status-CrcMismatch, Info, infoOf, unset}
+use Rattle.paper.specs.Frame.{field, Frame, size, most, onReading, read, status-Request, status-Ok, status-CrcMismatch, Info, infoOf, unset}
 
 -- "Read frames, skipping every frame of status Request, even with a bad check, to the first other one. Short or too long, of any status:
 -- 1. Bad check: 2 with status 3. Status other than Ok: 2 with it."

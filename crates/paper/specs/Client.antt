@@ -1,13 +1,13 @@
 -- Document 01, "The port and its edges" and "Refusal numbers": what each call answers and leaves.
 -- Assumes nothing.
 use Prim.Native.Nat.{ℕ, _+_, _*_, _%_}
-use mathlib.Core.Bool.{Bool, true, false, _&&_, cond}
+use mathlib.Core.Bool.{Bool, true, _&&_, cond}
 use mathlib.Core.List.{List, [], _∷_, _++_}
 use mathlib.Core.Option.{Option, none, some}
 use lib.Dec.{leb, ltb}
 use lib.ListN.{length, take, drop}
-use Rattle.paper.specs.Frame.{Frame, frameBytes, command-Select, status-Request}
-use Rattle.paper.specs.Hearing.{Id, Prefix, bitsOf, selectPayload, hear, longest, onSome}
+use Rattle.paper.specs.Frame.{frameBytes, command-Select, status-Request}
+use Rattle.paper.specs.Hearing.{Id, bitsOf, selectPayload, hear, longest, onSome}
 use Rattle.paper.specs.Talk.{Ask, select, Answer, Talk, return, stop, report, ask, Outcome, quiet, heard, attached, found}
 use Rattle.paper.specs.Attach.{selectOnly, deselect, attach, discover}
 

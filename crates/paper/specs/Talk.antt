@@ -1,7 +1,7 @@
 -- Document 01, "The port and its edges": an operation as a conversation: what is asked, and how it goes on from the answer.
 -- Assumes nothing.
 use Prim.Native.Nat.{ℕ}
-use mathlib.Core.List.{List, [], _∷_}
+use mathlib.Core.List.{List, []}
 use mathlib.Core.Option.{Option}
 use Rattle.paper.specs.Hearing.{Id, Prefix, Heard}
 use Rattle.paper.specs.Walk as Walk

@@ -5,7 +5,7 @@ ghost use mathlib.Core.Path.{_≡_};
 ghost use mathlib.Core.List.{_++_};
 ghost use Prim.Native.Nat.{_+_, _*_, _≤_, _<_};
 ghost use lib.ListN.{length, drop};
-ghost use Rattle.paper.specs.Text.{hexDigit, digit, hexText, unhex, uidHex, parseUid};
+ghost use Rattle.paper.specs.Text.{hexDigit, digit, hexText, parseUid};
 ghost use Rattle.text.specs.Texts.{written, parsed, badText};
 
 // Whether text was an id: the number 22 where it was not.

@@ -10,7 +10,7 @@ use lib.ListN.{length, take, drop, length-append, length-drop, take-append-drop}
 use lib.Seq.{take-at, drop-at, take-add, drop-drop, length-take-le}
 use lib.Dec.{eqb, lit<}
 use borrow.Author.Tests.{le-ltb, eq-eqb, eqb-true}
-use Rattle.lore.proofs.Frames.{head-length, body-length, frame-length}
+use Rattle.lore.proofs.Frames.{body-length, frame-length}
 use Rattle.lore.proofs.Readings.{Read, read-known}
 use Rattle.lore.proofs.Words.{Bytes, le-length, number-le, le-number}
 use Rattle.paper.specs.Frame.{le, number, byte, field, check, Frame, size, most, frameHead, frameBody, frameBytes, fields, rightCheck, skipped, readSized, readSynced, read, whole}

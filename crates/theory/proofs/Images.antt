@@ -6,7 +6,7 @@ use mathlib.Core.List.{List, [], _∷_}
 use mathlib.Core.Path.{_≡_, refl}
 use native.Mathlib.Nat.{div-mul-le-self}
 use native.Mathlib.Omega.{arith}
-use lib.Dec.{leb, ltb}
+use lib.Dec.{leb}
 use borrow.Author.Tests.{leb-true, ltb-false}
 use Rattle.paper.specs.Frame.{Info}
 use Rattle.paper.specs.Count.{All}

@@ -4,7 +4,7 @@ use Prim.Native.Nat.{ℕ, zero, suc}
 use mathlib.Core.Bool.{Bool, true, false, _&&_, not, cond}
 use mathlib.Core.List.{List, [], _∷_, _++_}
 use lib.ListN.{length, drop}
-use lib.Dec.{leb, ltb}
+use lib.Dec.{ltb}
 use Rattle.paper.specs.Hearing.{Id, Prefix, bitsOf, matches, Heard, nothing, one, unaddressed, garble}
 use Rattle.paper.specs.Walk.{_▹_, long, isNothing, isOne, sort, Ended, done, stopped, Wire, nobody}
 
