@@ -4,3 +4,7 @@ pub mod Text
 pub mod Always
 pub mod Runs
 pub mod Bound
+pub mod Matching
+pub mod Sorting
+pub mod Matched
+pub mod Counting
