@@ -8,3 +8,6 @@ pub mod Matching
 pub mod Sorting
 pub mod Matched
 pub mod Counting
+pub mod Exact
+pub mod OneLength
+pub mod Most
