@@ -11,3 +11,6 @@ pub mod Counting
 pub mod Exact
 pub mod OneLength
 pub mod Most
+pub mod Refine
+pub mod Fits
+pub mod Condition3
