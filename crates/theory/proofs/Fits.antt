@@ -13,6 +13,7 @@ use Rattle.paper.specs.Hearing.{Id, Prefix, bitsOf, matches, Heard, nothing, on
 use Rattle.paper.specs.Walk.{long, isNothing, nobody, done, stopped}
 use Rattle.lore.proofs.Bits.{bits-length}
 use Rattle.theory.specs.Machine.{Marks, path, Phase, asked, mine, other, leaving, State, Next, going, ended, nextBit, request, to, leave, descend, silent, kept, confirming, hears, tell, tooLong, step, start}
+use Rattle.theory.proofs.Each.{all-append}
 use Rattle.theory.proofs.Sorting.{sort-all, sort-length}
 
 abbrev pub Short : Id → Type 0
@@ -35,10 +36,6 @@ abbrev pub FitsNext : Next → Type 0
 FitsNext (going s) = Fits s
 FitsNext (ended (done ids)) = (length ids ≤ 64) × All Short ids
 FitsNext (ended (stopped c)) = Unit {0}
-
-all-snoc : (P : Id → Type 0) (xs : List Id) (x : Id) → All P xs → P x → All P (xs ++ (x ∷ []))
-all-snoc P [] x h p = (p, tt)
-all-snoc P (y ∷ xs) x h p = (h .0, all-snoc P xs x (h .1) p)
 
 module _ (pre : Prefix) where
   shorter : (marks : Marks) (b : Bool) (n : ℕ) → length (path pre (b ∷ marks)) ≤ n → length (path pre marks) < n
@@ -66,7 +63,7 @@ module _ (pre : Prefix) where
   kept-fits marks ids id d s h = go (ltb (length ids) 64) refl
     where
       go : (b : Bool) → ltb (length ids) 64 ≡ b → FitsNext (cond b (leave pre marks (ids ++ (id ∷ []))) (ended (stopped 15)))
-      go true e = leave-fits marks (ids ++ (id ∷ [])) d (omega (arith, ltb-true (length ids) 64 e, length-append ids (id ∷ []))) (all-snoc Short ids id s h)
+      go true e = leave-fits marks (ids ++ (id ∷ [])) d (omega (arith, ltb-true (length ids) 64 e, length-append ids (id ∷ []))) (all-append Short ids (id ∷ []) s (h, tt))
       go false e = tt
 
   module _ (marks : Marks) (ids : List Id) (d : length (path pre marks) ≤ 128) (f : length ids ≤ 64) (s : All Short ids) where

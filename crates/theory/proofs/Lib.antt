@@ -14,3 +14,5 @@ pub mod Most
 pub mod Refine
 pub mod Fits
 pub mod Condition3
+pub mod Each
+pub mod Kept

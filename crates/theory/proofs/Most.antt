@@ -12,6 +12,7 @@ use Rattle.paper.specs.Hearing.{Id, Prefix, bitsOf}
 use Rattle.paper.specs.Walk.{_▹_}
 use Rattle.theory.specs.Own.{Apart, ownAlone, ownSelects}
 use Rattle.theory.proofs.Counting.{sum-quiet}
+use Rattle.theory.proofs.Each.{all-weaken}
 use Rattle.theory.proofs.Matched.{matching-matching, all-matches, all-matching, Under, under-child, two-shorter, two-sides, part-length}
 use Rattle.theory.proofs.OneLength.{pods-apart, selects-own}
 
@@ -75,8 +76,4 @@ module _ (S : List Id) (L : ℕ) where
       )
 
   pub selects-most : (pre : Prefix) → Pods L (matching pre S) → selects S L pre ≤ 2 + count S pre * (8 * L - length pre + 2)
-  selects-most pre pods = rw (← selects-own L S pre (pods .sized)) (own-most pre (pods-apart L (matching pre S) pods) (within (matching pre S) (pods .sized)))
-    where
-      within : (xs : List Id) → All (λ x. length x ≡ L) xs → All (λ x. length x ≤ L) xs
-      within [] s = tt
-      within (x ∷ xs) s = (omega (arith, s .0), within xs (s .1))
+  selects-most pre pods = rw (← selects-own L S pre (pods .sized)) (own-most pre (pods-apart L (matching pre S) pods) (all-weaken _ _ (matching pre S) (λ x n. omega arith) (pods .sized)))

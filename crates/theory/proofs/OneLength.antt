@@ -11,6 +11,7 @@ use Rattle.paper.specs.Hearing.{Id, Prefix, bitsOf, matches}
 use Rattle.paper.specs.Walk.{sort, discover, Wire, done, run}
 use Rattle.lore.proofs.Bits.{bits-length}
 use Rattle.theory.specs.Own.{Unlike, Separate, Apart, ownAlone, ownSelects}
+use Rattle.theory.proofs.Each.{all-weaken}
 use Rattle.theory.proofs.Exact.{discover-apart}
 use Rattle.theory.proofs.Matching.{begins-whole, bitsOf-inj}
 
@@ -32,15 +33,11 @@ module _ (L : ℕ) where
   separate-pods [] d s b = tt
   separate-pods (x ∷ xs) d s b = (all-unlike x xs (s .0) (b .0) (d .0) (s .1) (b .1), separate-pods xs (d .1) (s .1) (b .1))
 
-  all-short : (xs : List Id) → L ≤ 16 → All (λ x. length x ≡ L) xs → All (λ x. length x ≤ 16) xs
-  all-short [] le s = tt
-  all-short (x ∷ xs) le s = (omega (arith, s .0), all-short xs le (s .1))
-
   pub pods-apart : (xs : List Id) → Pods L xs → Apart xs
   pods-apart xs pods = record {
     few = pods .few;
     separate = separate-pods xs (pods .distinct) (pods .sized) (pods .bytes);
-    short = all-short xs (pods .short) (pods .sized);
+    short = all-weaken _ _ xs (λ x n. omega (arith, pods .short)) (pods .sized);
   }
 
   sum-alone : (S : List Id) (p : ℕ) (xs : List Id) → All (λ x. length x ≡ L) xs → sumOver (ownAlone S p) xs ≡ sumOver (alone S p (8 * L)) xs

@@ -9,6 +9,7 @@ use Rattle.paper.specs.Count.{All}
 use Rattle.paper.specs.Hearing.{Id, before}
 use Rattle.paper.specs.Walk.{insert, sort}
 use Rattle.theory.specs.Own.{Unlike, Separate, Sorted}
+use Rattle.theory.proofs.Each.{all-weaken}
 use Rattle.theory.proofs.Order.{before-total, before-antisym, before-trans}
 
 insert-here : (x y : Id) (l : List Id) → before x y ≡ true → insert x (y ∷ l) ≡ x ∷ y ∷ l
@@ -99,17 +100,13 @@ unfolding sort
 sort-length [] = refl
 sort-length (x ∷ xs) = insert-length x (sort xs) ∙ ap suc (sort-length xs)
 
-all-before : (x y : Id) (zs : List Id) → before x y ≡ true → All (λ z. before y z ≡ true) zs → All (λ z. before x z ≡ true) zs
-all-before x y [] e h = tt
-all-before x y (z ∷ zs) e h = (before-trans x y z e (h .0), all-before x y zs e (h .1))
-
 insert-sorted : (x : Id) (xs : List Id) → Sorted xs → Sorted (insert x xs)
 unfolding insert
 insert-sorted x [] h = (tt, tt)
 insert-sorted x (y ∷ ys) h = go (insert-sorted x ys (h .1)) (before x y) refl
   where
     go : Sorted (insert x ys) → (b : Bool) → before x y ≡ b → Sorted (cond b (x ∷ y ∷ ys) (y ∷ insert x ys))
-    go ih true e = ((e, all-before x y ys e (h .0)), h)
+    go ih true e = ((e, all-weaken _ _ ys (λ z. before-trans x y z e) (h .0)), h)
     go ih false e = (insert-all (λ z. before y z ≡ true) x ys (before-total x y e) (h .0), ih)
 
 pub sort-sorted : (xs : List Id) → Sorted (sort xs)
