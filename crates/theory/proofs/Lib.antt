@@ -16,3 +16,4 @@ pub mod Fits
 pub mod Condition3
 pub mod Each
 pub mod Kept
+pub mod Examples
