@@ -65,7 +65,7 @@ abbrev Walks : ℕ → Type 0
 Walks n = (k : ℕ) (pre : Prefix) (ids : List Id) (h : Heard) → length ids ≤ 64 → isNothing h ≡ false → Always (Spent n (length ids) (k + 2)) k (walk n pre ids h)
 
 module _ (n k : ℕ) (pre : Prefix) (ids : List Id) (le : length ids ≤ 64) (ih : Walks n) where
-  -- the zero child was silent
+  -- The zero child was silent.
   silent : Always (Spent (suc n) (length ids) k) (suc k) (walk n (pre ▹ true) ids garble)
   unfolding Spent isNothing
   silent = always-weaken (Spent n (length ids) (suc k + 2)) (Spent (suc n) (length ids) k) (suc k) (walk n (pre ▹ true) ids garble) (ih (suc k) (pre ▹ true) ids garble le refl) more
@@ -74,7 +74,7 @@ module _ (n k : ℕ) (pre : Prefix) (ids : List Id) (le : length ids ≤ 64) (ih
       more (done js) c s = (s .0, s .1, omega arith)
       more (stopped r) c s = omega arith
 
-  -- the zero child has left the ids js, and the one child is heard
+  -- The zero child has left the ids js, and the one child is heard.
   loud : (js : List Id) (c : ℕ) → Spent n (length ids) (suc k + 2) (done js) c → (o : Heard) → isNothing o ≡ false
       → Always (Spent (suc n) (length ids) k) (suc c) (walk n (pre ▹ true) js o)
   unfolding Spent

@@ -8,7 +8,6 @@ use native.Mathlib.Nat.{div-div-eq-div-mul, div-eq-of-lt, div-one, pow-suc}
 use native.Mathlib.Omega.{arith}
 use lib.Dec.{eqb}
 use lib.ListN.{drop, getD, length, take}
-use lib.Pow.{low}
 use lib.Seq.{take-all}
 use borrow.Author.Tests.{eq-eqb, eqb-false, eqb-true}
 use Rattle.paper.specs.Count.{All}

@@ -22,20 +22,20 @@ bind-assoc (stop c) f g = refl
 bind-assoc (select p m) f g = λ i. select p (λ h. bind-assoc (m h) f g i)
 
 module _ (pre : Prefix) where
-  -- the levels left below the path
+  -- The levels left below the path.
   abbrev left : Marks → ℕ
   left marks = 128 - length (path pre marks)
 
   farewell : List Id → Walk (List Id)
   farewell ids = select nobody (λ _. return (sort ids))
 
-  -- what is left of the conversation when the branch at the marks has ended with ids kept
+  -- What is left of the conversation when the branch at the marks has ended with ids kept.
   unwind : Marks → List Id → Walk (List Id)
   unwind [] = farewell
   unwind (false ∷ marks) = λ ids. (ask (path pre marks ▹ true) >>= λ o. walk (left (true ∷ marks)) (path pre marks ▹ true) ids o) >>= unwind marks
   unwind (true ∷ marks) = unwind marks
 
-  -- an id that both children have been asked for
+  -- An id that both children have been asked for.
   settle : Marks → List Id → Id → Bool → Walk (List Id)
   settle marks ids id held = cond held (keep ids id) (down (left marks) (path pre marks) ids)
 
@@ -120,7 +120,7 @@ module _ (pre : Prefix) where
   unfolding judge _>>=_
   unaddressed-sim marks ids = rw (walk-judge (left pre marks) (path pre marks) ids unaddressed)
 
-  -- what the path holds, where it is no zero child
+  -- What the path holds, where it is no zero child.
   hears-sim : (marks : Marks) (ids : List Id) → silent pre marks ids ≡ leave pre marks ids → (h : Heard)
       → walk (left pre marks) (path pre marks) ids h >>= unwind pre marks ≡ resumed (hears pre marks ids h)
   unfolding hears resumed
@@ -137,7 +137,7 @@ module _ (pre : Prefix) where
   unfolding unwind
   loud marks m = rw (level marks) (bind-assoc m _ _)
 
-  -- what a zero child holds
+  -- What a zero child holds.
   zero-sim : (marks : Marks) (ids : List Id) (z : Heard)
       → (walk (left pre (false ∷ marks)) (path pre marks ▹ false) ids z >>= λ ids₁. cond (isNothing z) (return garble) (ask (path pre marks ▹ true)) >>= λ o.
       walk (left pre (false ∷ marks)) (path pre marks ▹ true) ids₁ o) >>= unwind pre marks ≡ resumed (hears pre (false ∷ marks) ids z)
@@ -147,7 +147,7 @@ module _ (pre : Prefix) where
   zero-sim marks ids unaddressed = loud marks (walk (left pre (false ∷ marks)) (path pre marks ▹ false) ids unaddressed) ∙ unaddressed-sim (false ∷ marks) ids
   zero-sim marks ids garble = loud marks (walk (left pre (false ∷ marks)) (path pre marks ▹ false) ids garble) ∙ garble-sim (false ∷ marks) ids
 
--- an answer, refused for its length or not
+-- An answer, refused for its length or not.
 ask-sim : (p : Prefix) (f : Heard → Walk (List Id)) (next : Heard → Next) → ((h : Heard) → f h ≡ resumed (next h))
     → ask p >>= f ≡ select p (λ h. resumed (cond (long h) (ended (stopped 14)) (next h)))
 unfolding ask _>>=_ resumed

@@ -20,7 +20,7 @@ insert-past : (x y : Id) (l : List Id) → before x y ≡ false → insert x (y 
 unfolding insert
 insert-past x y l e = rw e
 
--- both stand before all of l
+-- Both stand before all of l.
 pair-front : (x y : Id) (l : List Id) → insert x l ≡ x ∷ l → insert y l ≡ y ∷ l → insert x (insert y l) ≡ insert y (insert x l)
 pair-front x y l e f = rw (e, f) (go (before x y) refl (before y x) refl)
   where
