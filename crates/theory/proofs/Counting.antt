@@ -1,7 +1,7 @@
 -- The sums of document 01's count.
 -- Assumes nothing.
 use Prim.Native.Nat.{ℕ, zero, suc, _+_, _-_, _≤_, _<_}
-use mathlib.Core.Bool.{Bool, true, false, _||_}
+use mathlib.Core.Bool.{Bool, true, false, _||_, or-true}
 use mathlib.Core.List.{List}
 use mathlib.Core.Path.{_≡_, refl, sym, _∙_, ap}
 use native.Mathlib.Omega.{arith}
@@ -24,10 +24,6 @@ sum-quiet ids (suc d) q h =
       sum-quiet ids d (q ▹ true) (omega (arith, count-child ids q true)),
     )
 
-or-right : (a b : Bool) → b ≡ true → a || b ≡ true
-or-right true b e = refl
-or-right false b e = e
-
 some-true : (n : ℕ) (test : ℕ → Bool) (i : ℕ) → i < n → test i ≡ true → some n test ≡ true
 unfolding some
 some-true zero test i h e = absurd (omega arith)
@@ -35,7 +31,7 @@ some-true (suc n) test i h e = go (some-true n test i) (eqb i n) refl
   where
     go : (i < n → test i ≡ true → some n test ≡ true) → (b : Bool) → eqb i n ≡ b → test n || some n test ≡ true
     go ih true f = let t : test n ≡ true = ap test (sym (eqb-true i n f)) ∙ e in rw t
-    go ih false f = let g : (i ≡ n → ⊥) = eqb-false i n f in or-right (test n) (some n test) (ih (omega arith) e)
+    go ih false f = let g : (i ≡ n → ⊥) = eqb-false i n f in let t = ih (omega arith) e in rw t (or-true (test n))
 
 some-false : (n : ℕ) (test : ℕ → Bool) → ((i : ℕ) → i < n → test i ≡ false) → some n test ≡ false
 unfolding some
