@@ -124,11 +124,11 @@ pub fn answer(bytes: &[u8]) -> Answered
         match r {
             Reading::Short => break Answered::Lost,
             Reading::TooLong => break Answered::Lost,
-            Reading::BadCheck(f) => {
-                if f.status != 0 {
-                    break Answered::Device(3, f.end);
+            Reading::BadCheck(bad) => {
+                if bad.status != 0 {
+                    break Answered::Device(3, bad.end);
                 }
-                at = f.end;
+                at = bad.end;
             }
             Reading::Whole(f) => {
                 if f.status != 0 {
@@ -145,10 +145,10 @@ pub fn answer(bytes: &[u8]) -> Answered
 fn replied(f: Frame) -> Answered
     ensures { λ r. ⌜ r ≡ repliedBy f ⌝ }
 {
-    if f.status == 1 {
-        return Answered::Ok(f.payload, f.len, f.end);
+    if f.status != 1 {
+        return Answered::Device(f.status, f.end);
     }
-    Answered::Device(f.status, f.end)
+    Answered::Ok(f.payload, f.len, f.end)
 }
 
 // The unread rest of the lent record; empty if the place is past the end.

@@ -41,9 +41,6 @@ module _ (s : List ℕ) (i : ℕ) (e : i + skipped (drop i s) ≡ skipped s) whe
       none : skipped (drop i s) ≡ 0
       none = rw (drop-of-length-le s {i = i} h)
 
-pub head-length : (s : List ℕ) (n : ℕ) → 12 + n ≤ length s → 10 + n ≡ length (take (10 + n) s)
-head-length s n h = sym (length-take-le (10 + n) s (omega arith))
-
 pub checked : (s : List ℕ) (n c w : ℕ) → c ≡ crcFrom 0xFFFF (take (10 + n) s) → w ≡ field (10 + n) 2 s → eqb c w ≡ rightCheck n s
 unfolding rightCheck check
 checked s n c w ec ew = rw (ec, ew)

@@ -34,9 +34,6 @@ add-if1 c = search (ten-fit, needs)
 heard-as-requires-2 : tie.Need-heard-as-requires-2 Inv-loop μ-loop
 heard-as-requires-2 c κs = search needs
 
-returns-2 : tie.Need-returns-2 Inv-loop μ-loop
-returns-2 c = search (hears-skipped, needs)
-
 noted-requires : tie.Need-noted-requires Inv-loop μ-loop
 noted-requires c κs = search needs
 
@@ -45,6 +42,9 @@ loop-less c = search (less true, needs)
 
 loop-again : tie.Need-loop-again Inv-loop μ-loop
 loop-again c = (search (inside true, needs), search (further, needs))
+
+returns-2 : tie.Need-returns-2 Inv-loop μ-loop
+returns-2 c = search (hears-skipped, needs)
 
 concluded-requires : tie.Need-concluded-requires Inv-loop μ-loop
 concluded-requires c κs = search (hears-within, needs)

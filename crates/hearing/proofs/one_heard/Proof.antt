@@ -6,9 +6,6 @@ use Rattle.hearing.proofs.one_heard.Tie as tie
 heard-as-requires : tie.Need-heard-as-requires
 heard-as-requires c κs = search needs
 
-returns : tie.Need-returns
-returns c = search (heard-too-long, needs)
-
 add-e : tie.Need-add-e
 add-e c = search needs
 
@@ -23,6 +20,9 @@ part-of-end c = search needs
 
 of-requires : tie.Need-of-requires
 of-requires c κs = search needs
+
+returns : tie.Need-returns
+returns c = search (heard-too-long, needs)
 
 returns-2 : tie.Need-returns-2
 returns-2 c = search (heard-one, needs)

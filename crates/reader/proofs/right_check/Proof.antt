@@ -1,4 +1,6 @@
-use Rattle.reader.proofs.Ways.{checked, head-length}
+use native.Mathlib.Omega.{arith}
+use lib.ListN.{length-take}
+use Rattle.reader.proofs.Ways.{checked}
 use borrow.Author.Needs.{needs}
 use Rattle.reader.proofs.right_check.Statement.{statement}
 use Rattle.reader.proofs.right_check.Tie as tie
@@ -7,7 +9,7 @@ add-e : tie.Need-add-e
 add-e c = search needs
 
 slice-aggregate-crc16 : tie.Need-slice-aggregate-crc16
-slice-aggregate-crc16 c = search (head-length, needs)
+slice-aggregate-crc16 c = simp length-take (omega arith)
 
 crc16-requires : tie.Need-crc16-requires
 crc16-requires c κs = search needs
