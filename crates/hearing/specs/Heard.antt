@@ -21,6 +21,13 @@ use Rattle.hearing.specs.declared.Replies.the-variants.{None, Several}
 use Rattle.hearing.specs.declared.Answered.{Answered}
 use Rattle.hearing.specs.declared.Answered.the-variants.{Lost, Device, Ok}
 
+abbrev pub onHeard {ℓ} : {A : Type ℓ} → Heard → A → A → A → A → A → A
+onHeard Nothing n o t u g = n
+onHeard Heard.One n o t u g = o
+onHeard TooLong n o t u g = t
+onHeard Unaddressed n o t u g = u
+onHeard Garble n o t u g = g
+
 abbrev pub onReplies {ℓ} : {A : Type ℓ} → Replies → A → (Frame → A) → A → A
 onReplies None none this many = none
 onReplies (Replies.One f) none this many = this f

@@ -12,10 +12,11 @@ use lib.Dec.{leb, eqb}
 use lib.ListN.{length, take, drop, getD, replicate, length-take, drop-of-length-le, List·getD-eq-default}
 use lib.Seq.{take-all, drop-cons, getD-take}
 use borrow.Author.Tests.{lt-ltb, le-ltb, lt-leb, le-leb, eq-eqb, ne-eqb}
+use Rattle.paper.specs.Walk.{sameId}
 use Rattle.paper.specs.Hearing.{bit, bitsOf, before}
 use Rattle.lore.proofs.Copy.{copy-done}
 use Rattle.lore.proofs.Bits.{bits-length, bits-at}
-use Rattle.ids.specs.Ids.{bitOf, idFrom, sameId}
+use Rattle.ids.specs.Ids.{bitOf, idFrom}
 
 -- The size of an id in 16 bytes.
 module _ (bytes : List ℕ) (len : ℕ) (long : length bytes ≡ 16) where

@@ -1,9 +1,7 @@
 -- Bits of bytes as numbers, and the id that a value holds.
 -- Assumes nothing.
 use Prim.Native.Nat.{ℕ, _+_, _-_, _*_, _/_, _%_, _^_}
-use mathlib.Core.Bool.{Bool, true, false, _&&_}
-use mathlib.Core.List.{List, [], _∷_, _++_}
-use lib.Dec.{eqb}
+use mathlib.Core.List.{List, _++_}
 use lib.ListN.{length, getD, take, set, replicate}
 use Rattle.ids.specs.declared.Id.{Id}
 
@@ -27,9 +25,3 @@ noId = record { bytes = replicate 16 0; len = 0 }
 -- The value of an id of at most 16 bytes.
 unfoldable pub idFrom : List ℕ → Id
 idFrom id = record { bytes = id ++ replicate (16 - length id) 0; len = length id }
-
-unfoldable pub sameId : List ℕ → List ℕ → Bool
-sameId [] [] = true
-sameId [] (y ∷ ys) = false
-sameId (x ∷ xs) [] = false
-sameId (x ∷ xs) (y ∷ ys) = eqb x y && sameId xs ys
