@@ -1,7 +1,7 @@
 // A path of up to 128 bits in 16 bytes: cut at a bit, and compared with an id.
 use ids::Id;
 ghost use mathlib.Core.Path.{_≡_};
-ghost use Prim.Native.Nat.{_*_, _%_, _^_, _≤_, _<_};
+ghost use Prim.Native.Nat.{_%_, _^_, _≤_, _<_};
 ghost use mathlib.Core.Bool.{Bool·beq};
 ghost use lib.ListN.{take};
 ghost use Rattle.paper.specs.Hearing.{bit, bitsOf, begins};
