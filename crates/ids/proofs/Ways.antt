@@ -55,7 +55,7 @@ pub copied : (id out : List ℕ) (i : ℕ) → i ≤ length id → length id ≤
 copied id out i h g e = id-is id out i (omega arith) (copy-done id (replicate 16 0) out i e h g)
 
 -- As much of the bytes as the id has is the id.
-sized : (bytes : List ℕ) (len n : ℕ) → n ≡ length (take len bytes) → take n bytes ≡ take len bytes
+pub sized : (bytes : List ℕ) (len n : ℕ) → n ≡ length (take len bytes) → take n bytes ≡ take len bytes
 sized bytes len n e = go (decLt len (length bytes))
   where
     go : Dec (len < length bytes) → take n bytes ≡ take len bytes

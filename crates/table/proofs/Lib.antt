@@ -1,0 +1,5 @@
+pub mod Paste
+pub mod Ways
+pub mod Blocks
+pub mod Rows
+pub mod Sorts

@@ -1,0 +1,66 @@
+use Rattle.walk.specs.Steps.{long}
+use borrow.Author.Needs.{needs}
+use Rattle.walk.proofs.long.Statement.{statement}
+use Rattle.walk.proofs.long.Tie as tie
+use Rattle.walk.proofs.long.Reads as reads
+use Rattle.walk.proofs.long.Lts as lts
+
+-- src/lib.rt:402:27
+enum-told : tie.Need-enum-told
+enum-told c = search needs
+
+-- src/lib.rt:403:23
+enum-told-2 : tie.Need-enum-told-2
+enum-told-2 c = search needs
+
+-- src/lib.rt:404:27
+enum-told-3 : tie.Need-enum-told-3
+enum-told-3 c = search needs
+
+-- src/lib.rt:405:31
+enum-told-4 : tie.Need-enum-told-4
+enum-told-4 c = search needs
+
+-- src/lib.rt:406:26
+enum-told-5 : tie.Need-enum-told-5
+enum-told-5 c = search needs
+
+-- src/lib.rt:398:1
+returns : tie.Need-returns
+unfolding long
+returns c = search needs
+
+-- src/lib.rt:398:1
+returns-2 : tie.Need-returns-2
+unfolding long
+returns-2 c = search needs
+
+-- src/lib.rt:398:1
+returns-3 : tie.Need-returns-3
+unfolding long
+returns-3 c = search needs
+
+-- src/lib.rt:398:1
+returns-4 : tie.Need-returns-4
+unfolding long
+returns-4 c = search needs
+
+-- src/lib.rt:398:1
+returns-5 : tie.Need-returns-5
+unfolding long
+returns-5 c = search needs
+
+pub long-spec : {M : Type 1} → statement M
+long-spec =
+    tie.close
+    (tie.spec
+    enum-told
+    enum-told-2
+    enum-told-3
+    enum-told-4
+    enum-told-5
+    returns
+    returns-2
+    returns-3
+    returns-4
+    returns-5)
