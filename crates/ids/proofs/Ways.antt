@@ -1,12 +1,11 @@
 -- The ways through the functions on ids, from the facts that the code has.
 -- Assumes nothing.
-use Prim.Native.Nat.{ℕ, zero, suc, _+_, _*_, _-_, _/_, _%_, _<_, _≤_}
+use Prim.Native.Nat.{ℕ, suc, _+_, _*_, _-_, _/_, _%_, _<_, _≤_}
 use mathlib.Core.Bool.{Bool, true, false}
 use mathlib.Core.List.{List, [], _∷_, _++_}
 use mathlib.Core.Path.{_≡_, sym, _∙_, ap, ap₂}
 use native.Mathlib.Decide.{decLt}
-use native.Mathlib.Nat.{zero-sub}
-use native.Mathlib.Numerals.{add-one, unary-clauses}
+use native.Mathlib.Numerals.{add-one}
 use native.Mathlib.Omega.{arith}
 use lib.Dec.{leb, eqb}
 use lib.ListN.{length, take, drop, getD, replicate, length-take, drop-of-length-le, List·getD-eq-default}
@@ -14,6 +13,7 @@ use lib.Seq.{take-all, drop-cons, getD-take}
 use borrow.Author.Tests.{lt-ltb, le-ltb, lt-leb, le-leb, eq-eqb, ne-eqb}
 use Rattle.paper.specs.Walk.{sameId}
 use Rattle.paper.specs.Hearing.{bit, bitsOf, before}
+use Rattle.lore.proofs.Lists.{drop-replicate}
 use Rattle.lore.proofs.Copy.{copy-done}
 use Rattle.lore.proofs.Bits.{bits-length, bits-at}
 use Rattle.ids.specs.Ids.{bitOf, idFrom}
@@ -42,14 +42,9 @@ module _ (x : List ℕ) (len n k : ℕ) (xe : n ≡ length (take len x)) where
   pub bit-out : 8 * n ≤ k → false ≡ getD (bitsOf (take len x)) k false
   bit-out h = sym (List·getD-eq-default (bitsOf (take len x)) false {n = k} (omega (arith, bits-length (take len x))))
 
-drop-replicate : (n v k : ℕ) → drop k (replicate n v) ≡ replicate (n - k) v
-drop-replicate n v zero = simp unary-clauses
-drop-replicate zero v (suc k) = rw (zero-sub (suc k))
-drop-replicate (suc n) v (suc k) = simp unary-clauses (drop-replicate n v k)
-
 pub id-is : (id out : List ℕ) (i : ℕ) → i ≡ length id → out ≡ id ++ drop (length id) (replicate 16 0) → record { bytes = out; len = i } ≡ idFrom id
 unfolding idFrom
-id-is id out i e f = rw (e, f, drop-replicate 16 0 (length id))
+id-is id out i e f = rw (e, f, drop-replicate {A = ℕ} 16 0 (length id))
 
 pub copied : (id out : List ℕ) (i : ℕ) → i ≤ length id → length id ≤ i → out ≡ take i id ++ drop i (replicate 16 0) → record { bytes = out; len = i } ≡ idFrom id
 copied id out i h g e = id-is id out i (omega arith) (copy-done id (replicate 16 0) out i e h g)

@@ -1,9 +1,11 @@
 pub mod Choice
 pub mod Words
 pub mod Copy
+pub mod Lists
 pub mod Parts
 pub mod Rows
 pub mod Bits
 pub mod Hex
 pub mod Frames
 pub mod Readings
+pub mod Packed

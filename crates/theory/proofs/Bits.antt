@@ -1,27 +1,13 @@
 -- The bits of an id, a byte at a time.
 -- Assumes nothing.
-use Prim.Native.Nat.{ℕ, zero, suc, _+_, _*_, _/_, _%_, _<_}
+use Prim.Native.Nat.{ℕ, suc, _+_, _*_, _/_, _%_, _<_}
 use mathlib.Core.List.{List, [], _∷_, _++_}
-use mathlib.Core.Path.{_≡_, refl, sym, _∙_, ap, ap₂}
-use native.Mathlib.Nat.{zero-add, add-zero, suc-add, add-suc}
+use mathlib.Core.Path.{_≡_, sym, _∙_, ap, ap₂}
+use native.Mathlib.Nat.{zero-add}
 use native.Mathlib.Omega.{arith}
 use lib.ListN.{length}
+use Rattle.lore.proofs.Bits.{counting-add, counting-same}
 use Rattle.paper.specs.Hearing.{bit, counting, bitsOf}
-
-module _ {A : Type 0} where
-  -- The count in two parts.
-  counting-add : (f : ℕ → A) (m n k : ℕ) → counting f k (m + n) ≡ counting f k m ++ counting f (k + m) n
-  unfolding counting
-  counting-add f zero n k = rw (zero-add, add-zero)
-  counting-add f (suc m) n k = rw (suc-add, add-suc) (ap (f k ∷_) (rw suc-add at (counting-add f m n (suc k))))
-
-  -- Two functions that agree on the numbers counted.
-  counting-same : (f g : ℕ → A) (n k j : ℕ) → ((i : ℕ) → i < n → f (k + i) ≡ g (j + i)) → counting f k n ≡ counting g j n
-  unfolding counting
-  counting-same f g zero k j h = refl
-  counting-same f g (suc n) k j h =
-      ap₂ _∷_ (simp add-zero at (h 0 (omega arith)))
-      (counting-same f g n (suc k) (suc j) (λ i l. simp suc-add (simp add-suc at (h (suc i) (omega arith)))))
 
 bit-first : (b : ℕ) (bs cs : List ℕ) (i : ℕ) → i < 8 → bit (b ∷ bs) i ≡ bit (b ∷ cs) i
 unfolding bit

@@ -10,6 +10,7 @@ use lib.Dec.{leb}
 use borrow.Author.Tests.{leb-true, ltb-false}
 use Rattle.paper.specs.Frame.{Info}
 use Rattle.paper.specs.Count.{All}
+use Rattle.theory.proofs.Each.{all-weaken}
 use Rattle.paper.specs.Answers.{chunk, padding, padded, steps, apart, below, eraseAddresses, spansTooFar}
 
 pub chunk-multiple : (m : ℕ) → chunk m % 4 ≡ 0
@@ -55,10 +56,6 @@ unfolding eraseAddresses below
 addresses-span info h =
     let none : info .capacity - 0 ≡ info .capacity = omega arith in
     rw none (apart-below (info .eraseSize) (steps (info .eraseSize) (info .capacity)) 0 (steps (info .eraseSize) (info .capacity) * info .eraseSize) h (omega arith))
-
-all-weaken : (P Q : ℕ → Type 0) (xs : List ℕ) → ((x : ℕ) → P x → Q x) → All P xs → All Q xs
-all-weaken P Q [] f h = tt
-all-weaken P Q (x ∷ xs) f h = (f x (h .0), all-weaken P Q xs f (h .1))
 
 -- No address wraps, nor the number reported after it, unless 19 was given.
 pub addresses-fit : (info : Info) → 0 < info .eraseSize → spansTooFar info ≡ false → All (λ x. x + info .eraseSize ≤ 0xFFFFFFFF) (eraseAddresses info)

@@ -1,0 +1,22 @@
+-- A Select's bits, byte for byte.
+-- Assumes nothing.
+use Prim.Native.Nat.{ℕ, _+_, _-_, _*_, _/_, _%_, _^_}
+use mathlib.Core.Bool.{Bool, false, cond}
+use mathlib.Core.List.{List, _++_}
+use lib.Dec.{leb, ltb}
+use lib.ListN.{getD, take, replicate}
+use Rattle.paper.specs.Frame.{Frame, command-Select, status-Request}
+use Rattle.paper.specs.Hearing.{Prefix, bitsOf, selectPayload}
+
+-- The first so many bits of 16 bytes, zeros after them.
+abbrev pub asked : List ℕ → ℕ → Prefix
+asked bits count = take count (bitsOf bits ++ replicate 127 false)
+
+abbrev pub bytesFor : ℕ → ℕ
+bytesFor count = (count + 7) / 8
+
+unfoldable pub byteAt : List ℕ → ℕ → ℕ → ℕ
+byteAt bits count i = cond (leb 16 i) 0 (cond (leb 8 (count - 8 * i)) (getD bits i 0) (getD bits i 0 % 2 ^ (count - 8 * i)))
+
+abbrev pub selectFrame : ℕ → Prefix → Frame
+selectFrame seed bits = record { command = command-Select; status = status-Request; flags = 0; address = 0; payload = selectPayload seed bits }
