@@ -64,18 +64,20 @@ fn right_check(s: &[u8], n: usize) -> bool
     c == wire::get16(s, e)
 }
 
-fn read_sized(s: &[u8], base: usize, n: usize) -> Reading
+fn read_sized(s: &[u8], base: usize, n: u16) -> Reading
     requires { ⌜ base + length (now s) < 2 ^ 64 ⌝ }
     ensures { λ r. ⌜ r ≡ shownFrom base (readSized 0 n (now (s .entry))) ⌝ }
 {
-    if 1024 < n {
+    let len = n as usize;
+    let size = 12 + len;
+    if 1024 < len {
         return Reading::TooLong;
     }
-    if s.len() < 12 + n {
+    if s.len() < size {
         return Reading::Short;
     }
-    let f = fields(s, base, n);
-    if right_check(s, n) {
+    let f = fields(s, base, len);
+    if right_check(s, len) {
         Reading::Whole(f)
     } else {
         Reading::BadCheck(f)
@@ -87,10 +89,10 @@ fn read_synced(s: &[u8], base: usize) -> Reading
     ensures { λ r. ⌜ r ≡ shownFrom base (readSynced 0 (now (s .entry))) ⌝ }
 {
     if s.len() < 10 {
-        return Reading::Short;
+        Reading::Short
+    } else {
+        read_sized(s, base, wire::get16(s, 8))
     }
-    let n = wire::get16(s, 8) as usize;
-    read_sized(s, base, n)
 }
 
 // The frame from a place of the record on; short if the place is past the end.
@@ -98,8 +100,9 @@ pub fn read(bytes: &[u8], at: usize) -> Reading
     ensures { λ r. ⌜ r ≡ shownFrom at (read (drop at (now (bytes .entry)))) ⌝ }
 {
     if bytes.len() < at {
-        return Reading::Short;
+        Reading::Short
+    } else {
+        let from = at + skipped(&bytes[at..]);
+        read_synced(&bytes[from..], from)
     }
-    let from = at + skipped(&bytes[at..]);
-    read_synced(&bytes[from..], from)
 }

@@ -3,9 +3,6 @@ use borrow.Author.Needs.{needs}
 use Rattle.reader.proofs.read.Statement.{statement}
 use Rattle.reader.proofs.read.Tie as tie
 
-returns : tie.Need-returns
-returns c = search (read-past, needs)
-
 sub-skipped : tie.Need-sub-skipped
 sub-skipped c = search needs
 
@@ -33,6 +30,9 @@ part-read-synced-end c = search needs
 read-synced-requires : tie.Need-read-synced-requires
 read-synced-requires c κs = search needs
 
+returns : tie.Need-returns
+returns c = search (read-past, needs)
+
 returns-2 : tie.Need-returns-2
 returns-2 c = search (read-from, needs)
 
@@ -40,7 +40,6 @@ pub read-spec : {M : Type 1} → statement M
 read-spec =
     tie.close
     (tie.spec
-    returns
     sub-skipped
     part-skipped-start
     part-skipped-end
@@ -50,4 +49,5 @@ read-spec =
     part-read-synced-start
     part-read-synced-end
     read-synced-requires
+    returns
     returns-2)

@@ -5,12 +5,12 @@ use borrow.Author.Needs.{needs}
 use Rattle.reader.proofs.read_sized.Statement.{statement}
 use Rattle.reader.proofs.read_sized.Tie as tie
 
+add-size : tie.Need-add-size
+add-size c = search needs
+
 returns : tie.Need-returns
 unfolding readSized
 returns c = search (ways, needs)
-
-add-if2 : tie.Need-add-if2
-add-if2 c = search needs
 
 returns-2 : tie.Need-returns-2
 unfolding readSized
@@ -31,4 +31,4 @@ returns-4 c = search read-bad
 pub read-sized-spec : {M : Type 1} → statement M
 read-sized-spec =
     tie.close
-    (tie.spec returns add-if2 returns-2 fields-requires right-check-requires returns-3 returns-4)
+    (tie.spec add-size returns returns-2 fields-requires right-check-requires returns-3 returns-4)
