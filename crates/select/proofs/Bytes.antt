@@ -1,9 +1,9 @@
 -- Each byte of the packed bits: a whole byte, the lowest bits of one, or zero after the sixteenth.
 -- Assumes nothing.
 use Prim.Native.Nat.{ℕ, zero, suc, _+_, _-_, _*_, _/_, _%_, _^_, _<_, _≤_}
-use mathlib.Core.Bool.{Bool, true, false, cond}
-use mathlib.Core.List.{List, [], _∷_, _++_}
-use mathlib.Core.Path.{_≡_, refl, sym, _∙_, ap}
+use mathlib.Core.Bool.{Bool, false}
+use mathlib.Core.List.{List, _++_}
+use mathlib.Core.Path.{_≡_, refl, _∙_, ap}
 use native.Mathlib.Decide.{decLt}
 use native.Mathlib.Omega.{arith}
 use lib.ListN.{length, getD, take, drop, replicate, length-take, length-drop}
@@ -13,7 +13,7 @@ use Rattle.paper.specs.Hearing.{bitsOf, binary, packed}
 use Rattle.lore.proofs.Bits.{bits-length, bits-byte}
 use Rattle.lore.proofs.Lists.{drop-take, drop-replicate}
 use Rattle.lore.proofs.Packed.{packed-at, binary-bits}
-use Rattle.select.specs.Selects.{asked, bytesFor, byteAt}
+use Rattle.select.specs.Selects.{asked, bytesFor, lowest, byteAt}
 
 binary-zeros : (k n : ℕ) → binary (take k (replicate n false)) ≡ 0
 unfolding binary
@@ -53,9 +53,9 @@ module _ (bits : List ℕ) (count i : ℕ) (long : length bits ≡ 16) where
       whole : (n : ℕ) → n / 2 ^ 0 ≡ n
       whole n = omega arith
 
-  pub packed-byte : getD bits i 0 < 256 → i < bytesFor count → getD (packed (bytesFor count) (asked bits count)) i 0 ≡ byteAt bits count i
-  unfolding byteAt
-  packed-byte small h = packed-at (bytesFor count) i (asked bits count) h ∙ go (decLt i 16) (decLt (count - 8 * i) 8)
+  pub packed-byte : i < bytesFor count → getD (packed (bytesFor count) (asked bits count)) i 0 ≡ byteAt bits count i
+  unfolding byteAt lowest
+  packed-byte h = packed-at (bytesFor count) i (asked bits count) h ∙ go (decLt i 16) (decLt (count - 8 * i) 8)
     where
       go : Dec (i < 16) → Dec (count - 8 * i < 8) → binary (take 8 (drop (8 * i) (asked bits count))) ≡ byteAt bits count i
       go (no n) l = rw (le-leb 16 i (omega arith)) (beyond (omega arith))
@@ -64,6 +64,5 @@ module _ (bits : List ℕ) (count i : ℕ) (long : length bits ≡ 16) where
           (ap binary (here ∙ take-all 8 (take (count - 8 * i) (drop (8 * i) (bitsOf bits ++ zeros))) (omega (arith, length-take (count - 8 * i) (drop (8 * i) (bitsOf bits ++ zeros)))))
           ∙ inside (count - 8 * i) n (omega arith))
       go (yes n) (no l) =
-          let e : getD bits i 0 % 2 ^ 8 ≡ getD bits i 0 = omega arith in
           rw (lt-leb 16 i n, le-leb 8 (count - 8 * i) (omega arith))
-          (ap binary (here ∙ take-take 8 (count - 8 * i) (drop (8 * i) (bitsOf bits ++ zeros)) (omega arith)) ∙ inside 8 n (omega arith) ∙ e)
+          (ap binary (here ∙ take-take 8 (count - 8 * i) (drop (8 * i) (bitsOf bits ++ zeros)) (omega arith)) ∙ inside 8 n (omega arith))

@@ -15,8 +15,12 @@ asked bits count = take count (bitsOf bits ++ replicate 127 false)
 abbrev pub bytesFor : ℕ → ℕ
 bytesFor count = (count + 7) / 8
 
+-- As many of a byte's lowest bits as are left.
+unfoldable pub lowest : ℕ → ℕ → ℕ
+lowest x left = cond (leb 8 left) (x % 2 ^ 8) (x % 2 ^ left)
+
 unfoldable pub byteAt : List ℕ → ℕ → ℕ → ℕ
-byteAt bits count i = cond (leb 16 i) 0 (cond (leb 8 (count - 8 * i)) (getD bits i 0) (getD bits i 0 % 2 ^ (count - 8 * i)))
+byteAt bits count i = cond (leb 16 i) 0 (lowest (getD bits i 0) (count - 8 * i))
 
 abbrev pub selectFrame : ℕ → Prefix → Frame
 selectFrame seed bits = record { command = command-Select; status = status-Request; flags = 0; address = 0; payload = selectPayload seed bits }

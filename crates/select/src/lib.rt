@@ -2,12 +2,12 @@
 use frame::Head;
 use wire::Written;
 ghost use mathlib.Core.Path.{_≡_};
-ghost use mathlib.Core.List.{_++_};
+ghost use mathlib.Core.List.{[], _∷_, _++_};
 ghost use Prim.Native.Nat.{_+_, _≤_, _<_};
 ghost use lib.ListN.{length, drop};
 ghost use Rattle.paper.specs.Hearing.{packed, selectPayload};
 ghost use Rattle.frame.specs.Writing.{written};
-ghost use Rattle.select.specs.Selects.{asked, bytesFor, byteAt, selectFrame};
+ghost use Rattle.select.specs.Selects.{asked, bytesFor, lowest, byteAt, selectFrame};
 
 // How many bytes hold so many bits.
 fn bytes_for(count: u8) -> usize
@@ -17,7 +17,17 @@ fn bytes_for(count: u8) -> usize
     (count as usize + 7) / 8
 }
 
-// Byte i of the first bits: whole, or its lowest bits by shift and mask. There is no bit after the sixteenth byte.
+// As many of a byte's lowest bits as are left, by shift and mask.
+fn lowest(x: u8, left: usize) -> u8
+    ensures { λ r. ⌜ r ≡ lowest x left ⌝ }
+{
+    if 8 <= left {
+        return x;
+    }
+    path::low_bits(x, left)
+}
+
+// Byte i of the first bits. There is no bit after the sixteenth byte.
 fn byte_at(bits: [u8; 16], count: u8, i: usize) -> u8
     requires { ⌜ i < bytesFor count ⌝ }
     ensures { λ r. ⌜ r ≡ byteAt bits count i ⌝ }
@@ -25,21 +35,7 @@ fn byte_at(bits: [u8; 16], count: u8, i: usize) -> u8
     if 16 <= i {
         return 0;
     }
-    let left = count as usize - 8 * i;
-    if 8 <= left {
-        return bits[i];
-    }
-    path::low_bits(bits[i], left)
-}
-
-// The payload writer: seed, bit count, then the bits in as few bytes as hold them, spare bits 0.
-fn put_select(dst: &mut [u8], seed: u8, bits: [u8; 16], count: u8)
-    requires { ⌜ 2 + bytesFor count ≤ length (now dst) ⌝ }
-    ensures { λ _. ⌜ now (dst .exit) ≡ selectPayload seed (asked bits count) ++ drop (2 + bytesFor count) (now (dst .entry)) ⌝ }
-{
-    dst[0] = seed;
-    dst[1] = count;
-    put_bits(&mut dst[2..], bits, count);
+    lowest(bits[i], count as usize - 8 * i)
 }
 
 fn put_bits(dst: &mut [u8], bits: [u8; 16], count: u8)
@@ -52,6 +48,23 @@ fn put_bits(dst: &mut [u8], bits: [u8; 16], count: u8)
         dst[i] = byte_at(bits, count, i);
         i += 1;
     }
+}
+
+fn put_pair(dst: &mut [u8], a: u8, b: u8)
+    requires { ⌜ 2 ≤ length (now dst) ⌝ }
+    ensures { λ _. ⌜ now (dst .exit) ≡ (a ∷ b ∷ []) ++ drop 2 (now (dst .entry)) ⌝ }
+{
+    dst[0] = a;
+    dst[1] = b;
+}
+
+// The payload writer: seed, bit count, then the bits in as few bytes as hold them, spare bits 0.
+fn put_select(dst: &mut [u8], seed: u8, bits: [u8; 16], count: u8)
+    requires { ⌜ 2 + bytesFor count ≤ length (now dst) ⌝ }
+    ensures { λ _. ⌜ now (dst .exit) ≡ selectPayload seed (asked bits count) ++ drop (2 + bytesFor count) (now (dst .entry)) ⌝ }
+{
+    put_pair(dst, seed, count);
+    put_bits(&mut dst[2..], bits, count);
 }
 
 // A Select of the first so many bits, those after the sixteenth byte zero.
