@@ -42,19 +42,14 @@ module _ (w : Walk) where
   unfolding mark
   mark-in h = sym (marks-at (w .depth) (omega arith))
 
-  deep : (m : ℕ) → 0 < m → m ≡ mark w → 0 < w .depth
+  -- A mark that is not 0 stands on a level.
+  pub deep : (m k : ℕ) → m ≡ mark w → m ≡ k → 0 < k → 0 < w .depth
   unfolding mark
-  deep m h e = go (w .depth) refl
+  deep m k e f h = go (w .depth) refl
     where
       go : (d : ℕ) → w .depth ≡ d → 0 < w .depth
-      go zero f = let z : m ≡ 0 = e ∙ rw f in absurd (omega arith)
-      go (suc d) f = omega arith
-
-  pub deep-one : (m : ℕ) → m ≡ mark w → m ≡ 1 → 0 < w .depth
-  deep-one m e f = deep m (omega arith) e
-
-  pub deep-two : (m : ℕ) → m ≡ mark w → m ≡ 2 → 0 < w .depth
-  deep-two m e f = deep m (omega arith) e
+      go zero g = let z : m ≡ 0 = e ∙ rw g in absurd (omega arith)
+      go (suc d) g = omega arith
 
   pub lower-is : record { path = w .path; depth = w .depth + 1; marks = set (w .marks) (w .depth) 1; found = w .found; candidate = w .candidate } ≡ lower w
   unfolding lower
@@ -84,7 +79,7 @@ module _ (w : Walk) where
   pub climb-on : (v w₀ : Walk) (m : ℕ) → climb (w .depth) w ≡ climb (w₀ .depth) w₀ → m ≡ mark w → m ≡ 2 → v ≡ raise w → climb (v .depth) v ≡ climb (w₀ .depth) w₀
   unfolding climb raise
   climb-on v w₀ m q e f ev =
-      let h : 0 < w .depth = deep m (omega arith) e in
+      let h : 0 < w .depth = deep m 2 e f (omega arith) in
       let z : w .depth ≡ suc (w .depth - 1) = omega arith in
       ap (λ (u : Walk). climb (u .depth) u) ev
       ∙ ap (λ (b : Bool). cond b (climb (w .depth - 1) (raise w)) w) (sym (eq-eqb (mark w) 2 (sym e ∙ f)))

@@ -1,7 +1,7 @@
 -- `steps::leave` meets its contract.
 -- Assumes nothing.
 use Rattle.steps.proofs.Ways.{leave-on, leave-up}
-use Rattle.walk.proofs.Ways.{deep-one}
+use Rattle.walk.proofs.Ways.{deep}
 use borrow.Author.Needs.{needs}
 use Rattle.steps.proofs.leave.Statement.{statement}
 use Rattle.steps.proofs.leave.Tie as tie
@@ -13,7 +13,7 @@ mark-requires : tie.Need-mark-requires
 mark-requires c κs = search needs
 
 turn-requires : tie.Need-turn-requires
-turn-requires c κs = search (deep-one, needs)
+turn-requires c κs = search (deep, needs)
 
 going-requires : tie.Need-going-requires
 going-requires c κs = search needs

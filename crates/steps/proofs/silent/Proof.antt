@@ -1,7 +1,7 @@
 -- `steps::silent` meets its contract.
 -- Assumes nothing.
 use Rattle.steps.proofs.Ways.{silent-zero, silent-else}
-use Rattle.walk.proofs.Ways.{deep-one}
+use Rattle.walk.proofs.Ways.{deep}
 use borrow.Author.Needs.{needs}
 use Rattle.steps.proofs.silent.Statement.{statement}
 use Rattle.steps.proofs.silent.Tie as tie
@@ -10,7 +10,7 @@ mark-requires : tie.Need-mark-requires
 mark-requires c κs = search needs
 
 turn-requires : tie.Need-turn-requires
-turn-requires c κs = search (deep-one, needs)
+turn-requires c κs = search (deep, needs)
 
 descend-requires : tie.Need-descend-requires
 descend-requires c κs = search needs

@@ -1,6 +1,6 @@
 -- `walk::Walk::climb` meets its contract. The loop's invariant: the climb from here ends where the climb from the start does.
 -- Assumes nothing.
-use Rattle.walk.proofs.Ways.{deep-two, raise-deep, raise-less, climb-on, climb-end}
+use Rattle.walk.proofs.Ways.{deep, raise-deep, raise-less, climb-on, climb-end}
 use Prim.Native.Nat.{_≤_}
 use mathlib.Core.Path.{_≡_}
 use borrow.Author.Needs.{needs}
@@ -21,10 +21,10 @@ mark-requires : tie.Need-mark-requires Inv-loop μ-loop
 mark-requires c κs = search needs
 
 raise-requires : tie.Need-raise-requires Inv-loop μ-loop
-raise-requires c κs = search (deep-two, needs)
+raise-requires c κs = search (deep, needs)
 
 loop-less : tie.Need-loop-less Inv-loop μ-loop
-loop-less c = search (deep-two, raise-less, needs)
+loop-less c = search (deep, raise-less, needs)
 
 loop-again : tie.Need-loop-again Inv-loop μ-loop
 loop-again c = (search (raise-deep, needs), search (climb-on, needs))
