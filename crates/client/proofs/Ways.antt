@@ -22,13 +22,14 @@ use Rattle.table.specs.declared.Table.{Table}
 use Rattle.table.specs.Rows.{noTable}
 use Rattle.walk.specs.declared.Walk.{Walk}
 use Rattle.walk.specs.declared.Ask.{Ask}
-use Rattle.walk.specs.declared.Next.{Next}
+use Rattle.steps.specs.declared.Next.{Next}
 use Rattle.walk.specs.declared.Phase as Walk
 use Rattle.walk.specs.declared.Phase.the-variants.{Asked}
-use Rattle.walk.specs.declared.Goes.{Goes}
-use Rattle.walk.specs.declared.Goes.the-variants.{On, Done, Stopped}
-use Rattle.walk.specs.Steps as Steps
-use Rattle.walk.specs.Steps.{noWalk, nobody, begin}
+use Rattle.steps.specs.declared.Goes.{Goes}
+use Rattle.steps.specs.declared.Goes.the-variants.{On, Done, Stopped}
+use Rattle.walk.specs.Moves as Moves
+use Rattle.walk.specs.Moves.{noWalk, nobody, begin}
+use Rattle.steps.specs.Steps as Steps
 use Rattle.client.specs.declared.Phase.{Phase}
 use Rattle.client.specs.declared.Phase.the-variants.{Probing, Parting, Seeking, Backing, Walking}
 use Rattle.client.specs.declared.Turn.{Turn}
@@ -160,7 +161,7 @@ module _ (c : Client) (p : Phase) (r : Ask) where
   unfolding asks
   asks-backing given e f = rw e f
 
-  pub asks-walking : (q : Walk.Phase) → p ≡ Walking q → r ≡ Steps.asks (c .walk) q → r ≡ asks c p
+  pub asks-walking : (q : Walk.Phase) → p ≡ Walking q → r ≡ Moves.asks (c .walk) q → r ≡ asks c p
   unfolding asks
   asks-walking q e f = rw e f
 

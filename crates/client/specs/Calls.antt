@@ -20,10 +20,11 @@ use Rattle.walk.specs.declared.Walk.{Walk}
 use Rattle.walk.specs.declared.Ask.{Ask}
 use Rattle.walk.specs.declared.Phase as Walk
 use Rattle.walk.specs.declared.Phase.the-variants.{Asked}
-use Rattle.walk.specs.declared.Goes.{Goes}
-use Rattle.walk.specs.declared.Goes.the-variants.{On, Done, Stopped}
-use Rattle.walk.specs.Steps as Steps
-use Rattle.walk.specs.Steps.{noWalk, nobody, begin}
+use Rattle.steps.specs.declared.Goes.{Goes}
+use Rattle.steps.specs.declared.Goes.the-variants.{On, Done, Stopped}
+use Rattle.walk.specs.Moves as Moves
+use Rattle.walk.specs.Moves.{noWalk, nobody, begin}
+use Rattle.steps.specs.Steps as Steps
 use Rattle.client.specs.declared.Phase.{Phase}
 use Rattle.client.specs.declared.Phase.the-variants.{Probing, Parting, Seeking, Backing, Walking}
 use Rattle.client.specs.declared.Turn.{Turn}
@@ -121,7 +122,7 @@ asks c p =
     nobody
     (λ given. record { bits = c .prefix .bytes; count = 8 * length (idOf (c .prefix)) })
     (λ given. nobody)
-    (λ q. Steps.asks (c .walk) q)
+    (λ q. Moves.asks (c .walk) q)
 
 abbrev pub nextSeed : ℕ → ℕ
 nextSeed seed = (seed + 1) % 256

@@ -2,9 +2,9 @@
 use hearing::Heard;
 use hearing::Hearing;
 use ids::Id;
+use steps::Goes;
 use table::Table;
 use walk::Ask;
-use walk::Goes;
 use walk::Walk;
 use wire::Written;
 ghost use mathlib.Core.Path.{_≡_};
@@ -482,7 +482,7 @@ impl Client {
     fn probed(self, h: Heard, id: Id, at: usize) -> Told
         ensures { λ r. ⌜ r ≡ probed self h id at ⌝ }
     {
-        if walk::long(h) {
+        if steps::long(h) {
             return self.stops(Says::Refused(Refusal::LongId), at);
         }
         self.over(Says::Over(Outcome::Heard(h)), id, Table::none(), at)
@@ -499,7 +499,7 @@ impl Client {
             Phase::Backing(given) => self.backed(given, at),
             Phase::Walking(p) => {
                 let w = self.walk;
-                let next = w.step(p, h, id);
+                let next = steps::step(w, p, h, id);
                 let goes = next.goes;
                 let walk = next.walk;
                 self.walked(goes, walk, at)

@@ -2,30 +2,22 @@ use Rattle.client.proofs.Ways.{not-running, ready-runs, waiting-runs}
 use borrow.Author.Needs.{needs}
 use Rattle.client.proofs.running.Statement.{statement}
 use Rattle.client.proofs.running.Tie as tie
-use Rattle.client.proofs.running.Reads as reads
-use Rattle.client.proofs.running.Lts as lts
 
--- src/lib.rt:102:23
 enum-told : tie.Need-enum-told
 enum-told c = search needs
 
--- src/lib.rt:103:27
 enum-told-2 : tie.Need-enum-told-2
 enum-told-2 c = search needs
 
--- src/lib.rt:104:29
 enum-told-3 : tie.Need-enum-told-3
 enum-told-3 c = search needs
 
--- src/lib.rt:98:1
 returns : tie.Need-returns
 returns c = search (not-running, ready-runs, waiting-runs, needs)
 
--- src/lib.rt:98:1
 returns-2 : tie.Need-returns-2
 returns-2 c = search (not-running, ready-runs, waiting-runs, needs)
 
--- src/lib.rt:98:1
 returns-3 : tie.Need-returns-3
 returns-3 c = search (not-running, ready-runs, waiting-runs, needs)
 

@@ -2,22 +2,16 @@ use borrow.Author.Needs.{needs}
 use Rattle.client.proofs.Ways.{stop-12, stop-14, stop-15, stop-23}
 use Rattle.client.proofs.stop_of.Statement.{statement}
 use Rattle.client.proofs.stop_of.Tie as tie
-use Rattle.client.proofs.stop_of.Reads as reads
-use Rattle.client.proofs.stop_of.Lts as lts
 
--- src/lib.rt:113:9
 returns : tie.Need-returns
 returns c = search (stop-12, stop-14, stop-15, stop-23, needs)
 
--- src/lib.rt:116:9
 returns-2 : tie.Need-returns-2
 returns-2 c = search (stop-12, stop-14, stop-15, stop-23, needs)
 
--- src/lib.rt:119:9
 returns-3 : tie.Need-returns-3
 returns-3 c = search (stop-12, stop-14, stop-15, stop-23, needs)
 
--- src/lib.rt:109:1
 returns-4 : tie.Need-returns-4
 returns-4 c = search (stop-12, stop-14, stop-15, stop-23, needs)
 

@@ -1,11 +1,10 @@
+-- `walk::nobody` meets its contract.
+-- Assumes nothing.
 use borrow.Author.Needs.{needs}
-use Rattle.walk.specs.Steps.{nobody}
+use Rattle.walk.specs.Moves.{nobody}
 use Rattle.walk.proofs.nobody.Statement.{statement}
 use Rattle.walk.proofs.nobody.Tie as tie
-use Rattle.walk.proofs.nobody.Reads as reads
-use Rattle.walk.proofs.nobody.Lts as lts
 
--- src/lib.rt:361:1
 returns : tie.Need-returns
 unfolding nobody
 returns c = search needs

@@ -2,73 +2,52 @@ use Rattle.client.proofs.Ways.{asks-probing, asks-parting, asks-seeking
 use borrow.Author.Needs.{needs}
 use Rattle.client.proofs.Client.asks.Statement.{statement}
 use Rattle.client.proofs.Client.asks.Tie as tie
-use Rattle.client.proofs.Client.asks.Reads as reads
-use Rattle.client.proofs.Client.asks.Lts as lts
-use Rattle.ids.proofs.Id.size.Reads as size-reads
-use Rattle.walk.proofs.Walk.asks.Reads as asks-reads
-use Rattle.walk.proofs.nobody.Reads as nobody-reads
 
--- src/lib.rt:302:24
 enum-told : tie.Need-enum-told
 enum-told c = search needs
 
--- src/lib.rt:302:24
 cast-t8 : tie.Need-cast-t8
 cast-t8 c = search needs
 
--- src/lib.rt:304:31
 enum-told-2 : tie.Need-enum-told-2
 enum-told-2 c = search needs
 
--- src/lib.rt:304:31
 nobody-requires : tie.Need-nobody-requires
 nobody-requires c κs = search needs
 
--- src/lib.rt:307:28
 enum-told-3 : tie.Need-enum-told-3
 enum-told-3 c = search needs
 
--- src/lib.rt:307:28
 size-requires : tie.Need-size-requires
 size-requires c κs = search needs
 
--- src/lib.rt:307:24
 mul-t10 : tie.Need-mul-t10
 mul-t10 c = search needs
 
--- src/lib.rt:309:34
 enum-told-4 : tie.Need-enum-told-4
 enum-told-4 c = search needs
 
--- src/lib.rt:309:34
 nobody-requires-2 : tie.Need-nobody-requires-2
 nobody-requires-2 c κs = search needs
 
--- src/lib.rt:310:28
 enum-known-phase : tie.Need-enum-known-phase
 enum-known-phase c = search needs
 
--- src/lib.rt:312:17
 asks-requires : tie.Need-asks-requires
 asks-requires c κs = search needs
 
--- src/lib.rt:294:5
 returns : tie.Need-returns
 returns c = search (asks-probing, asks-parting, asks-seeking, asks-backing, asks-walking, needs)
 
--- src/lib.rt:294:5
 returns-2 : tie.Need-returns-2
 returns-2 c = search (asks-probing, asks-parting, asks-seeking, asks-backing, asks-walking, needs)
 
--- src/lib.rt:294:5
 returns-3 : tie.Need-returns-3
 returns-3 c = search (asks-probing, asks-parting, asks-seeking, asks-backing, asks-walking, needs)
 
--- src/lib.rt:294:5
 returns-4 : tie.Need-returns-4
 returns-4 c = search (asks-probing, asks-parting, asks-seeking, asks-backing, asks-walking, needs)
 
--- src/lib.rt:294:5
 returns-5 : tie.Need-returns-5
 returns-5 c = search (asks-probing, asks-parting, asks-seeking, asks-backing, asks-walking, needs)
 

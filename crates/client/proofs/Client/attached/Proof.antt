@@ -2,10 +2,7 @@ use borrow.Author.Needs.{needs}
 use Rattle.client.proofs.Ways.{attached-is}
 use Rattle.client.proofs.Client.attached.Statement.{statement}
 use Rattle.client.proofs.Client.attached.Tie as tie
-use Rattle.client.proofs.Client.attached.Reads as reads
-use Rattle.client.proofs.Client.attached.Lts as lts
 
--- src/lib.rt:154:5
 returns : tie.Need-returns
 returns c = search (attached-is, needs)
 

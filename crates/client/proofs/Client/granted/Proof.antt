@@ -2,49 +2,34 @@ use Rattle.client.proofs.Ways.{granted-done, granted-short, granted-nev
 use borrow.Author.Needs.{needs}
 use Rattle.client.proofs.Client.granted.Statement.{statement}
 use Rattle.client.proofs.Client.granted.Tie as tie
-use Rattle.client.proofs.Client.granted.Reads as reads
-use Rattle.client.proofs.Client.granted.Lts as lts
-use Rattle.client.proofs.Client.refuse.Reads as refuse-reads
-use Rattle.client.proofs.Client.turned.Reads as turned-reads
-use Rattle.client.proofs.next_seed.Reads as next-seed-reads
 
--- src/lib.rt:322:27
 enum-known-w : tie.Need-enum-known-w
 enum-known-w c = search needs
 
--- src/lib.rt:323:21
 turned-requires : tie.Need-turned-requires
 turned-requires c κs = search needs
 
--- src/lib.rt:324:17
 next-seed-requires : tie.Need-next-seed-requires
 next-seed-requires c κs = search needs
 
--- src/lib.rt:330:28
 enum-known-w-2 : tie.Need-enum-known-w-2
 enum-known-w-2 c = search needs
 
--- src/lib.rt:330:34
 refuse-requires : tie.Need-refuse-requires
 refuse-requires c κs = search needs
 
--- src/lib.rt:331:45
 enum-told : tie.Need-enum-told
 enum-told c = search needs
 
--- src/lib.rt:331:33
 refuse-requires-2 : tie.Need-refuse-requires-2
 refuse-requires-2 c κs = search needs
 
--- src/lib.rt:318:5
 returns : tie.Need-returns
 returns c = search (granted-done, granted-short, granted-never, needs)
 
--- src/lib.rt:318:5
 returns-2 : tie.Need-returns-2
 returns-2 c = search (granted-done, granted-short, granted-never, needs)
 
--- src/lib.rt:318:5
 returns-3 : tie.Need-returns-3
 returns-3 c = search (granted-done, granted-short, granted-never, needs)
 

@@ -1,0 +1,15 @@
+-- `steps::stopped` meets its contract.
+-- Assumes nothing.
+use Rattle.steps.proofs.Ways.{stopped-is}
+use borrow.Author.Needs.{needs}
+use Rattle.steps.proofs.stopped.Statement.{statement}
+use Rattle.steps.proofs.stopped.Tie as tie
+
+no-walk-requires : tie.Need-no-walk-requires
+no-walk-requires c κs = search needs
+
+returns : tie.Need-returns
+returns c = search (stopped-is, needs)
+
+pub stopped-spec : {M : Type 1} → statement M
+stopped-spec = tie.close (tie.spec no-walk-requires returns)

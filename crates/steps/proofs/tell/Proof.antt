@@ -1,0 +1,71 @@
+-- `steps::tell` meets its contract.
+-- Assumes nothing.
+use Rattle.steps.proofs.Ways.{tell-asked, tell-mine, tell-other, tell-leaving}
+use borrow.Author.Needs.{needs}
+use Rattle.steps.proofs.tell.Statement.{statement}
+use Rattle.steps.proofs.tell.Tie as tie
+
+enum-told : tie.Need-enum-told
+enum-told c = search needs
+
+hears-requires : tie.Need-hears-requires
+hears-requires c κs = search needs
+
+enum-told-2 : tie.Need-enum-told-2
+enum-told-2 c = search needs
+
+is-one-requires : tie.Need-is-one-requires
+is-one-requires c κs = search needs
+
+going-requires : tie.Need-going-requires
+going-requires c κs = search needs
+
+enum-known-p : tie.Need-enum-known-p
+enum-known-p c = search needs
+
+is-nothing-requires : tie.Need-is-nothing-requires
+is-nothing-requires c κs = search needs
+
+both-requires : tie.Need-both-requires
+both-requires c κs = search needs
+
+settled-requires : tie.Need-settled-requires
+settled-requires c κs = search needs
+
+enum-told-3 : tie.Need-enum-told-3
+enum-told-3 c = search needs
+
+done-requires : tie.Need-done-requires
+done-requires c κs = search needs
+
+returns : tie.Need-returns
+returns c = search (tell-asked, needs)
+
+returns-2 : tie.Need-returns-2
+returns-2 c = search (tell-mine, needs)
+
+returns-3 : tie.Need-returns-3
+returns-3 c = search (tell-other, needs)
+
+returns-4 : tie.Need-returns-4
+returns-4 c = search (tell-leaving, needs)
+
+pub tell-spec : {M : Type 1} → statement M
+tell-spec =
+    tie.close
+    (tie.spec
+    enum-told
+    hears-requires
+    enum-told-2
+    is-one-requires
+    going-requires
+    enum-known-p
+    is-nothing-requires
+    both-requires
+    settled-requires
+    enum-told-3
+    done-requires
+    returns
+    returns-2
+    returns-3
+    returns-4)

@@ -1,0 +1,80 @@
+-- The walk's record: the moves on it, and what the next Select asks for.
+-- Assumes nothing.
+use Prim.Native.Nat.{ℕ, zero, suc, _+_, _-_, _*_}
+use mathlib.Core.Bool.{Bool, false, not, cond}
+use mathlib.Core.List.{List, _∷_}
+use lib.ListN.{length, set, getD, replicate}
+use lib.Dec.{leb, eqb}
+use Rattle.paper.specs.Hearing.{bitsOf}
+use Rattle.ids.specs.declared.Id.{Id}
+use Rattle.ids.specs.Ids.{setBit, idOf, noId}
+use Rattle.path.specs.Paths.{cut}
+use Rattle.table.specs.declared.Table.{Table}
+use Rattle.table.specs.Rows.{noTable}
+use Rattle.walk.specs.declared.Walk.{Walk}
+use Rattle.walk.specs.declared.Phase.{Phase}
+use Rattle.walk.specs.declared.Phase.the-variants.{Asked, Mine, Other, Leaving}
+use Rattle.walk.specs.declared.Ask.{Ask}
+
+-- The cases.
+abbrev pub onPhase {ℓ} : {A : Type ℓ} → Phase → A → A → (Bool → A) → A → A
+onPhase Asked asked mine other leaving = asked
+onPhase Mine asked mine other leaving = mine
+onPhase (Other good) asked mine other leaving = other good
+onPhase Leaving asked mine other leaving = leaving
+
+-- A record with some fields anew, all else as it was.
+abbrev pub standing : Walk → List ℕ → ℕ → List ℕ → Walk
+standing w path depth marks = record { path = path; depth = depth; marks = marks; found = w .found; candidate = w .candidate }
+
+abbrev pub finding : Walk → Table → Walk
+finding w t = record { path = w .path; depth = w .depth; marks = w .marks; found = t; candidate = w .candidate }
+
+abbrev pub holding : Walk → Id → Walk
+holding w x = record { path = w .path; depth = w .depth; marks = w .marks; found = w .found; candidate = x }
+
+unfoldable pub noWalk : Walk
+noWalk = record { path = replicate 16 0; depth = 0; marks = replicate 128 0; found = noTable; candidate = noId }
+
+-- A walk of a prefix of whole bytes, at its first Select.
+unfoldable pub begin : Id → Walk
+begin x = standing noWalk (x .bytes) (8 * length (idOf x)) (noWalk .marks)
+
+-- The mark of the last level: 0 in the given prefix, 1 in a zero child, 2 in a one child.
+unfoldable pub mark : Walk → ℕ
+mark w = getD (0 ∷ w .marks) (w .depth) 0
+
+-- Into the zero child; out of a one child; from a zero child to its sibling.
+unfoldable pub lower : Walk → Walk
+lower w = standing w (w .path) (w .depth + 1) (set (w .marks) (w .depth) 1)
+
+unfoldable pub raise : Walk → Walk
+raise w = standing w (cut (w .path) (w .depth - 1)) (w .depth - 1) (set (w .marks) (w .depth - 1) 0)
+
+unfoldable pub turn : Walk → Walk
+turn w = standing w (setBit (w .path) (w .depth - 1)) (w .depth) (set (w .marks) (w .depth - 1) 2)
+
+-- Out of every one child, by the levels that are left.
+unfoldable pub climb : ℕ → Walk → Walk
+climb zero w = w
+climb (suc n) w = cond (eqb (mark w) 2) (climb n (raise w)) w
+
+-- The bits that the next Select asks for: the path, the path with one bit more, or 129 zero bits.
+unfoldable pub nobody : Ask
+nobody = record { bits = replicate 16 0; count = 129 }
+
+unfoldable pub child : Walk → Bool → Ask
+child w b = record { bits = cond b (setBit (w .path) (w .depth)) (w .path); count = w .depth + 1 }
+
+abbrev pub nextBit : Walk → Bool
+nextBit w = getD (bitsOf (idOf (w .candidate))) (w .depth) false
+
+unfoldable pub asks : Walk → Phase → Ask
+asks w p =
+    cond (leb (w .depth) 128)
+    (onPhase p
+    (record { bits = w .path; count = w .depth })
+    (child w (nextBit w))
+    (λ good. child w (not (nextBit w)))
+    nobody)
+    nobody
