@@ -1,19 +1,10 @@
-// The client by value: an operation is started, its requests are asked for, and what was heard is handed back.
+// The client's record, by value: what runs, what is attached, and the moves from one record to the next.
 use hearing::Heard;
-use hearing::Hearing;
 use ids::Id;
-use steps::Goes;
 use table::Table;
-use walk::Ask;
 use walk::Walk;
-use wire::Written;
 ghost use mathlib.Core.Path.{_≡_};
-ghost use Prim.Native.Nat.{_+_, _*_, _%_, _≤_};
-ghost use Rattle.paper.specs.Hearing.{hear};
-ghost use Rattle.paper.specs.Answers.{rest};
-ghost use Rattle.ids.specs.Ids.{idFrom};
-ghost use Rattle.hearing.specs.Heard.{shownHeard};
-ghost use Rattle.client.specs.Calls.{fresh, running, idle, turned, begun, refuse, starts, startSelect, startDeselect, startAttach, startAttachTo, startDiscover, badPrefix, probed, asks, nextSeed, granted, request, refuses, stops, over, onward, cleared, attaches, stopOf, met, backed, walked, hears, record′, linkFailed, attached};
+ghost use Rattle.client.specs.Clients.{fresh, running, idle, turned, begun, refuse, refuses, over, stops, onward, cleared, holding, attached};
 
 // What the request that is next, or out, is for; given says whether a prefix was.
 pub enum Phase {
@@ -95,7 +86,7 @@ pub struct Attached {
     pub id: Id,
 }
 
-fn running(turn: Turn) -> bool
+pub fn running(turn: Turn) -> bool
     ensures { λ r. ⌜ r ≡ running turn ⌝ }
 {
     match turn {
@@ -103,35 +94,6 @@ fn running(turn: Turn) -> bool
         Turn::Ready(_) => true,
         Turn::Waiting(_) => true,
     }
-}
-
-// What ended a walk, by its number.
-fn stop_of(n: u8) -> Says
-    ensures { λ r. ⌜ r ≡ stopOf n ⌝ }
-{
-    if n == 12 {
-        return Says::Refused(Refusal::DuplicateUid);
-    }
-    if n == 14 {
-        return Says::Refused(Refusal::LongId);
-    }
-    if n == 15 {
-        return Says::Refused(Refusal::TableFull);
-    }
-    Says::Over(Outcome::Unaddressed)
-}
-
-fn next_seed(seed: u8) -> u8
-    ensures { λ r. ⌜ r ≡ nextSeed seed ⌝ }
-{
-    std::num::wrapping_add_u8(seed, 1)
-}
-
-// The unread rest of the lent record; empty if the place is past the end.
-pub fn rest(bytes: &[u8], at: usize) -> &[u8]
-    ensures { λ r. ⌜ now r ≡ rest (now (bytes .entry)) at ⌝ }
-{
-    hearing::rest(bytes, at)
 }
 
 impl Client {
@@ -162,7 +124,7 @@ impl Client {
     }
 
     // In a phase of an operation, or in none.
-    fn begun(self, turn: Turn, prefix: Id, bits: u8, walk: Walk) -> Client
+    pub fn begun(self, turn: Turn, prefix: Id, bits: u8, walk: Walk) -> Client
         ensures { λ r. ⌜ r ≡ begun self turn prefix bits walk ⌝ }
     {
         let id = self.id;
@@ -178,14 +140,14 @@ impl Client {
     }
 
     // No operation: what belongs to an ended one is zero.
-    fn idle(self) -> Client
+    pub fn idle(self) -> Client
         ensures { λ r. ⌜ r ≡ idle self ⌝ }
     {
         self.begun(Turn::Idle, Id::none(), 0, walk::no_walk())
     }
 
     // In another turn of the same operation.
-    fn turned(self, turn: Turn) -> Client
+    pub fn turned(self, turn: Turn) -> Client
         ensures { λ r. ⌜ r ≡ turned self turn ⌝ }
     {
         let prefix = self.prefix;
@@ -193,8 +155,18 @@ impl Client {
         self.begun(turn, prefix, self.bits, walk)
     }
 
+    // With another attached id, or none.
+    pub fn holding(self, any: bool, id: Id) -> Client
+        ensures { λ r. ⌜ r ≡ holding self any id ⌝ }
+    {
+        let mut c = self;
+        c.attached = any;
+        c.id = id;
+        c
+    }
+
     // With no attached id.
-    fn cleared(self) -> Client
+    pub fn cleared(self) -> Client
         ensures { λ r. ⌜ r ≡ cleared self ⌝ }
     {
         let mut c = self;
@@ -204,9 +176,7 @@ impl Client {
         c
     }
 
-    // Starting.
-
-    fn refuse(self, r: Refusal) -> Started
+    pub fn refuse(self, r: Refusal) -> Started
         ensures { λ s. ⌜ s ≡ refuse self r ⌝ }
     {
         Started {
@@ -215,149 +185,8 @@ impl Client {
         }
     }
 
-    // An operation begins with its first request, unless one runs.
-    fn starts(self, phase: Phase, prefix: Id, bits: u8, walk: Walk) -> Started
-        ensures { λ r. ⌜ r ≡ starts self phase prefix bits walk ⌝ }
-    {
-        let t = self.turn;
-        if running(t) {
-            return self.refuse(Refusal::OutOfTurn);
-        }
-        let client = self.begun(Turn::Ready(phase), prefix, bits, walk);
-        Started {
-            says: Says::Onward,
-            client,
-        }
-    }
-
-    // A prefix of over 16 bytes is refused, but after a call out of turn.
-    fn bad_prefix(self) -> Started
-        ensures { λ r. ⌜ r ≡ badPrefix self ⌝ }
-    {
-        let t = self.turn;
-        if running(t) {
-            return self.refuse(Refusal::OutOfTurn);
-        }
-        self.refuse(Refusal::BadPrefix)
-    }
-
-    // A Select of the first bits of a prefix.
-    pub fn start_select(self, prefix: &[u8], bits: usize) -> Started
-        ensures { λ r. ⌜ r ≡ startSelect self (now (prefix .entry)) bits ⌝ }
-    {
-        if 16 < prefix.len() {
-            return self.bad_prefix();
-        }
-        if 8 * prefix.len() < bits {
-            return self.bad_prefix();
-        }
-        self.starts(Phase::Probing, Id::of(prefix), bits as u8, walk::no_walk())
-    }
-
-    pub fn start_deselect(self) -> Started
-        ensures { λ r. ⌜ r ≡ startDeselect self ⌝ }
-    {
-        self.starts(Phase::Parting, Id::none(), 0, walk::no_walk())
-    }
-
-    // Attach to the only pod there is.
-    pub fn start_attach(self) -> Started
-        ensures { λ r. ⌜ r ≡ startAttach self ⌝ }
-    {
-        self.starts(Phase::Seeking(false), Id::none(), 0, walk::no_walk())
-    }
-
-    // Attach to the one pod whose id begins with a prefix.
-    pub fn start_attach_to(self, prefix: &[u8]) -> Started
-        ensures { λ r. ⌜ r ≡ startAttachTo self (now (prefix .entry)) ⌝ }
-    {
-        if 16 < prefix.len() {
-            return self.bad_prefix();
-        }
-        self.starts(Phase::Seeking(true), Id::of(prefix), 0, walk::no_walk())
-    }
-
-    // Find every pod whose id begins with a prefix.
-    pub fn start_discover(self, prefix: &[u8]) -> Started
-        ensures { λ r. ⌜ r ≡ startDiscover self (now (prefix .entry)) ⌝ }
-    {
-        if 16 < prefix.len() {
-            return self.bad_prefix();
-        }
-        let walk = walk::begin(Id::of(prefix));
-        self.starts(Phase::Walking(walk::Phase::Asked), Id::none(), 0, walk)
-    }
-
-    // Asking.
-
-    // The bits of a phase's Select.
-    fn asks(self, phase: Phase) -> Ask
-        ensures { λ r. ⌜ r ≡ asks self phase ⌝ }
-    {
-        let prefix = self.prefix;
-        let bits = prefix.bytes;
-        match phase {
-            Phase::Probing => Ask {
-                bits,
-                count: self.bits as usize,
-            },
-            Phase::Parting => walk::nobody(),
-            Phase::Seeking(_) => Ask {
-                bits,
-                count: 8 * prefix.size(),
-            },
-            Phase::Backing(_) => walk::nobody(),
-            Phase::Walking(p) => {
-                let w = self.walk;
-                w.asks(p)
-            }
-        }
-    }
-
-    // What a request written, or a buffer too short for it, makes of the client.
-    fn granted(self, phase: Phase, w: Written) -> Started
-        ensures { λ r. ⌜ r ≡ granted self phase w ⌝ }
-    {
-        match w {
-            Written::Done(n) => {
-                let mut c = self.turned(Turn::Waiting(phase));
-                c.seed = next_seed(self.seed);
-                Started {
-                    says: Says::Granted(n),
-                    client: c,
-                }
-            }
-            Written::Short(n) => self.refuse(Refusal::ShortBuffer(n)),
-            Written::TooLong => self.refuse(Refusal::OutOfTurn),
-        }
-    }
-
-    // The next request, written to the front of the buffer.
-    pub fn request(self, buffer: &mut [u8]) -> Started
-        ensures { λ r. ⌜ record { answer = r; bytes = now (buffer .exit) } ≡ request self (now (buffer .entry)) ⌝ }
-    {
-        let t = self.turn;
-        match t {
-            Turn::Idle => self.refuse(Refusal::OutOfTurn),
-            Turn::Ready(phase) => {
-                let a = self.asks(phase);
-                let bits = a.bits;
-                let w = select::write_select(
-                    next_seed(self.seed),
-                    bits,
-                    (a.count % 256) as u8,
-                    buffer,
-                );
-                self.granted(phase, w)
-            }
-            Turn::Waiting(_) => self.refuse(Refusal::OutOfTurn),
-        }
-    }
-
-    // Hearing.
-
     // Refused with no state changed: the rest is the whole record.
-    fn refuses(self, r: Refusal) -> Told
+    pub fn refuses(self, r: Refusal) -> Told
         ensures { λ t. ⌜ t ≡ refuses self r ⌝ }
     {
         let found = Table::none();
@@ -372,7 +201,7 @@ impl Client {
     }
 
     // The operation has ended.
-    fn over(self, says: Says, id: Id, found: Table, at: usize) -> Told
+    pub fn over(self, says: Says, id: Id, found: Table, at: usize) -> Told
         ensures { λ r. ⌜ r ≡ over self says id found at ⌝ }
     {
         let client = self.idle();
@@ -386,14 +215,14 @@ impl Client {
     }
 
     // The operation has ended, and nothing stands beside the answer.
-    fn stops(self, says: Says, at: usize) -> Told
+    pub fn stops(self, says: Says, at: usize) -> Told
         ensures { λ r. ⌜ r ≡ stops self says at ⌝ }
     {
         self.over(says, Id::none(), Table::none(), at)
     }
 
     // The operation goes on.
-    fn onward(self, phase: Phase, walk: Walk, at: usize) -> Told
+    pub fn onward(self, phase: Phase, walk: Walk, at: usize) -> Told
         ensures { λ r. ⌜ r ≡ onward self phase walk at ⌝ }
     {
         let prefix = self.prefix;
@@ -406,133 +235,6 @@ impl Client {
             rest: at,
             id,
             found,
-        }
-    }
-
-    // Attached to a pod, or to the one that has no id.
-    fn attaches(self, any: bool, id: Id, at: usize) -> Told
-        ensures { λ r. ⌜ r ≡ attaches self any id at ⌝ }
-    {
-        let mut c = self;
-        c.attached = any;
-        c.id = id;
-        c.over(Says::Over(Outcome::Attached(any)), id, Table::none(), at)
-    }
-
-    // What an attach makes of what it heard.
-    fn met(self, given: bool, h: Heard, id: Id, at: usize) -> Told
-        ensures { λ r. ⌜ r ≡ met self given h id at ⌝ }
-    {
-        let prefix = self.prefix;
-        match h {
-            Heard::Nothing => {
-                if given {
-                    return self.over(Says::Refused(Refusal::NoSuchUid), prefix, Table::none(), at);
-                }
-                self.stops(Says::Refused(Refusal::NoDevice), at)
-            }
-            Heard::One => self.attaches(true, id, at),
-            Heard::TooLong => self.stops(Says::Refused(Refusal::LongId), at),
-            Heard::Unaddressed => {
-                if given {
-                    return self.stops(Says::Refused(Refusal::NotAddressable), at);
-                }
-                self.attaches(false, Id::none(), at)
-            }
-            Heard::Garble => {
-                let w = self.walk;
-                self.onward(Phase::Backing(given), w, at)
-            }
-        }
-    }
-
-    // What an attach ends with once it has deselected.
-    fn backed(self, given: bool, at: usize) -> Told
-        ensures { λ r. ⌜ r ≡ backed self given at ⌝ }
-    {
-        let prefix = self.prefix;
-        let c = self.cleared();
-        if given {
-            return c.over(
-                Says::Refused(Refusal::AmbiguousUid),
-                prefix,
-                Table::none(),
-                at,
-            );
-        }
-        c.stops(Says::Refused(Refusal::SeveralDevices), at)
-    }
-
-    // What a discovery makes of the walk's next step.
-    fn walked(self, goes: Goes, walk: Walk, at: usize) -> Told
-        ensures { λ r. ⌜ r ≡ walked self goes walk at ⌝ }
-    {
-        match goes {
-            Goes::On(p) => self.onward(Phase::Walking(p), walk, at),
-            Goes::Done => {
-                let found = walk.found;
-                self.cleared()
-                    .over(Says::Over(Outcome::Found), Id::none(), found, at)
-            }
-            Goes::Stopped(n) => self.stops(stop_of(n), at),
-        }
-    }
-
-    // What a plain select makes of what it heard.
-    fn probed(self, h: Heard, id: Id, at: usize) -> Told
-        ensures { λ r. ⌜ r ≡ probed self h id at ⌝ }
-    {
-        if steps::long(h) {
-            return self.stops(Says::Refused(Refusal::LongId), at);
-        }
-        self.over(Says::Over(Outcome::Heard(h)), id, Table::none(), at)
-    }
-
-    // What the phase makes of what it heard.
-    fn hears(self, phase: Phase, h: Heard, id: Id, at: usize) -> Told
-        ensures { λ r. ⌜ r ≡ hears self phase h id at ⌝ }
-    {
-        match phase {
-            Phase::Probing => self.probed(h, id, at),
-            Phase::Parting => self.cleared().stops(Says::Over(Outcome::Quiet), at),
-            Phase::Seeking(given) => self.met(given, h, id, at),
-            Phase::Backing(given) => self.backed(given, at),
-            Phase::Walking(p) => {
-                let w = self.walk;
-                let next = steps::step(w, p, h, id);
-                let goes = next.goes;
-                let walk = next.walk;
-                self.walked(goes, walk, at)
-            }
-        }
-    }
-
-    // A record of what was heard after the request.
-    pub fn record(self, bytes: &[u8]) -> Told
-        ensures { λ r. ⌜ r ≡ record′ self (now (bytes .entry)) ⌝ }
-    {
-        let t = self.turn;
-        match t {
-            Turn::Idle => self.refuses(Refusal::OutOfTurn),
-            Turn::Ready(_) => self.refuses(Refusal::OutOfTurn),
-            Turn::Waiting(phase) => {
-                let x = hearing::hear(bytes);
-                let h = x.heard;
-                let id = x.id;
-                self.hears(phase, h, id, bytes.len())
-            }
-        }
-    }
-
-    // The link failed after the request.
-    pub fn link_failed(self) -> Told
-        ensures { λ r. ⌜ r ≡ linkFailed self ⌝ }
-    {
-        let t = self.turn;
-        match t {
-            Turn::Idle => self.refuses(Refusal::OutOfTurn),
-            Turn::Ready(_) => self.refuses(Refusal::OutOfTurn),
-            Turn::Waiting(_) => self.stops(Says::Refused(Refusal::Io), 0),
         }
     }
 }

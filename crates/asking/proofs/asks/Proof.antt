@@ -1,0 +1,73 @@
+use Rattle.asking.proofs.Ways.{asks-probing, asks-parting, asks-seeking, asks-backing, asks-walking}
+use borrow.Author.Needs.{needs}
+use Rattle.asking.proofs.asks.Statement.{statement}
+use Rattle.asking.proofs.asks.Tie as tie
+
+enum-told : tie.Need-enum-told
+enum-told c = search needs
+
+cast-t8 : tie.Need-cast-t8
+cast-t8 c = search needs
+
+enum-told-2 : tie.Need-enum-told-2
+enum-told-2 c = search needs
+
+nobody-requires : tie.Need-nobody-requires
+nobody-requires c κs = search needs
+
+enum-told-3 : tie.Need-enum-told-3
+enum-told-3 c = search needs
+
+size-requires : tie.Need-size-requires
+size-requires c κs = search needs
+
+mul-t10 : tie.Need-mul-t10
+mul-t10 c = search needs
+
+enum-told-4 : tie.Need-enum-told-4
+enum-told-4 c = search needs
+
+nobody-requires-2 : tie.Need-nobody-requires-2
+nobody-requires-2 c κs = search needs
+
+enum-known-phase : tie.Need-enum-known-phase
+enum-known-phase c = search needs
+
+asks-requires : tie.Need-asks-requires
+asks-requires c κs = search needs
+
+returns : tie.Need-returns
+returns c = search (asks-probing, asks-parting, asks-seeking, asks-backing, asks-walking, needs)
+
+returns-2 : tie.Need-returns-2
+returns-2 c = search (asks-probing, asks-parting, asks-seeking, asks-backing, asks-walking, needs)
+
+returns-3 : tie.Need-returns-3
+returns-3 c = search (asks-probing, asks-parting, asks-seeking, asks-backing, asks-walking, needs)
+
+returns-4 : tie.Need-returns-4
+returns-4 c = search (asks-probing, asks-parting, asks-seeking, asks-backing, asks-walking, needs)
+
+returns-5 : tie.Need-returns-5
+returns-5 c = search (asks-probing, asks-parting, asks-seeking, asks-backing, asks-walking, needs)
+
+pub asks-spec : {M : Type 1} → statement M
+asks-spec =
+    tie.close
+    (tie.spec
+    enum-told
+    cast-t8
+    enum-told-2
+    nobody-requires
+    enum-told-3
+    size-requires
+    mul-t10
+    enum-told-4
+    nobody-requires-2
+    enum-known-phase
+    asks-requires
+    returns
+    returns-2
+    returns-3
+    returns-4
+    returns-5)

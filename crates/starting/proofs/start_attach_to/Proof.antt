@@ -1,0 +1,27 @@
+use Rattle.starting.proofs.Ways.{attach-over, attach-starts}
+use borrow.Author.Needs.{needs}
+use Rattle.starting.proofs.start_attach_to.Statement.{statement}
+use Rattle.starting.proofs.start_attach_to.Tie as tie
+
+bad-prefix-requires : tie.Need-bad-prefix-requires
+bad-prefix-requires c κs = search needs
+
+returns : tie.Need-returns
+returns c = search (attach-over, attach-starts, needs)
+
+of-requires : tie.Need-of-requires
+of-requires c κs = search needs
+
+no-walk-requires : tie.Need-no-walk-requires
+no-walk-requires c κs = search needs
+
+starts-requires : tie.Need-starts-requires
+starts-requires c κs = search needs
+
+returns-2 : tie.Need-returns-2
+returns-2 c = search (attach-over, attach-starts, needs)
+
+pub start-attach-to-spec : {M : Type 1} → statement M
+start-attach-to-spec =
+    tie.close
+    (tie.spec bad-prefix-requires returns of-requires no-walk-requires starts-requires returns-2)

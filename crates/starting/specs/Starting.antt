@@ -1,0 +1,43 @@
+-- What each start answers and leaves.
+-- Assumes nothing.
+use Prim.Native.Nat.{ℕ, _*_}
+use mathlib.Core.Bool.{true, false, cond}
+use mathlib.Core.List.{List}
+use lib.Dec.{ltb}
+use lib.ListN.{length}
+use Rattle.ids.specs.declared.Id.{Id}
+use Rattle.ids.specs.Ids.{noId, idFrom}
+use Rattle.walk.specs.declared.Walk.{Walk}
+use Rattle.walk.specs.declared.Phase.the-variants.{Asked}
+use Rattle.walk.specs.Moves.{noWalk, begin}
+use Rattle.client.specs.declared.Phase.{Phase}
+use Rattle.client.specs.declared.Phase.the-variants.{Probing, Parting, Seeking, Walking}
+use Rattle.client.specs.declared.Turn.the-variants.{Ready}
+use Rattle.client.specs.declared.Client.{Client}
+use Rattle.client.specs.declared.Refusal.the-variants.{BadPrefix, OutOfTurn}
+use Rattle.client.specs.declared.Says.the-variants.{Onward}
+use Rattle.client.specs.declared.Started.{Started}
+use Rattle.client.specs.Clients.{begun, running, refuse}
+
+unfoldable pub starts : Client → Phase → Id → ℕ → Walk → Started
+starts c p x bits w = cond (running (c .turn)) (refuse c OutOfTurn) (record { says = Onward; client = begun c (Ready p) x bits w })
+
+unfoldable pub badPrefix : Client → Started
+badPrefix c = cond (running (c .turn)) (refuse c OutOfTurn) (refuse c BadPrefix)
+
+unfoldable pub startSelect : Client → List ℕ → ℕ → Started
+startSelect c bytes bits =
+    cond (ltb 16 (length bytes)) (badPrefix c)
+    (cond (ltb (8 * length bytes) bits) (badPrefix c) (starts c Probing (idFrom bytes) bits noWalk))
+
+unfoldable pub startDeselect : Client → Started
+startDeselect c = starts c Parting noId 0 noWalk
+
+unfoldable pub startAttach : Client → Started
+startAttach c = starts c (Seeking false) noId 0 noWalk
+
+unfoldable pub startAttachTo : Client → List ℕ → Started
+startAttachTo c bytes = cond (ltb 16 (length bytes)) (badPrefix c) (starts c (Seeking true) (idFrom bytes) 0 noWalk)
+
+unfoldable pub startDiscover : Client → List ℕ → Started
+startDiscover c bytes = cond (ltb 16 (length bytes)) (badPrefix c) (starts c (Walking Asked) noId 0 (begin (idFrom bytes)))

@@ -1,0 +1,77 @@
+use Rattle.telling.proofs.Ways.{hears-probing, hears-parting, hears-seeking, hears-backing, hears-walking}
+use borrow.Author.Needs.{needs}
+use Rattle.telling.proofs.hears.Statement.{statement}
+use Rattle.telling.proofs.hears.Tie as tie
+
+enum-told : tie.Need-enum-told
+enum-told c = search needs
+
+probed-requires : tie.Need-probed-requires
+probed-requires c κs = search needs
+
+enum-told-2 : tie.Need-enum-told-2
+enum-told-2 c = search needs
+
+cleared-requires : tie.Need-cleared-requires
+cleared-requires c κs = search needs
+
+stops-requires : tie.Need-stops-requires
+stops-requires c κs = search needs
+
+enum-known-phase : tie.Need-enum-known-phase
+enum-known-phase c = search needs
+
+met-requires : tie.Need-met-requires
+met-requires c κs = search needs
+
+enum-known-phase-2 : tie.Need-enum-known-phase-2
+enum-known-phase-2 c = search needs
+
+backed-requires : tie.Need-backed-requires
+backed-requires c κs = search needs
+
+enum-known-phase-3 : tie.Need-enum-known-phase-3
+enum-known-phase-3 c = search needs
+
+step-requires : tie.Need-step-requires
+step-requires c κs = search needs
+
+walked-requires : tie.Need-walked-requires
+walked-requires c κs = search needs
+
+returns : tie.Need-returns
+returns c = search (hears-probing, hears-parting, hears-seeking, hears-backing, hears-walking, needs)
+
+returns-2 : tie.Need-returns-2
+returns-2 c = search (hears-probing, hears-parting, hears-seeking, hears-backing, hears-walking, needs)
+
+returns-3 : tie.Need-returns-3
+returns-3 c = search (hears-probing, hears-parting, hears-seeking, hears-backing, hears-walking, needs)
+
+returns-4 : tie.Need-returns-4
+returns-4 c = search (hears-probing, hears-parting, hears-seeking, hears-backing, hears-walking, needs)
+
+returns-5 : tie.Need-returns-5
+returns-5 c = search (hears-probing, hears-parting, hears-seeking, hears-backing, hears-walking, needs)
+
+pub hears-spec : {M : Type 1} → statement M
+hears-spec =
+    tie.close
+    (tie.spec
+    enum-told
+    probed-requires
+    enum-told-2
+    cleared-requires
+    stops-requires
+    enum-known-phase
+    met-requires
+    enum-known-phase-2
+    backed-requires
+    enum-known-phase-3
+    step-requires
+    walked-requires
+    returns
+    returns-2
+    returns-3
+    returns-4
+    returns-5)

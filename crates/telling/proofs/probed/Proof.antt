@@ -1,0 +1,26 @@
+use Rattle.telling.proofs.Ways.{probed-long, probed-heard}
+use borrow.Author.Needs.{needs}
+use Rattle.telling.proofs.probed.Statement.{statement}
+use Rattle.telling.proofs.probed.Tie as tie
+
+long-requires : tie.Need-long-requires
+long-requires c κs = search needs
+
+stops-requires : tie.Need-stops-requires
+stops-requires c κs = search needs
+
+returns : tie.Need-returns
+returns c = search (probed-long, probed-heard, needs)
+
+none-requires : tie.Need-none-requires
+none-requires c κs = search needs
+
+over-requires : tie.Need-over-requires
+over-requires c κs = search needs
+
+returns-2 : tie.Need-returns-2
+returns-2 c = search (probed-long, probed-heard, needs)
+
+pub probed-spec : {M : Type 1} → statement M
+probed-spec =
+    tie.close (tie.spec long-requires stops-requires returns none-requires over-requires returns-2)

@@ -1,0 +1,49 @@
+use Rattle.telling.proofs.Ways.{record-idle, record-ready, record-heard}
+use borrow.Author.Needs.{needs}
+use Rattle.telling.proofs.record.Statement.{statement}
+use Rattle.telling.proofs.record.Tie as tie
+
+enum-told : tie.Need-enum-told
+enum-told c = search needs
+
+refuses-requires : tie.Need-refuses-requires
+refuses-requires c κs = search needs
+
+enum-told-2 : tie.Need-enum-told-2
+enum-told-2 c = search needs
+
+refuses-requires-2 : tie.Need-refuses-requires-2
+refuses-requires-2 c κs = search needs
+
+enum-known-t : tie.Need-enum-known-t
+enum-known-t c = search needs
+
+hear-requires : tie.Need-hear-requires
+hear-requires c κs = search needs
+
+hears-requires : tie.Need-hears-requires
+hears-requires c κs = search needs
+
+returns : tie.Need-returns
+returns c = search (record-idle, record-ready, record-heard, needs)
+
+returns-2 : tie.Need-returns-2
+returns-2 c = search (record-idle, record-ready, record-heard, needs)
+
+returns-3 : tie.Need-returns-3
+returns-3 c = search (record-idle, record-ready, record-heard, needs)
+
+pub record-spec : {M : Type 1} → statement M
+record-spec =
+    tie.close
+    (tie.spec
+    enum-told
+    refuses-requires
+    enum-told-2
+    refuses-requires-2
+    enum-known-t
+    hear-requires
+    hears-requires
+    returns
+    returns-2
+    returns-3)

@@ -1,0 +1,57 @@
+use Rattle.telling.proofs.Ways.{walked-on, walked-done, walked-stopped}
+use borrow.Author.Needs.{needs}
+use Rattle.telling.proofs.walked.Statement.{statement}
+use Rattle.telling.proofs.walked.Tie as tie
+
+enum-known-goes : tie.Need-enum-known-goes
+enum-known-goes c = search needs
+
+onward-requires : tie.Need-onward-requires
+onward-requires c κs = search needs
+
+enum-told : tie.Need-enum-told
+enum-told c = search needs
+
+cleared-requires : tie.Need-cleared-requires
+cleared-requires c κs = search needs
+
+none-requires : tie.Need-none-requires
+none-requires c κs = search needs
+
+over-requires : tie.Need-over-requires
+over-requires c κs = search needs
+
+enum-known-goes-2 : tie.Need-enum-known-goes-2
+enum-known-goes-2 c = search needs
+
+stop-of-requires : tie.Need-stop-of-requires
+stop-of-requires c κs = search needs
+
+stops-requires : tie.Need-stops-requires
+stops-requires c κs = search needs
+
+returns : tie.Need-returns
+returns c = search (walked-on, walked-done, walked-stopped, needs)
+
+returns-2 : tie.Need-returns-2
+returns-2 c = search (walked-on, walked-done, walked-stopped, needs)
+
+returns-3 : tie.Need-returns-3
+returns-3 c = search (walked-on, walked-done, walked-stopped, needs)
+
+pub walked-spec : {M : Type 1} → statement M
+walked-spec =
+    tie.close
+    (tie.spec
+    enum-known-goes
+    onward-requires
+    enum-told
+    cleared-requires
+    none-requires
+    over-requires
+    enum-known-goes-2
+    stop-of-requires
+    stops-requires
+    returns
+    returns-2
+    returns-3)

@@ -1,0 +1,82 @@
+-- What a record, or a failed link, makes of the client, and what is answered.
+-- Assumes nothing.
+use Prim.Native.Nat.{ℕ}
+use mathlib.Core.Bool.{Bool, true, false, cond}
+use mathlib.Core.List.{List}
+use lib.Dec.{eqb}
+use lib.ListN.{length}
+use Rattle.paper.specs.Hearing.{hear}
+use Rattle.ids.specs.declared.Id.{Id}
+use Rattle.ids.specs.Ids.{noId}
+use Rattle.hearing.specs.declared.Heard.{Heard}
+use Rattle.hearing.specs.Heard.{onHeard, shownHeard}
+use Rattle.table.specs.Rows.{noTable}
+use Rattle.walk.specs.declared.Walk.{Walk}
+use Rattle.walk.specs.declared.Phase as Walk
+use Rattle.steps.specs.declared.Goes.{Goes}
+use Rattle.steps.specs.declared.Goes.the-variants.{On, Done, Stopped}
+use Rattle.steps.specs.Steps as Steps
+use Rattle.client.specs.declared.Phase.{Phase}
+use Rattle.client.specs.declared.Phase.the-variants.{Backing, Walking}
+use Rattle.client.specs.declared.Client.{Client}
+use Rattle.client.specs.declared.Refusal.the-variants.{Io, NoDevice, SeveralDevices, NoSuchUid, AmbiguousUid, NotAddressable, DuplicateUid, LongId, TableFull, OutOfTurn}
+use Rattle.client.specs.declared.Outcome.the-variants as Outcome
+use Rattle.client.specs.declared.Says.{Says}
+use Rattle.client.specs.declared.Says.the-variants.{Over, Refused}
+use Rattle.client.specs.declared.Told.{Told}
+use Rattle.client.specs.declared.Attached.{Attached}
+use Rattle.client.specs.Clients.{onTurn, onPhase, holding, cleared, refuses, over, stops, onward}
+
+abbrev pub onGoes {ℓ} : {A : Type ℓ} → Goes → (Walk.Phase → A) → A → (ℕ → A) → A
+onGoes (On p) on done stopped = on p
+onGoes Done on done stopped = done
+onGoes (Stopped n) on done stopped = stopped n
+
+unfoldable pub attaches : Client → Bool → Id → ℕ → Told
+attaches c any x at = over (holding c any x) (Over (Outcome.Attached any)) x noTable at
+
+-- "One: attached. Unaddressed: success with no id if no prefix was given, else 11. Nothing: 9 with a prefix, 7 without. Garble: deselect."
+unfoldable pub met : Client → Bool → Heard → Id → ℕ → Told
+met c given h x at =
+    onHeard h
+    (cond given (over c (Refused NoSuchUid) (c .prefix) noTable at) (stops c (Refused NoDevice) at))
+    (attaches c true x at)
+    (stops c (Refused LongId) at)
+    (cond given (stops c (Refused NotAddressable) at) (attaches c false noId at))
+    (onward c (Backing given) (c .walk) at)
+
+-- "then 10 with a prefix, 8 without."
+unfoldable pub backed : Client → Bool → ℕ → Told
+backed c given at =
+    cond given (over (cleared c) (Refused AmbiguousUid) (c .prefix) noTable at) (stops (cleared c) (Refused SeveralDevices) at)
+
+unfoldable pub stopOf : ℕ → Says
+stopOf n =
+    cond (eqb n 12) (Refused DuplicateUid) (cond (eqb n 14) (Refused LongId) (cond (eqb n 15) (Refused TableFull) (Over Outcome.Unaddressed)))
+
+unfoldable pub walked : Client → Goes → Walk → ℕ → Told
+walked c g w at =
+    onGoes g
+    (λ p. onward c (Walking p) w at)
+    (over (cleared c) (Over Outcome.Found) noId (w .found) at)
+    (λ n. stops c (stopOf n) at)
+
+unfoldable pub probed : Client → Heard → Id → ℕ → Told
+probed c h x at = cond (Steps.long h) (stops c (Refused LongId) at) (over c (Over (Outcome.Heard h)) x noTable at)
+
+unfoldable pub hears : Client → Phase → Heard → Id → ℕ → Told
+hears c p h x at =
+    onPhase p
+    (probed c h x at)
+    (stops (cleared c) (Over Outcome.Quiet) at)
+    (λ given. met c given h x at)
+    (λ given. backed c given at)
+    (λ q. walked c (Steps.step (c .walk) q h x .goes) (Steps.step (c .walk) q h x .walk) at)
+
+unfoldable pub record′ : Client → List ℕ → Told
+record′ c bytes =
+    onTurn (c .turn) (refuses c OutOfTurn) (λ p. refuses c OutOfTurn)
+    (λ p. hears c p (shownHeard (hear bytes) .heard) (shownHeard (hear bytes) .id) (length bytes))
+
+unfoldable pub linkFailed : Client → Told
+linkFailed c = onTurn (c .turn) (refuses c OutOfTurn) (λ p. refuses c OutOfTurn) (λ p. stops c (Refused Io) 0)

@@ -1,0 +1,164 @@
+// Telling the client what was heard after its request, or that the link failed.
+use client::Client;
+use client::Outcome;
+use client::Phase;
+use client::Refusal;
+use client::Says;
+use client::Told;
+use client::Turn;
+use hearing::Heard;
+use ids::Id;
+use steps::Goes;
+use table::Table;
+use walk::Walk;
+ghost use mathlib.Core.Path.{_≡_};
+ghost use Rattle.paper.specs.Answers.{rest};
+ghost use Rattle.telling.specs.Telling.{attaches, stopOf, met, backed, walked, probed, hears, record′, linkFailed};
+
+// Attached to a pod, or to the one that has no id.
+fn attaches(c: Client, any: bool, id: Id, at: usize) -> Told
+    ensures { λ r. ⌜ r ≡ attaches c any id at ⌝ }
+{
+    c.holding(any, id)
+        .over(Says::Over(Outcome::Attached(any)), id, Table::none(), at)
+}
+
+// What ended a walk, by its number.
+fn stop_of(n: u8) -> Says
+    ensures { λ r. ⌜ r ≡ stopOf n ⌝ }
+{
+    if n == 12 {
+        return Says::Refused(Refusal::DuplicateUid);
+    }
+    if n == 14 {
+        return Says::Refused(Refusal::LongId);
+    }
+    if n == 15 {
+        return Says::Refused(Refusal::TableFull);
+    }
+    Says::Over(Outcome::Unaddressed)
+}
+
+// What an attach makes of what it heard.
+fn met(c: Client, given: bool, h: Heard, id: Id, at: usize) -> Told
+    ensures { λ r. ⌜ r ≡ met c given h id at ⌝ }
+{
+    let prefix = c.prefix;
+    match h {
+        Heard::Nothing => {
+            if given {
+                return c.over(Says::Refused(Refusal::NoSuchUid), prefix, Table::none(), at);
+            }
+            c.stops(Says::Refused(Refusal::NoDevice), at)
+        }
+        Heard::One => attaches(c, true, id, at),
+        Heard::TooLong => c.stops(Says::Refused(Refusal::LongId), at),
+        Heard::Unaddressed => {
+            if given {
+                return c.stops(Says::Refused(Refusal::NotAddressable), at);
+            }
+            attaches(c, false, Id::none(), at)
+        }
+        Heard::Garble => {
+            let w = c.walk;
+            c.onward(Phase::Backing(given), w, at)
+        }
+    }
+}
+
+// What an attach ends with once it has deselected.
+fn backed(c: Client, given: bool, at: usize) -> Told
+    ensures { λ r. ⌜ r ≡ backed c given at ⌝ }
+{
+    let prefix = c.prefix;
+    let d = c.cleared();
+    if given {
+        return d.over(
+            Says::Refused(Refusal::AmbiguousUid),
+            prefix,
+            Table::none(),
+            at,
+        );
+    }
+    d.stops(Says::Refused(Refusal::SeveralDevices), at)
+}
+
+// What a discovery makes of the walk's next step.
+fn walked(c: Client, goes: Goes, walk: Walk, at: usize) -> Told
+    ensures { λ r. ⌜ r ≡ walked c goes walk at ⌝ }
+{
+    match goes {
+        Goes::On(p) => c.onward(Phase::Walking(p), walk, at),
+        Goes::Done => {
+            let found = walk.found;
+            c.cleared()
+                .over(Says::Over(Outcome::Found), Id::none(), found, at)
+        }
+        Goes::Stopped(n) => c.stops(stop_of(n), at),
+    }
+}
+
+// What a plain select makes of what it heard.
+fn probed(c: Client, h: Heard, id: Id, at: usize) -> Told
+    ensures { λ r. ⌜ r ≡ probed c h id at ⌝ }
+{
+    if steps::long(h) {
+        return c.stops(Says::Refused(Refusal::LongId), at);
+    }
+    c.over(Says::Over(Outcome::Heard(h)), id, Table::none(), at)
+}
+
+// What the phase makes of what it heard.
+fn hears(c: Client, phase: Phase, h: Heard, id: Id, at: usize) -> Told
+    ensures { λ r. ⌜ r ≡ hears c phase h id at ⌝ }
+{
+    match phase {
+        Phase::Probing => probed(c, h, id, at),
+        Phase::Parting => c.cleared().stops(Says::Over(Outcome::Quiet), at),
+        Phase::Seeking(given) => met(c, given, h, id, at),
+        Phase::Backing(given) => backed(c, given, at),
+        Phase::Walking(p) => {
+            let w = c.walk;
+            let next = steps::step(w, p, h, id);
+            let goes = next.goes;
+            let walk = next.walk;
+            walked(c, goes, walk, at)
+        }
+    }
+}
+
+// A record of what was heard after the request.
+pub fn record(c: Client, bytes: &[u8]) -> Told
+    ensures { λ r. ⌜ r ≡ record′ c (now (bytes .entry)) ⌝ }
+{
+    let t = c.turn;
+    match t {
+        Turn::Idle => c.refuses(Refusal::OutOfTurn),
+        Turn::Ready(_) => c.refuses(Refusal::OutOfTurn),
+        Turn::Waiting(phase) => {
+            let x = hearing::hear(bytes);
+            let h = x.heard;
+            let id = x.id;
+            hears(c, phase, h, id, bytes.len())
+        }
+    }
+}
+
+// The link failed after the request.
+pub fn link_failed(c: Client) -> Told
+    ensures { λ r. ⌜ r ≡ linkFailed c ⌝ }
+{
+    let t = c.turn;
+    match t {
+        Turn::Idle => c.refuses(Refusal::OutOfTurn),
+        Turn::Ready(_) => c.refuses(Refusal::OutOfTurn),
+        Turn::Waiting(_) => c.stops(Says::Refused(Refusal::Io), 0),
+    }
+}
+
+// The unread rest of the lent record; empty if the place is past the end.
+pub fn rest(bytes: &[u8], at: usize) -> &[u8]
+    ensures { λ r. ⌜ now r ≡ rest (now (bytes .entry)) at ⌝ }
+{
+    hearing::rest(bytes, at)
+}
