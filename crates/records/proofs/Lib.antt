@@ -1,2 +1,3 @@
 pub mod Pack
 pub mod Levels
+pub mod Tables
