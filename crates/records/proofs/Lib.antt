@@ -1,3 +1,4 @@
 pub mod Pack
 pub mod Levels
 pub mod Tables
+pub mod Sim
