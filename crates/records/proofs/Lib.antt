@@ -2,3 +2,4 @@ pub mod Pack
 pub mod Levels
 pub mod Tables
 pub mod Sim
+pub mod Asks
