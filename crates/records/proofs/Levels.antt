@@ -21,14 +21,14 @@ module _ (n : ℕ) (l : List ℕ) where
   spread : (v : ℕ) → padded n (l ++ (v ∷ [])) ≡ l ++ v ∷ replicate (n - (length l + 1)) 0
   spread v = ap (λ (k : ℕ). l ++ (v ∷ []) ++ replicate (n - k) 0) (length-append l (v ∷ [])) ∙ append-snoc l v (replicate (n - (length l + 1)) 0)
 
-  pub pad-last : (v : ℕ) → getD (padded n (l ++ (v ∷ []))) (length l) 0 ≡ v
+  pad-last : (v : ℕ) → getD (padded n (l ++ (v ∷ []))) (length l) 0 ≡ v
   pad-last v = ap (λ (a : List ℕ). getD a (length l) 0) (spread v) ∙ getD-append-seam l v (replicate (n - (length l + 1)) 0) 0
 
   pub pad-reset : (u v : ℕ) → set (padded n (l ++ (u ∷ []))) (length l) v ≡ padded n (l ++ (v ∷ []))
   pad-reset u v = ap (λ (a : List ℕ). set a (length l) v) (spread u) ∙ set-append-seam l u (replicate (n - (length l + 1)) 0) v ∙ sym (spread v)
 
   module _ (h : length l < n) where
-    pub pad-zero : padded n l ≡ padded n (l ++ (0 ∷ []))
+    pad-zero : padded n l ≡ padded n (l ++ (0 ∷ []))
     pad-zero = let e : n - length l ≡ suc (n - (length l + 1)) = omega arith in ap (λ (k : ℕ). l ++ replicate k 0) e ∙ sym (spread 0)
 
     pub pad-set : (v : ℕ) → set (padded n l) (length l) v ≡ padded n (l ++ (v ∷ []))

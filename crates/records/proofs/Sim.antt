@@ -5,7 +5,7 @@ use mathlib.Core.Bool.{Bool, true, false, cond, _&&_}
 use mathlib.Core.List.{List, [], _∷_, _++_}
 use mathlib.Core.Path.{_≡_, refl, sym, _∙_, ap, ap₂}
 use native.Mathlib.Omega.{arith}
-use lib.Dec.{ltb, leb}
+use lib.Dec.{ltb}
 use lib.ListN.{length, drop, set, length-append, length-drop}
 use borrow.Author.Tests.{ltb-true, ltb-false, lt-ltb, le-ltb, le-leb}
 use Rattle.paper.specs.Count.{All}
@@ -17,7 +17,7 @@ use Rattle.lore.proofs.Packed.{packed-zero, packed-read}
 use Rattle.theory.specs.Machine.{Marks, path, Phase, asked, mine, other, leaving, State, ended, to, leave, descend, silent, kept, confirming, hears, tell, tooLong, step}
 use Rattle.theory.proofs.Fits.{Short, Held, Fits}
 use Rattle.ids.specs.declared.Id.{Id}
-use Rattle.ids.specs.Ids.{setBit, idOf, noId, idFrom}
+use Rattle.ids.specs.Ids.{setBit, noId, idFrom}
 use Rattle.ids.proofs.Laws.{id-of-from}
 use Rattle.path.specs.Paths.{cut}
 use Rattle.hearing.specs.declared.Heard.the-variants.{One, TooLong}
@@ -39,6 +39,12 @@ pub stand : (t : Table) (x : Id) {p q : List ℕ} {d e : ℕ} {m n : List ℕ} �
     → _≡_ {A = Walk} (record { path = p; depth = d; marks = m; found = t; candidate = x }) (record { path = q; depth = e; marks = n; found = t; candidate = x })
 stand t x ep ed em = λ i. record { path = ep i; depth = ed i; marks = em i; found = t; candidate = x }
 
+-- The marks where a branch that has ended leads: out of every one child.
+up : Marks → Marks
+up [] = []
+up (false ∷ marks) = false ∷ marks
+up (true ∷ marks) = up marks
+
 module _ (pre : Prefix) where
   one-more : (marks : Marks) (b : Bool) → length (path pre (b ∷ marks)) ≡ length (path pre marks) + 1
   one-more marks b = length-append (path pre marks) (b ∷ [])
@@ -49,12 +55,6 @@ module _ (pre : Prefix) where
   longer : (marks : Marks) → length marks ≤ length (path pre marks)
   longer [] = omega arith
   longer (b ∷ marks) = omega (arith, one-more marks b, longer marks)
-
-  -- Where the branch ends: out of every one child.
-  up : Marks → Marks
-  up [] = []
-  up (false ∷ marks) = false ∷ marks
-  up (true ∷ marks) = up marks
 
   module _ (ids : List Paper.Id) where
     mark-sim : (marks : Marks) → Code.mark (standingAt pre marks ids noId) ≡ lastMark marks
