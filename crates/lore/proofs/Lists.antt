@@ -1,10 +1,11 @@
 -- Parts of lists that the kit has no law for.
 -- Assumes nothing.
-use Prim.Native.Nat.{ℕ, zero, suc, _-_}
+use Prim.Native.Nat.{ℕ, zero, suc, _-_, _≤_}
 use mathlib.Core.List.{List, [], _∷_}
-use mathlib.Core.Path.{_≡_}
+use mathlib.Core.Path.{_≡_, refl, ap}
 use native.Mathlib.Nat.{zero-sub}
 use native.Mathlib.Numerals.{unary-clauses}
+use native.Mathlib.Omega.{arith}
 use lib.ListN.{take, drop, replicate}
 use lib.Seq.{take-nil}
 
@@ -19,3 +20,8 @@ module _ {A : Type 0} where
   drop-replicate n v zero = simp unary-clauses
   drop-replicate zero v (suc k) = rw (zero-sub (suc k))
   drop-replicate (suc n) v (suc k) = simp unary-clauses (drop-replicate n v k)
+
+  pub take-replicate : (n : ℕ) (v : A) (k : ℕ) → k ≤ n → take k (replicate n v) ≡ replicate k v
+  take-replicate n v zero h = refl
+  take-replicate zero v (suc k) h = absurd (omega arith)
+  take-replicate (suc n) v (suc k) h = ap (λ (l : List A). v ∷ l) (take-replicate n v k (omega arith))
