@@ -7,3 +7,4 @@ pub mod Attach
 pub mod Answers
 pub mod Text
 pub mod Client
+pub mod Log
