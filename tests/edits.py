@@ -7,7 +7,7 @@ import re
 import sys
 
 root = pathlib.Path(__file__).resolve().parent.parent
-unfit = re.compile(r"has no `Need-|unexpected number of arguments|takes \d+ arguments")
+unfit = re.compile(r"has no `Need-|was not admitted|expected type `tie\.Need-")
 bad = []
 edits = sorted(root.glob("crates/*/must-fail/*.edit"))
 for edit in edits:

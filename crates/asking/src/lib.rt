@@ -47,7 +47,8 @@ fn granted(c: Client, phase: Phase, w: Written) -> Started
     match w {
         Written::Done(n) => {
             let mut next = c.turned(Turn::Waiting(phase));
-            next.seed = next_seed(c.seed);
+            let seed = next_seed(c.seed);
+            next.seed = seed;
             Started {
                 says: Says::Granted(n),
                 client: next,
@@ -68,7 +69,8 @@ pub fn request(c: Client, buffer: &mut [u8]) -> Started
         Turn::Ready(phase) => {
             let a = asks(c, phase);
             let bits = a.bits;
-            let w = select::write_select(next_seed(c.seed), bits, (a.count % 256) as u8, buffer);
+            let seed = next_seed(c.seed);
+            let w = select::write_select(seed, bits, (a.count % 256) as u8, buffer);
             granted(c, phase, w)
         }
         Turn::Waiting(_) => c.refuse(Refusal::OutOfTurn),
