@@ -37,19 +37,19 @@ asks-requires : tie.Need-asks-requires
 asks-requires c κs = search needs
 
 returns : tie.Need-returns
-returns c = search (asks-probing, asks-parting, asks-seeking, asks-backing, asks-walking, needs)
+returns c = search (asks-probing, needs)
 
 returns-2 : tie.Need-returns-2
-returns-2 c = search (asks-probing, asks-parting, asks-seeking, asks-backing, asks-walking, needs)
+returns-2 c = search (asks-parting, needs)
 
 returns-3 : tie.Need-returns-3
-returns-3 c = search (asks-probing, asks-parting, asks-seeking, asks-backing, asks-walking, needs)
+returns-3 c = search (asks-seeking, needs)
 
 returns-4 : tie.Need-returns-4
-returns-4 c = search (asks-probing, asks-parting, asks-seeking, asks-backing, asks-walking, needs)
+returns-4 c = search (asks-backing, needs)
 
 returns-5 : tie.Need-returns-5
-returns-5 c = search (asks-probing, asks-parting, asks-seeking, asks-backing, asks-walking, needs)
+returns-5 c = search (asks-walking, needs)
 
 pub asks-spec : {M : Type 1} → statement M
 asks-spec =

@@ -25,13 +25,13 @@ refuse-requires-2 : tie.Need-refuse-requires-2
 refuse-requires-2 c κs = search needs
 
 returns : tie.Need-returns
-returns c = search (granted-done, granted-short, granted-never, needs)
+returns c = search (granted-done, needs)
 
 returns-2 : tie.Need-returns-2
-returns-2 c = search (granted-done, granted-short, granted-never, needs)
+returns-2 c = search (granted-short, needs)
 
 returns-3 : tie.Need-returns-3
-returns-3 c = search (granted-done, granted-short, granted-never, needs)
+returns-3 c = search (granted-never, needs)
 
 pub granted-spec : {M : Type 1} → statement M
 granted-spec =

@@ -34,16 +34,16 @@ refuse-requires-2 : tie.Need-refuse-requires-2
 refuse-requires-2 c κs = search needs
 
 returns : tie.Need-returns
-returns c = search (request-idle, request-out, request-made, needs)
+returns c = search (request-idle, needs)
 
 same-length : tie.Need-same-length
 same-length c = search needs
 
 returns-2 : tie.Need-returns-2
-returns-2 c = search (request-idle, request-out, request-made, needs)
+returns-2 c = search (request-made, needs)
 
 returns-3 : tie.Need-returns-3
-returns-3 c = search (request-idle, request-out, request-made, needs)
+returns-3 c = search (request-out, needs)
 
 pub request-spec : {M : Type 1} → statement M
 request-spec =

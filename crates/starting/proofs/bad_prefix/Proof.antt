@@ -10,13 +10,13 @@ refuse-requires : tie.Need-refuse-requires
 refuse-requires c κs = search needs
 
 returns : tie.Need-returns
-returns c = search (bad-late, bad-bad, needs)
+returns c = search (bad-late, needs)
 
 refuse-requires-2 : tie.Need-refuse-requires-2
 refuse-requires-2 c κs = search needs
 
 returns-2 : tie.Need-returns-2
-returns-2 c = search (bad-late, bad-bad, needs)
+returns-2 c = search (bad-bad, needs)
 
 pub bad-prefix-spec : {M : Type 1} → statement M
 bad-prefix-spec =

@@ -7,7 +7,7 @@ bad-prefix-requires : tie.Need-bad-prefix-requires
 bad-prefix-requires c κs = search needs
 
 returns : tie.Need-returns
-returns c = search (attach-over, attach-starts, needs)
+returns c = search (attach-over, needs)
 
 of-requires : tie.Need-of-requires
 of-requires c κs = search needs
@@ -19,7 +19,7 @@ starts-requires : tie.Need-starts-requires
 starts-requires c κs = search needs
 
 returns-2 : tie.Need-returns-2
-returns-2 c = search (attach-over, attach-starts, needs)
+returns-2 c = search (attach-starts, needs)
 
 pub start-attach-to-spec : {M : Type 1} → statement M
 start-attach-to-spec =

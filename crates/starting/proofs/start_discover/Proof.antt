@@ -7,7 +7,7 @@ bad-prefix-requires : tie.Need-bad-prefix-requires
 bad-prefix-requires c κs = search needs
 
 returns : tie.Need-returns
-returns c = search (discover-over, discover-starts, needs)
+returns c = search (discover-over, needs)
 
 of-requires : tie.Need-of-requires
 of-requires c κs = search needs
@@ -22,7 +22,7 @@ starts-requires : tie.Need-starts-requires
 starts-requires c κs = search needs
 
 returns-2 : tie.Need-returns-2
-returns-2 c = search (discover-over, discover-starts, needs)
+returns-2 c = search (discover-starts, needs)
 
 pub start-discover-spec : {M : Type 1} → statement M
 start-discover-spec =

@@ -7,7 +7,7 @@ bad-prefix-requires : tie.Need-bad-prefix-requires
 bad-prefix-requires c κs = search needs
 
 returns : tie.Need-returns
-returns c = search (select-over, select-few, select-starts, needs)
+returns c = search (select-over, needs)
 
 mul-if2 : tie.Need-mul-if2
 mul-if2 c = search needs
@@ -16,7 +16,7 @@ bad-prefix-requires-2 : tie.Need-bad-prefix-requires-2
 bad-prefix-requires-2 c κs = search needs
 
 returns-2 : tie.Need-returns-2
-returns-2 c = search (select-over, select-few, select-starts, needs)
+returns-2 c = search (select-few, needs)
 
 of-requires : tie.Need-of-requires
 of-requires c κs = search needs
@@ -31,7 +31,7 @@ starts-requires : tie.Need-starts-requires
 starts-requires c κs = search needs
 
 returns-3 : tie.Need-returns-3
-returns-3 c = search (select-over, select-few, select-starts, needs)
+returns-3 c = search (select-starts, needs)
 
 pub start-select-spec : {M : Type 1} → statement M
 start-select-spec =

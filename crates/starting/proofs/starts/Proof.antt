@@ -10,13 +10,13 @@ refuse-requires : tie.Need-refuse-requires
 refuse-requires c κs = search needs
 
 returns : tie.Need-returns
-returns c = search (starts-late, starts-now, needs)
+returns c = search (starts-late, needs)
 
 begun-requires : tie.Need-begun-requires
 begun-requires c κs = search needs
 
 returns-2 : tie.Need-returns-2
-returns-2 c = search (starts-late, starts-now, needs)
+returns-2 c = search (starts-now, needs)
 
 pub starts-spec : {M : Type 1} → statement M
 starts-spec =

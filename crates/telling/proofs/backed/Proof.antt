@@ -13,13 +13,13 @@ over-requires : tie.Need-over-requires
 over-requires c κs = search needs
 
 returns : tie.Need-returns
-returns c = search (backed-given, backed-none, needs)
+returns c = search (backed-given, needs)
 
 stops-requires : tie.Need-stops-requires
 stops-requires c κs = search needs
 
 returns-2 : tie.Need-returns-2
-returns-2 c = search (backed-given, backed-none, needs)
+returns-2 c = search (backed-none, needs)
 
 pub backed-spec : {M : Type 1} → statement M
 backed-spec =

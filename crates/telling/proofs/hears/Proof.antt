@@ -40,19 +40,19 @@ walked-requires : tie.Need-walked-requires
 walked-requires c κs = search needs
 
 returns : tie.Need-returns
-returns c = search (hears-probing, hears-parting, hears-seeking, hears-backing, hears-walking, needs)
+returns c = search (hears-probing, needs)
 
 returns-2 : tie.Need-returns-2
-returns-2 c = search (hears-probing, hears-parting, hears-seeking, hears-backing, hears-walking, needs)
+returns-2 c = search (hears-parting, needs)
 
 returns-3 : tie.Need-returns-3
-returns-3 c = search (hears-probing, hears-parting, hears-seeking, hears-backing, hears-walking, needs)
+returns-3 c = search (hears-seeking, needs)
 
 returns-4 : tie.Need-returns-4
-returns-4 c = search (hears-probing, hears-parting, hears-seeking, hears-backing, hears-walking, needs)
+returns-4 c = search (hears-backing, needs)
 
 returns-5 : tie.Need-returns-5
-returns-5 c = search (hears-probing, hears-parting, hears-seeking, hears-backing, hears-walking, needs)
+returns-5 c = search (hears-walking, needs)
 
 pub hears-spec : {M : Type 1} → statement M
 hears-spec =

@@ -22,13 +22,13 @@ stops-requires : tie.Need-stops-requires
 stops-requires c κs = search needs
 
 returns : tie.Need-returns
-returns c = search (failed-idle, failed-ready, failed-out, needs)
+returns c = search (failed-idle, needs)
 
 returns-2 : tie.Need-returns-2
-returns-2 c = search (failed-idle, failed-ready, failed-out, needs)
+returns-2 c = search (failed-ready, needs)
 
 returns-3 : tie.Need-returns-3
-returns-3 c = search (failed-idle, failed-ready, failed-out, needs)
+returns-3 c = search (failed-out, needs)
 
 pub link-failed-spec : {M : Type 1} → statement M
 link-failed-spec =

@@ -13,7 +13,7 @@ over-requires : tie.Need-over-requires
 over-requires c κs = search needs
 
 returns : tie.Need-returns
-returns c = search (met-nothing-given, met-nothing, met-one, met-long, met-unaddressed-given, met-unaddressed, met-garble, needs)
+returns c = search (met-nothing-given, needs)
 
 stops-requires : tie.Need-stops-requires
 stops-requires c κs = search needs
@@ -37,7 +37,7 @@ stops-requires-3 : tie.Need-stops-requires-3
 stops-requires-3 c κs = search needs
 
 returns-2 : tie.Need-returns-2
-returns-2 c = search (met-nothing-given, met-nothing, met-one, met-long, met-unaddressed-given, met-unaddressed, met-garble, needs)
+returns-2 c = search (met-unaddressed-given, needs)
 
 none-requires-2 : tie.Need-none-requires-2
 none-requires-2 c κs = search needs
@@ -52,19 +52,19 @@ onward-requires : tie.Need-onward-requires
 onward-requires c κs = search needs
 
 returns-3 : tie.Need-returns-3
-returns-3 c = search (met-nothing-given, met-nothing, met-one, met-long, met-unaddressed-given, met-unaddressed, met-garble, needs)
+returns-3 c = search (met-nothing, needs)
 
 returns-4 : tie.Need-returns-4
-returns-4 c = search (met-nothing-given, met-nothing, met-one, met-long, met-unaddressed-given, met-unaddressed, met-garble, needs)
+returns-4 c = search (met-one, needs)
 
 returns-5 : tie.Need-returns-5
-returns-5 c = search (met-nothing-given, met-nothing, met-one, met-long, met-unaddressed-given, met-unaddressed, met-garble, needs)
+returns-5 c = search (met-long, needs)
 
 returns-6 : tie.Need-returns-6
-returns-6 c = search (met-nothing-given, met-nothing, met-one, met-long, met-unaddressed-given, met-unaddressed, met-garble, needs)
+returns-6 c = search (met-unaddressed, needs)
 
 returns-7 : tie.Need-returns-7
-returns-7 c = search (met-nothing-given, met-nothing, met-one, met-long, met-unaddressed-given, met-unaddressed, met-garble, needs)
+returns-7 c = search (met-garble, needs)
 
 pub met-spec : {M : Type 1} → statement M
 met-spec =

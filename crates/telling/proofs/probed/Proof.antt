@@ -10,7 +10,7 @@ stops-requires : tie.Need-stops-requires
 stops-requires c κs = search needs
 
 returns : tie.Need-returns
-returns c = search (probed-long, probed-heard, needs)
+returns c = search (probed-long, needs)
 
 none-requires : tie.Need-none-requires
 none-requires c κs = search needs
@@ -19,7 +19,7 @@ over-requires : tie.Need-over-requires
 over-requires c κs = search needs
 
 returns-2 : tie.Need-returns-2
-returns-2 c = search (probed-long, probed-heard, needs)
+returns-2 c = search (probed-heard, needs)
 
 pub probed-spec : {M : Type 1} → statement M
 probed-spec =

@@ -25,13 +25,13 @@ hears-requires : tie.Need-hears-requires
 hears-requires c κs = search needs
 
 returns : tie.Need-returns
-returns c = search (record-idle, record-ready, record-heard, needs)
+returns c = search (record-idle, needs)
 
 returns-2 : tie.Need-returns-2
-returns-2 c = search (record-idle, record-ready, record-heard, needs)
+returns-2 c = search (record-ready, needs)
 
 returns-3 : tie.Need-returns-3
-returns-3 c = search (record-idle, record-ready, record-heard, needs)
+returns-3 c = search (record-heard, needs)
 
 pub record-spec : {M : Type 1} → statement M
 record-spec =

@@ -31,13 +31,13 @@ stops-requires : tie.Need-stops-requires
 stops-requires c κs = search needs
 
 returns : tie.Need-returns
-returns c = search (walked-on, walked-done, walked-stopped, needs)
+returns c = search (walked-on, needs)
 
 returns-2 : tie.Need-returns-2
-returns-2 c = search (walked-on, walked-done, walked-stopped, needs)
+returns-2 c = search (walked-done, needs)
 
 returns-3 : tie.Need-returns-3
-returns-3 c = search (walked-on, walked-done, walked-stopped, needs)
+returns-3 c = search (walked-stopped, needs)
 
 pub walked-spec : {M : Type 1} → statement M
 walked-spec =
