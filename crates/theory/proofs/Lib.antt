@@ -21,5 +21,7 @@ pub mod Refine
 pub mod Fits
 pub mod Resuming
 pub mod Talking
+pub mod Ending
+pub mod Keeping
 pub mod Condition3
 pub mod Examples

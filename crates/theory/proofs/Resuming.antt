@@ -1,19 +1,18 @@
 -- Each phase stands at a place of its operation's conversation, and each step of the machine is one step of that.
 -- Assumes nothing.
-use Prim.Native.Nat.{ℕ}
 use mathlib.Core.Bool.{Bool, true, false, cond}
 use mathlib.Core.List.{List, []}
 use mathlib.Core.Option.{Option, none, some}
-use mathlib.Core.Path.{_≡_, refl, sym, _∙_, ap}
+use mathlib.Core.Path.{_≡_, refl, _∙_, ap}
 use lib.ListN.{take}
 use Rattle.paper.specs.Attach.{listen, selectOnly, deselect, prefixOf, met, attach, discover}
 use Rattle.paper.specs.Hearing.{Id, Prefix, bitsOf, onSome, Heard, nothing, one, unaddressed, garble}
 use Rattle.paper.specs.Talk as Talk
-use Rattle.paper.specs.Talk.{Ask, select, Talk, return, stop, report, ask, _>>=_, _>>_, Outcome, found}
+use Rattle.paper.specs.Talk.{select, Talk, return, stop, ask, _>>=_, _>>_, Outcome, found}
 use Rattle.paper.specs.Walk as Walk
 use Rattle.paper.specs.Walk.{Walk, long, done, stopped}
 use Rattle.theory.specs.Machine as Machine
-use Rattle.theory.specs.Machine.{State, going, ended}
+use Rattle.theory.specs.Machine.{going, ended}
 use Rattle.theory.specs.Phases.{Phase, probing, parting, seeking, backing, walking, request, Then, to, ends, refuses, unlessLong, sought, backed, walked, step, starting}
 use Rattle.theory.proofs.Refine as Refine
 

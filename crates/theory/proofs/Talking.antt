@@ -3,8 +3,8 @@
 use Prim.Native.Nat.{ℕ, _*_}
 use mathlib.Core.Bool.{Bool, true, false, _&&_, cond}
 use mathlib.Core.List.{List, [], _∷_, _++_}
-use mathlib.Core.Option.{Option, none, some}
-use mathlib.Core.Path.{_≡_, refl, sym, _∙_, ap}
+use mathlib.Core.Option.{Option, none}
+use mathlib.Core.Path.{_≡_, refl, _∙_, ap}
 use lib.Dec.{leb, ltb}
 use lib.ListN.{length, drop, take}
 use Rattle.paper.specs.Client as Paper
