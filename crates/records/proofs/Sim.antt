@@ -213,7 +213,7 @@ module _ (pre : Prefix) (marks : Marks) (ids : List Paper.Id) (d : length (path 
       ending : Table → Next
       ending t = record { goes = Done; walk = Moves.finding Moves.noWalk t }
 
-long-is : (h : Paper.Heard) → Code.long (shownHeard h .heard) ≡ long h
+pub long-is : (h : Paper.Heard) → Code.long (shownHeard h .heard) ≡ long h
 unfolding Code.long long oneHeard
 long-is nothing = refl
 long-is (one x) = go (ltb 16 (length x))
