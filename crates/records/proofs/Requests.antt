@@ -93,7 +93,7 @@ phase-bits (seeking (some uid)) f = omega (arith, bits-length uid)
 phase-bits (backing uid) f = omega arith
 phase-bits (walking s) f = Walk.request-fits s f
 
-payload-length : (seed : ℕ) (q : Prefix) → length (selectPayload seed q) ≡ 2 + (length q + 7) / 8
+pub payload-length : (seed : ℕ) (q : Prefix) → length (selectPayload seed q) ≡ 2 + (length q + 7) / 8
 unfolding selectPayload
 payload-length seed q = omega (arith, packed-length ((length q + 7) / 8) q)
 

@@ -21,7 +21,7 @@ use Rattle.theory.specs.Phases as Phases
 use Rattle.theory.specs.Phases.{Phase, probing, parting, seeking, backing, walking, Then, ends, refuses, sought, backed, walked, step}
 use Rattle.theory.specs.Clients as Machine
 use Rattle.theory.specs.Clients.{Turn, idle, ready, waiting, turned, settle}
-use Rattle.theory.proofs.Ending.{Undone, Asking, step-undone}
+use Rattle.theory.proofs.Ending.{Undone, Staying, step-undone}
 use Rattle.theory.proofs.Fits as Walk₂
 use Rattle.theory.proofs.Fits.{Held}
 use Rattle.theory.proofs.Keeping.{FitsPhase, FitsTurn, Fits}
@@ -47,19 +47,19 @@ use Rattle.records.specs.Clients.{phaseIn, isThere, recordOf, clientOf, 
 use Rattle.records.proofs.Sim.{step-sim, long-is}
 
 -- Only a deselect clears the attached id.
-keeps : (q : Prefix) (id : Option Paper.Id) → length q ≤ 128 → cleared (select q) id ≡ id
+pub keeps : (q : Prefix) (id : Option Paper.Id) → length q ≤ 128 → cleared (select q) id ≡ id
 keeps q id h = ap (λ (b : Bool). cond b none id) (le-ltb 128 (length q) h)
 
-clears : (id : Option Paper.Id) → cleared (select nobody) id ≡ none
+pub clears : (id : Option Paper.Id) → cleared (select nobody) id ≡ none
 unfolding nobody
 clears id = refl
 
 -- The phases of a walk that ask for a prefix.
-asking-bits : (s : State) → Walk₂.Fits s → Asking (s .phase) → length (Walk.request s) ≤ 128
+pub asking-bits : (s : State) → Walk₂.Fits s → Staying (s .phase) → length (Walk.request s) ≤ 128
 unfolding Walk.request
 asking-bits s f a = go (s .phase) (f .held) a
   where
-    go : (p : Walk.Phase) → Held (path (s .pre) (s .marks)) p → Asking p → length (Walk.request (record { pre = s .pre; marks = s .marks; ids = s .ids; phase = p })) ≤ 128
+    go : (p : Walk.Phase) → Held (path (s .pre) (s .marks)) p → Staying p → length (Walk.request (record { pre = s .pre; marks = s .marks; ids = s .ids; phase = p })) ≤ 128
     go asked w a = f .depth
     go (mine id) w a = omega (arith, w .0, w .1, length-append (path (s .pre) (s .marks)) (nextBit (path (s .pre) (s .marks)) id ∷ []))
     go (other id good) w a = omega (arith, w .0, w .1, length-append (path (s .pre) (s .marks)) (not (nextBit (path (s .pre) (s .marks)) id) ∷ []))
@@ -164,7 +164,7 @@ module _ (seed : ℕ) (id : Option Paper.Id) (at : ℕ) where
       at-phase : Walk.Phase → State
       at-phase p = record { pre = s .pre; marks = s .marks; ids = s .ids; phase = p }
 
-      asks : (s : State) → Walk₂.Fits s → Asking (s .phase) → answers (walking s) h ≡ settles (walking s) (cleared (select (Walk.request s)) id) (walked (Walk.step s h))
+      asks : (s : State) → Walk₂.Fits s → Staying (s .phase) → answers (walking s) h ≡ settles (walking s) (cleared (select (Walk.request s)) id) (walked (Walk.step s h))
       asks s f a =
           stepped s h f
           ∙ undone-told s (Walk.step s h) (step-undone Same same-deep same-long same-full same-bare s h a)

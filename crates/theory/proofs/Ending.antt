@@ -16,11 +16,11 @@ Undone P (ended (done ids)) = ⊥
 Undone P (ended (stopped c)) = P c
 
 -- It is not the deselect.
-abbrev pub Asking : Phase → Type 0
-Asking asked = Unit {0}
-Asking (mine id) = Unit {0}
-Asking (other id good) = Unit {0}
-Asking leaving = ⊥
+abbrev pub Staying : Phase → Type 0
+Staying asked = Unit {0}
+Staying (mine id) = Unit {0}
+Staying (other id good) = Unit {0}
+Staying leaving = ⊥
 
 module _ (P : ℕ → Type 0) (deep : P 12) (long : P 14) (full : P 15) (bare : P 23) (pre : Prefix) where
   leave-undone : (marks : Marks) (ids : List Id) → Undone P (leave pre marks ids)
@@ -62,7 +62,7 @@ module _ (P : ℕ → Type 0) (deep : P 12) (long : P 14) (full : P 15) (bare : 
   hears-undone marks ids unaddressed = bare
   hears-undone marks ids garble = descend-undone marks ids
 
-  tell-undone : (marks : Marks) (ids : List Id) (phase : Phase) (h : Heard) → Asking phase → Undone P (tell pre marks ids phase h)
+  tell-undone : (marks : Marks) (ids : List Id) (phase : Phase) (h : Heard) → Staying phase → Undone P (tell pre marks ids phase h)
   unfolding tell
   tell-undone marks ids asked h a = hears-undone marks ids h
   tell-undone marks ids (mine id) h a = tt
@@ -73,7 +73,7 @@ module _ (P : ℕ → Type 0) (deep : P 12) (long : P 14) (full : P 15) (bare : 
       go false = descend-undone marks ids
   tell-undone marks ids leaving h a = absurd a
 
-pub step-undone : (P : ℕ → Type 0) → P 12 → P 14 → P 15 → P 23 → (s : State) (h : Heard) → Asking (s .phase) → Undone P (step s h)
+pub step-undone : (P : ℕ → Type 0) → P 12 → P 14 → P 15 → P 23 → (s : State) (h : Heard) → Staying (s .phase) → Undone P (step s h)
 unfolding step
 step-undone P deep long full bare s h a = go (tooLong (s .phase) h)
   where
