@@ -14,10 +14,11 @@ use Rattle.paper.specs.Talk.{Outcome, quiet, heard, attached, found}
 use Rattle.paper.specs.Walk.{long, done, stopped}
 use Rattle.theory.specs.Machine as Walk
 use Rattle.theory.specs.Machine.{State, asked, mine, other, leaving, going, ended}
+use Rattle.theory.specs.Clients.{Brief}
 use Rattle.theory.specs.Phases.{Phase, probing, parting, seeking, backing, walking, Then, to, ends, refuses, unlessLong, sought, walked, step}
 use Rattle.theory.proofs.Ending.{Undone, Staying, step-undone}
 use Rattle.theory.proofs.Fits.{Short, FitsNext, step-fits}
-use Rattle.theory.proofs.Keeping.{Brief, FitsPhase, FitsOutcome}
+use Rattle.theory.proofs.Keeping.{FitsPhase, FitsOutcome}
 use Rattle.ids.specs.Ids.{idOf}
 use Rattle.ids.proofs.Laws.{id-of-from}
 use Rattle.hearing.specs.declared.Hearing.{Hearing}

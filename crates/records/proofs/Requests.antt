@@ -40,7 +40,7 @@ use Rattle.records.specs.Clients.{phaseIn, recordOf, clientOf, refusedAs
 use Rattle.records.proofs.Asks.{asks-sim, asks-count, nobody-back}
 
 -- The bits of bytes and more bytes.
-bits-append : (x y : List ℕ) → bitsOf (x ++ y) ≡ bitsOf x ++ bitsOf y
+pub bits-append : (x y : List ℕ) → bitsOf (x ++ y) ≡ bitsOf x ++ bitsOf y
 unfolding bitsOf counting
 bits-append [] y = refl
 bits-append (b ∷ x) y =

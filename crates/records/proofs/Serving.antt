@@ -22,11 +22,11 @@ use Rattle.theory.specs.Machine.{State, asked, mine, other, leaving, Next, goin
 use Rattle.theory.specs.Phases as Phases
 use Rattle.theory.specs.Phases.{Phase, walking, Then, walked, step}
 use Rattle.theory.specs.Clients as Machine
-use Rattle.theory.specs.Clients.{Turn, idle, ready, waiting, settle, grant}
+use Rattle.theory.specs.Clients.{Brief, Turn, idle, ready, waiting, settle, grant}
 use Rattle.theory.proofs.Ending.{Undone, Staying, step-undone}
 use Rattle.theory.proofs.Fits as Walk₂
 use Rattle.theory.proofs.Fits.{FitsNext, step-fits}
-use Rattle.theory.proofs.Keeping.{Brief, Fits}
+use Rattle.theory.proofs.Keeping.{Fits}
 use Rattle.table.specs.Rows.{noTable}
 use Rattle.client.specs.declared.Client.{Client}
 use Rattle.client.specs.declared.Told.{Told}

@@ -1,30 +1,31 @@
 -- A client driven over a wire, from bytes to bytes: a request is asked for, the wire is handed its bytes, and its record is handed in.
 -- Assumes nothing.
-use Prim.Native.Nat.{ℕ, zero, suc, _+_, _%_}
+use Prim.Native.Nat.{ℕ, zero, suc, _+_, _%_, _≤_}
 use mathlib.Core.Bool.{Bool, true, false, cond}
 use mathlib.Core.List.{List, [], _∷_}
 use mathlib.Core.Option.{Option, none}
 use mathlib.Core.Path.{_≡_}
-use lib.ListN.{take, drop}
+use lib.ListN.{length, take, drop}
 use Rattle.paper.specs.Client as Paper
 use Rattle.paper.specs.Client.{bytesOf, refused, over}
-use Rattle.paper.specs.Count.{matching, limit}
+use Rattle.paper.specs.Count.{matching, All, Distinct, limit}
 use Rattle.paper.specs.Frame.{byte, frameBytes, command-Select, status-Ok}
-use Rattle.paper.specs.Hearing.{Id, Prefix, bitsOf, hear}
+use Rattle.paper.specs.Hearing.{Id, Prefix, bitsOf, matches, hear}
 use Rattle.paper.specs.Talk.{select, found}
 use Rattle.paper.specs.Walk as Paper₃
-use Rattle.paper.specs.Walk.{Ended, done, stopped}
+use Rattle.paper.specs.Walk.{sort, Ended, done, stopped}
 use Rattle.ids.specs.Ids.{noId}
 use Rattle.table.specs.declared.Table.{Table}
 use Rattle.table.specs.Rows.{noTable}
 use Rattle.walk.specs.Moves.{noWalk}
 use Rattle.client.specs.declared.Client.{Client}
+use Rattle.client.specs.declared.Outcome.the-variants.{Found}
 use Rattle.client.specs.declared.Says.{Says}
 use Rattle.client.specs.declared.Says.the-variants.{Granted, Onward, Over, Refused}
 use Rattle.client.specs.declared.Started.{Started}
 use Rattle.client.specs.declared.Told.{Told}
 use Rattle.client.specs.declared.Turn.the-variants.{Idle}
-use Rattle.client.specs.Numbers.{saysOf}
+use Rattle.client.specs.Numbers.{idsOf, saysOf}
 use Rattle.starting.specs.Starting.{startDiscover}
 use Rattle.asking.specs.Asking.{Asking, request}
 use Rattle.telling.specs.Telling.{record′}
@@ -92,6 +93,25 @@ pub record EndsAs (seed : ℕ) (id : Option Id) (paper : Ended (List Id) × ℕ)
   pub found : code .0 .found ≡ endTable (paper .0)
   pub client : code .0 .client ≡ resting ((seed + paper .1) % 256) (endId id (paper .0))
   pub selects : code .1 ≡ paper .1
+
+-- A driven discovery found exactly these ids, after so many Selects: they are the answer and the table, and no id is attached.
+pub record Finds (seed : ℕ) (ids : List Id) (n : ℕ) (code : Told × ℕ) : Type 0 where
+  pub says : code .0 .says ≡ Over Found
+  pub answer : idsOf (code .0 .found) ≡ ids
+  pub found : code .0 .found ≡ tableOf ids
+  pub client : code .0 .client ≡ resting ((seed + n) % 256) none
+  pub selects : code .1 ≡ n
+
+-- The ids of an answer: at most 64, distinct, in order, each of at most 16 bytes and beginning with the prefix.
+pub record Lists (prefix : Prefix) (code : Told × ℕ) : Type 0 where
+  pub ids : List Id
+  pub answer : idsOf (code .0 .found) ≡ ids
+  pub found : code .0 .found ≡ tableOf ids
+  pub few : length ids ≤ 64
+  pub distinct : Distinct ids
+  pub sorted : sort ids ≡ ids
+  pub short : All (λ x. length x ≤ 16) ids
+  pub matched : All (λ x. matches prefix x ≡ true) ids
 
 -- The bits that a Select asks for: byte 11 counts them, and they begin with byte 12.
 unfoldable pub bitsIn : List ℕ → Prefix

@@ -18,14 +18,9 @@ use Rattle.theory.specs.Machine as Machine
 use Rattle.theory.specs.Machine.{going, ended}
 use Rattle.theory.specs.Phases as Phases
 use Rattle.theory.specs.Phases.{Phase, probing, parting, seeking, backing, walking, Then, to, ends, refuses, unlessLong, sought, walked, step, starting}
-use Rattle.theory.specs.Clients.{Turn, idle, ready, waiting, Client, fresh, turned, settle, start, startSelect, startDeselect, startAttach, startDiscover, Asked, grant, request, record′, linkFailed}
+use Rattle.theory.specs.Clients.{Brief, Turn, idle, ready, waiting, Client, fresh, turned, settle, start, startSelect, startDeselect, startAttach, startDiscover, Asked, grant, request, record′, linkFailed}
 use Rattle.theory.proofs.Fits as Walk
 use Rattle.theory.proofs.Fits.{Short, FitsNext, step-fits}
-
--- An id, where there is one, is of at most 16 bytes.
-abbrev pub Brief : Option Id → Type 0
-Brief none = Unit {0}
-Brief (some id) = Short id
 
 abbrev pub FitsPhase : Phase → Type 0
 FitsPhase (probing bytes bits) = Short bytes × (bits ≤ 8 * length bytes)

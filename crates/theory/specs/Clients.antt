@@ -1,16 +1,21 @@
 -- The client of the operations' machine: what each call answers and leaves.
 -- Assumes nothing.
-use Prim.Native.Nat.{ℕ, _*_}
+use Prim.Native.Nat.{ℕ, _*_, _≤_}
 use mathlib.Core.Bool.{Bool, true, _&&_, cond}
 use mathlib.Core.List.{List, [], _∷_, _++_}
-use mathlib.Core.Option.{Option, none}
+use mathlib.Core.Option.{Option, none, some}
 use lib.Dec.{leb, ltb}
 use lib.ListN.{length, drop}
 use Rattle.paper.specs.Client.{Says, refused, granted, onward, over, idAfter, short, seedAfter, bytesOf, cleared}
-use Rattle.paper.specs.Hearing.{Id, bitsOf, hear, onSome}
+use Rattle.paper.specs.Hearing.{Id, bitsOf, longest, hear, onSome}
 use Rattle.paper.specs.Talk.{select}
 use Rattle.theory.specs.Phases as Phases
 use Rattle.theory.specs.Phases.{Phase, probing, parting, seeking, walking, Then, to, ends, refuses, step, starting}
+
+-- An id, where there is one, is of at most 16 bytes.
+abbrev pub Brief : Option Id → Type 0
+Brief none = Unit {0}
+Brief (some id) = length id ≤ longest
 
 -- No operation; one whose next request can be asked for; one whose request is out.
 pub data Turn : Type 0 where
