@@ -19,5 +19,9 @@ pub mod Most
 pub mod Kept
 pub mod Refine
 pub mod Fits
+pub mod Resuming
+pub mod Talking
+pub mod Ending
+pub mod Keeping
 pub mod Condition3
 pub mod Examples
