@@ -1,6 +1,6 @@
 -- The driven client is document 01's conversation: every answer, whatever is called and in whatever order.
 -- Assumes nothing.
-use Prim.Native.Nat.{ℕ, _*_}
+use Prim.Native.Nat.{ℕ, _*_, _<_}
 use mathlib.Core.Bool.{Bool, true, false, _&&_, cond}
 use mathlib.Core.List.{List, [], _∷_, _++_}
 use mathlib.Core.Option.{Option, none, some}
@@ -29,6 +29,7 @@ use Rattle.client.specs.Clients as Code₂
 use Rattle.client.specs.Numbers.{numberOf, carriedBy, saysOf}
 use Rattle.records.specs.Clients.{clientOf, refusedAs, startedAs, toldAs, askedAs}
 use Rattle.records.specs.Calls.{Call, startSelect, startDeselect, startAttach, startDiscover, request, record′, linkFailed, Good, Reply, saidBy, paperCall, startedBy, askedBy, toldBy, codeCall, attachedTo, paperAnswer, codeAnswer, paperAnswers, codeAnswers, reached}
+use Rattle.records.specs.Served.{resting}
 use Rattle.records.proofs.Readable.{Readable, ReadableThen, io-read, turn-read, phase-read}
 use Rattle.records.proofs.Requests.{request-asked}
 use Rattle.records.proofs.Starts.{select-started, deselect-started, attach-started, attach-to-started, discover-started}
@@ -200,28 +201,40 @@ unfolding reached
 reaches c f [] g = record { machine = c; fits = f; client = refl }
 reaches c f (call ∷ calls) g = rw (code-call c f call (g .0)) (reaches ((machineCall c call) .1) (call-fits c f call) calls (g .1))
 
--- With no operation, a client is its seed and its attached id.
-idle-is : (c : Machine.Client) → clientOf c .turn ≡ Idle → clientOf c ≡ Code₂.idle (clientOf c)
-unfolding Code₂.idle
-idle-is c e = go (c .turn) e
+-- A client with no operation, of a seed and an attached id or none.
+pub record Rests (d : Client) : Type 0 where
+  pub seed : ℕ
+  pub byte : seed < 256
+  pub id : Option Id
+  pub brief : Brief id
+  pub client : d ≡ resting seed id
+
+idle-is : (c : Machine.Client) → Fits c → clientOf c .turn ≡ Idle → Rests (clientOf c)
+idle-is c f e = go (c .turn) e
   where
-    go : (t : Turn) → clientOf (turned c t) .turn ≡ Idle → clientOf (turned c t) ≡ Code₂.idle (clientOf (turned c t))
-    go idle e = refl
+    go : (t : Turn) → clientOf (turned c t) .turn ≡ Idle → Rests (clientOf (turned c t))
+    go idle e = record { seed = c .seed; byte = f .seed; id = c .id; brief = f .id; client = refl }
     go (ready ph) e = absurd (let z : _≡_ {A = ℕ} 0 1 = cc in omega arith)
     go (waiting ph) e = absurd (let z : _≡_ {A = ℕ} 0 1 = cc in omega arith)
+
+-- Whatever was called before: a client with no operation is of a seed and an attached id or none, and nothing else.
+pub idle-rests : (calls : List Call) → All Good calls → reached Code₂.fresh calls .turn ≡ Idle → Rests (reached Code₂.fresh calls)
+idle-rests calls g e = rw (r .client) (idle-is (r .machine) (r .fits) (rw (r .client) at e))
+  where
+    r : Reached (reached Code₂.fresh calls)
+    r = rw new-client (reaches Machine.fresh fresh-fits calls g)
+
+rests-idle : (d : Client) → Rests d → d ≡ Code₂.idle d
+unfolding Code₂.idle
+rests-idle d r = rw (r .client)
 
 same-idle : (c d : Client) → c .seed ≡ d .seed → Code₂.attached c ≡ Code₂.attached d → Code₂.idle c ≡ Code₂.idle d
 unfolding Code₂.idle Code₂.attached
 same-idle c d s a = λ i. record { seed = s i; attached = a i .any; id = a i .id; turn = Idle; prefix = noId; bits = 0; walk = noWalk }
 
-pub idle-reached : (calls : List Call) → All Good calls → reached Code₂.fresh calls .turn ≡ Idle → reached Code₂.fresh calls ≡ Code₂.idle (reached Code₂.fresh calls)
-idle-reached calls g e = rw (r .client) (idle-is (r .machine) (rw (r .client) at e))
-  where
-    r : Reached (reached Code₂.fresh calls)
-    r = rw new-client (reaches Machine.fresh fresh-fits calls g)
-
--- Whatever was called before.
+-- So two such clients of one seed and attached id are equal.
 pub idle-canonical : (xs ys : List Call) → All Good xs → All Good ys → reached Code₂.fresh xs .turn ≡ Idle → reached Code₂.fresh ys .turn ≡ Idle
     → reached Code₂.fresh xs .seed ≡ reached Code₂.fresh ys .seed → Code₂.attached (reached Code₂.fresh xs) ≡ Code₂.attached (reached Code₂.fresh ys)
     → reached Code₂.fresh xs ≡ reached Code₂.fresh ys
-idle-canonical xs ys g h e f s a = idle-reached xs g e ∙ same-idle (reached Code₂.fresh xs) (reached Code₂.fresh ys) s a ∙ sym (idle-reached ys h f)
+idle-canonical xs ys g h e f s a =
+    rests-idle (reached Code₂.fresh xs) (idle-rests xs g e) ∙ same-idle (reached Code₂.fresh xs) (reached Code₂.fresh ys) s a ∙ sym (rests-idle (reached Code₂.fresh ys) (idle-rests ys h f))
