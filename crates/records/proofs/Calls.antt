@@ -1,6 +1,6 @@
 -- The driven client is document 01's conversation: every answer, whatever is called and in whatever order.
 -- Assumes nothing.
-use Prim.Native.Nat.{ℕ, _*_, _<_}
+use Prim.Native.Nat.{ℕ, _*_}
 use mathlib.Core.Bool.{Bool, true, false, _&&_, cond}
 use mathlib.Core.List.{List, [], _∷_, _++_}
 use mathlib.Core.Option.{Option, none, some}
@@ -13,11 +13,14 @@ use Rattle.paper.specs.Client.{Says, refused, granted, short, bytesOf, seedAfte
 use Rattle.paper.specs.Count.{All}
 use Rattle.paper.specs.Hearing.{Id, bitsOf, hear}
 use Rattle.paper.specs.Talk.{select}
+use Rattle.lore.proofs.Words.{Bytes}
 use Rattle.theory.specs.Phases as Phases
 use Rattle.theory.specs.Phases.{Phase, probing, parting, seeking, walking, Then, to, ends, refuses, step, starting}
 use Rattle.theory.specs.Clients as Machine
 use Rattle.theory.specs.Clients.{Brief, Turn, idle, ready, waiting, turned, settle, grant}
 use Rattle.theory.proofs.Keeping.{FitsTurn, Fits, fresh-fits, startSelect-fits, startDeselect-fits, startAttach-fits, startDiscover-fits, request-fits, record-fits, linkFailed-fits}
+use Rattle.theory.proofs.Carried.{heard-bytes}
+use Rattle.theory.proofs.Holding.{Holds, fresh-holds, startSelect-holds, startDeselect-holds, startAttach-holds, startDiscover-holds, request-holds, record-holds, linkFailed-holds}
 use Rattle.theory.proofs.Talking.{paperOf, fresh-sim, startSelect-sim, startDeselect-sim, startAttach-sim, startDiscover-sim, request-sim, record-sim, linkFailed-sim}
 use Rattle.ids.specs.Ids.{noId}
 use Rattle.ids.proofs.Laws.{id-of-from}
@@ -28,8 +31,7 @@ use Rattle.client.specs.declared.Turn.the-variants.{Idle}
 use Rattle.client.specs.Clients as Code₂
 use Rattle.client.specs.Numbers.{numberOf, carriedBy, saysOf}
 use Rattle.records.specs.Clients.{clientOf, refusedAs, startedAs, toldAs, askedAs}
-use Rattle.records.specs.Calls.{Call, startSelect, startDeselect, startAttach, startDiscover, request, record′, linkFailed, Good, Reply, saidBy, paperCall, startedBy, askedBy, toldBy, codeCall, attachedTo, paperAnswer, codeAnswer, paperAnswers, codeAnswers, reached}
-use Rattle.records.specs.Served.{resting}
+use Rattle.records.specs.Calls.{Call, startSelect, startDeselect, startAttach, startDiscover, request, record′, linkFailed, Good, Reply, saidBy, paperCall, startedBy, askedBy, toldBy, codeCall, attachedTo, paperAnswer, codeAnswer, paperAnswers, codeAnswers, reached, Rests}
 use Rattle.records.proofs.Readable.{Readable, ReadableThen, io-read, turn-read, phase-read}
 use Rattle.records.proofs.Requests.{request-asked}
 use Rattle.records.proofs.Starts.{select-started, deselect-started, attach-started, attach-to-started, discover-started}
@@ -143,6 +145,16 @@ call-fits c f (request buffer) = request-fits c f buffer
 call-fits c f (record′ bytes) = record-fits c f bytes
 call-fits c f linkFailed = linkFailed-fits c f
 
+call-bytes : (c : Machine.Client) → Holds Bytes c → (call : Call) → Good call → Holds Bytes ((machineCall c call) .1)
+unfolding machineCall
+call-bytes c b (startSelect bytes bits) g = startSelect-holds Bytes c b bytes bits g
+call-bytes c b startDeselect g = startDeselect-holds Bytes c b
+call-bytes c b (startAttach uid) g = startAttach-holds Bytes c b uid g
+call-bytes c b (startDiscover given) g = startDiscover-holds Bytes c b given
+call-bytes c b (request buffer) g = request-holds Bytes c b buffer
+call-bytes c b (record′ bytes) g = record-holds Bytes c b bytes (heard-bytes bytes g)
+call-bytes c b linkFailed g = linkFailed-holds Bytes c b
+
 attached-back : (c : Machine.Client) → Fits c → attachedTo (clientOf c) ≡ c .id
 unfolding attachedTo
 attached-back c f = go (c .turn) (c .id) (f .id)
@@ -194,35 +206,28 @@ calls-agree calls g = rw (new-client, ← fresh-sim) (agrees Machine.fresh fresh
 record Reached (d : Client) : Type 0 where
   machine : Machine.Client
   fits : Fits machine
+  bytes : Holds Bytes machine
   client : d ≡ clientOf machine
 
-reaches : (c : Machine.Client) → Fits c → (calls : List Call) → All Good calls → Reached (reached (clientOf c) calls)
+reaches : (c : Machine.Client) → Fits c → Holds Bytes c → (calls : List Call) → All Good calls → Reached (reached (clientOf c) calls)
 unfolding reached
-reaches c f [] g = record { machine = c; fits = f; client = refl }
-reaches c f (call ∷ calls) g = rw (code-call c f call (g .0)) (reaches ((machineCall c call) .1) (call-fits c f call) calls (g .1))
+reaches c f b [] g = record { machine = c; fits = f; bytes = b; client = refl }
+reaches c f b (call ∷ calls) g = rw (code-call c f call (g .0)) (reaches ((machineCall c call) .1) (call-fits c f call) (call-bytes c b call (g .0)) calls (g .1))
 
--- A client with no operation, of a seed and an attached id or none.
-pub record Rests (d : Client) : Type 0 where
-  pub seed : ℕ
-  pub byte : seed < 256
-  pub id : Option Id
-  pub brief : Brief id
-  pub client : d ≡ resting seed id
-
-idle-is : (c : Machine.Client) → Fits c → clientOf c .turn ≡ Idle → Rests (clientOf c)
-idle-is c f e = go (c .turn) e
+idle-is : (c : Machine.Client) → Fits c → Holds Bytes c → clientOf c .turn ≡ Idle → Rests (clientOf c)
+idle-is c f b e = go (c .turn) e
   where
     go : (t : Turn) → clientOf (turned c t) .turn ≡ Idle → Rests (clientOf (turned c t))
-    go idle e = record { seed = c .seed; byte = f .seed; id = c .id; brief = f .id; client = refl }
+    go idle e = record { seed = c .seed; byte = f .seed; id = c .id; brief = f .id; bytes = b .id; client = refl }
     go (ready ph) e = absurd (let z : _≡_ {A = ℕ} 0 1 = cc in omega arith)
     go (waiting ph) e = absurd (let z : _≡_ {A = ℕ} 0 1 = cc in omega arith)
 
 -- Whatever was called before: a client with no operation is of a seed and an attached id or none, and nothing else.
 pub idle-rests : (calls : List Call) → All Good calls → reached Code₂.fresh calls .turn ≡ Idle → Rests (reached Code₂.fresh calls)
-idle-rests calls g e = rw (r .client) (idle-is (r .machine) (r .fits) (rw (r .client) at e))
+idle-rests calls g e = rw (r .client) (idle-is (r .machine) (r .fits) (r .bytes) (rw (r .client) at e))
   where
     r : Reached (reached Code₂.fresh calls)
-    r = rw new-client (reaches Machine.fresh fresh-fits calls g)
+    r = rw new-client (reaches Machine.fresh fresh-fits (fresh-holds Bytes) calls g)
 
 rests-idle : (d : Client) → Rests d → d ≡ Code₂.idle d
 unfolding Code₂.idle

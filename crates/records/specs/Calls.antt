@@ -4,9 +4,11 @@ use Prim.Native.Nat.{ℕ, _<_}
 use mathlib.Core.Bool.{cond}
 use mathlib.Core.List.{List, [], _∷_}
 use mathlib.Core.Option.{Option, none, some}
+use mathlib.Core.Path.{_≡_}
 use Rattle.paper.specs.Client as Paper
-use Rattle.paper.specs.Count.{All}
 use Rattle.paper.specs.Hearing.{Id}
+use Rattle.lore.proofs.Words.{Bytes}
+use Rattle.theory.specs.Clients.{OfAny, Brief}
 use Rattle.ids.specs.Ids.{idOf, noId}
 use Rattle.table.specs.Rows.{noTable}
 use Rattle.client.specs.declared.Client.{Client}
@@ -16,6 +18,7 @@ use Rattle.client.specs.Numbers.{saysOf}
 use Rattle.starting.specs.Starting as Code
 use Rattle.asking.specs.Asking as Code₂
 use Rattle.telling.specs.Telling as Code₃
+use Rattle.records.specs.Served.{resting}
 
 -- The starts with their arguments, a request with its buffer, a record with its bytes, a link that failed.
 pub data Call : Type 0 where
@@ -27,14 +30,14 @@ pub data Call : Type 0 where
   record′ : List ℕ → Call
   linkFailed : Call
 
--- A discovery's prefix consists of bytes; no other call asks that of its arguments.
+-- A call whose bytes are bytes.
 abbrev pub Good : Call → Type 0
-Good (startSelect bytes bits) = Unit {0}
+Good (startSelect bytes bits) = Bytes bytes
 Good startDeselect = Unit {0}
-Good (startAttach uid) = Unit {0}
-Good (startDiscover given) = All (λ b. b < 256) given
-Good (request buffer) = Unit {0}
-Good (record′ bytes) = Unit {0}
+Good (startAttach uid) = OfAny Bytes uid
+Good (startDiscover given) = Bytes given
+Good (request buffer) = Bytes buffer
+Good (record′ bytes) = Bytes bytes
 Good linkFailed = Unit {0}
 
 -- What is answered: what is said, where the unread rest begins, the buffer after a request.
@@ -104,3 +107,12 @@ codeAnswers c (call ∷ calls) = codeAnswer (codeCall c call) ∷ codeAnswers ((
 unfoldable pub reached : Client → List Call → Client
 reached c [] = c
 reached c (call ∷ calls) = reached ((codeCall c call) .1) calls
+
+-- A client with no operation, of a seed and an attached id or none.
+pub record Rests (c : Client) : Type 0 where
+  pub seed : ℕ
+  pub byte : seed < 256
+  pub id : Option Id
+  pub brief : Brief id
+  pub bytes : OfAny Bytes id
+  pub client : c ≡ resting seed id
