@@ -11,16 +11,24 @@ use Rattle.paper.specs.Count.{matching, heardOf, All, Pods, count, selects, lim
 use Rattle.paper.specs.Hearing.{Id, Prefix, bitsOf, hear}
 use Rattle.paper.specs.Talk.{select}
 use Rattle.paper.specs.Walk.{sort, discover, run}
-use Rattle.client.specs.declared.Outcome.the-variants.{Found}
-use Rattle.client.specs.declared.Says.the-variants.{Over}
 use Rattle.lore.proofs.Words.{Bytes}
 use Rattle.theory.specs.Clients.{Brief}
+use Rattle.client.specs.declared.Outcome.the-variants.{Found}
+use Rattle.client.specs.declared.Says.the-variants.{Over}
+use Rattle.client.specs.declared.Turn.the-variants.{Idle}
+use Rattle.client.specs.Clients.{fresh}
+use Rattle.records.specs.Calls.{Call, Good, reached, Rests}
 use Rattle.records.specs.Served.{Wire, isOnward, discovered, resting, heardBy, EndsAs, Finds, Lists, devices}
+use Rattle.records.proofs.Calls as Calls
 use Rattle.records.proofs.Devices as Devices
 use Rattle.records.proofs.Discovers as Discovers
 
+-- Whatever was called before: a client with no operation is of a seed and an attached id or none, and nothing else.
+pub idle-rests : (calls : List Call) → All Good calls → reached fresh calls .turn ≡ Idle → Rests (reached fresh calls)
+idle-rests = Calls.idle-rests
+
 -- A buffer that holds every Select; any seed; an attached id or none; a prefix of at most 16 bytes.
-module _ (buffer : List ℕ) (room : 31 ≤ length buffer) (seed : ℕ) (byte : seed < 256) (id : Option Id) (brief : Brief id) (given : Id) (short : length given ≤ 16) (bytes : All (λ b. b < 256) given) where
+module _ (buffer : List ℕ) (room : 31 ≤ length buffer) (seed : ℕ) (byte : seed < 256) (id : Option Id) (brief : Brief id) (given : Id) (short : length given ≤ 16) (bytes : Bytes given) where
   module _ (wire : Wire) where
     -- Whatever the wire answers: it has ended, within the limit.
     pub ends-within : (isOnward ((discovered buffer wire (resting seed id) given) .0 .says) ≡ false) × ((discovered buffer wire (resting seed id) given) .1 ≤ limit (bitsOf given))

@@ -49,7 +49,7 @@ ids-back ids few s =
     ∙ ap (map (λ (e : Entry). idOf (e .id))) (table-rows ids few s)
     ∙ map-back ids s
 
--- The refusals that carry nothing, and the one that carries a length.
+-- The refusals that carry nothing.
 pub io-read : Readable (refused 1 [])
 unfolding refusedAs saysOf endOf numberOf carriedBy
 io-read = refl
@@ -70,10 +70,6 @@ deep-read : Readable (refused 12 [])
 unfolding refusedAs saysOf endOf numberOf carriedBy
 deep-read = refl
 
-pub prefix-read : Readable (refused 13 [])
-unfolding refusedAs saysOf endOf numberOf carriedBy
-prefix-read = refl
-
 long-read : Readable (refused 14 [])
 unfolding refusedAs saysOf endOf numberOf carriedBy
 long-read = refl
@@ -89,10 +85,6 @@ turn-read = refl
 unaddressed-read : Readable (refused 23 [])
 unfolding refusedAs saysOf endOf numberOf carriedBy
 unaddressed-read = refl
-
-pub short-read : (n : ℕ) → Readable (refused 16 (n ∷ []))
-unfolding refusedAs saysOf numberOf carriedBy
-short-read n = refl
 
 -- Those that carry a prefix.
 missing-read : (x : Paper.Id) → Short x → Readable (refused 9 x)

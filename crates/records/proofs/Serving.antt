@@ -135,7 +135,7 @@ module _ (buffer : List ℕ) (room : 31 ≤ length buffer) (wire : Wire) (b : �
 
     asks : request (clientOf ready-client) buffer ≡ askedAs (grant ready-client bytes (nextSeed ((b + k) % 256)) (walking s) buffer)
     unfolding ready-client bytes Machine.request Phases.request
-    asks = request-asked ready-client (record { id = brief; turn = f }) buffer
+    asks = request-asked ready-client (record { seed = omega arith; id = brief; turn = f }) buffer
 
     heard : Paper.Heard
     heard = hear (wire k bytes)
@@ -151,7 +151,7 @@ module _ (buffer : List ℕ) (room : 31 ≤ length buffer) (wire : Wire) (b : �
         ap (λ (a : Asking). record′ (a .answer .client) (wire k (sent a))) asks
         ∙ ap₂ (λ (c : Client) (l : List ℕ). record′ c (wire k l))
         (granted-client ((b + k) % 256) (walking s) bytes small (nextSeed ((b + k) % 256))) (granted-bytes ((b + k) % 256) (walking s) bytes small (nextSeed ((b + k) % 256)))
-        ∙ record-told (record { seed = nextSeed ((b + k) % 256); id = id; turn = waiting (walking s) }) (record { id = brief; turn = f }) (wire k bytes)
+        ∙ record-told (record { seed = nextSeed ((b + k) % 256); id = id; turn = waiting (walking s) }) (record { seed = omega arith; id = brief; turn = f }) (wire k bytes)
         ∙ ap₂ (λ (n : ℕ) (x : Option Paper.Id). toldAs (settle (record { seed = n; id = x; turn = waiting (walking s) }) (walked (Walk.step s heard)) (length (wire k bytes))))
         (next-seed b k) (id-after s f id heard)
         ∙ ap (λ (h : Paper.Heard). toldAs (settle (record { seed = (b + suc k) % 256; id = idAt id (Walk.step s h); turn = waiting (walking s) }) (walked (Walk.step s h)) (length (wire k bytes)))) heard-is

@@ -1,6 +1,6 @@
 -- What every client of the operations' machine keeps to, for the record that holds it.
 -- Assumes nothing.
-use Prim.Native.Nat.{ℕ, _*_, _≤_}
+use Prim.Native.Nat.{ℕ, _*_, _≤_, _<_}
 use mathlib.Core.Bool.{Bool, true, false, _&&_, cond}
 use mathlib.Core.List.{List, [], _∷_, _++_}
 use mathlib.Core.Option.{Option, none, some}
@@ -35,6 +35,7 @@ FitsTurn (ready ph) = FitsPhase ph
 FitsTurn (waiting ph) = FitsPhase ph
 
 pub record Fits (c : Client) : Type 0 where
+  pub seed : c .seed < 256
   pub id : Brief (c .id)
   pub turn : FitsTurn (c .turn)
 
@@ -80,28 +81,28 @@ phase-fits (backing none) f h = tt
 phase-fits (backing (some given)) f h = tt
 phase-fits (walking s) f h = walked-fits (Machine.step s h) (step-fits s h f)
 
-settle-fits : (c : Client) (t : Then) (at : ℕ) → Brief (c .id) → FitsThen t → Fits (settle c t at .client)
+settle-fits : (c : Client) (t : Then) (at : ℕ) → c .seed < 256 → Brief (c .id) → FitsThen t → Fits (settle c t at .client)
 unfolding settle idAfter
-settle-fits c (to ph) at b f = record { id = b; turn = f }
-settle-fits c (ends quiet) at b f = record { id = b; turn = tt }
-settle-fits c (ends (heard h)) at b f = record { id = b; turn = tt }
-settle-fits c (ends (attached uid)) at b f = record { id = f; turn = tt }
-settle-fits c (ends (found ids)) at b f = record { id = b; turn = tt }
-settle-fits c (refuses n carries) at b f = record { id = b; turn = tt }
+settle-fits c (to ph) at s b f = record { seed = s; id = b; turn = f }
+settle-fits c (ends quiet) at s b f = record { seed = s; id = b; turn = tt }
+settle-fits c (ends (heard h)) at s b f = record { seed = s; id = b; turn = tt }
+settle-fits c (ends (attached uid)) at s b f = record { seed = s; id = f; turn = tt }
+settle-fits c (ends (found ids)) at s b f = record { seed = s; id = b; turn = tt }
+settle-fits c (refuses n carries) at s b f = record { seed = s; id = b; turn = tt }
 
 pub fresh-fits : Fits fresh
 unfolding fresh
-fresh-fits = record { id = tt; turn = tt }
+fresh-fits = record { seed = omega arith; id = tt; turn = tt }
 
 start-fits : (c : Client) → Fits c → (good : Bool) (ph : Phase) → (good ≡ true → FitsPhase ph) → Fits (start c good ph .client)
 unfolding start
 start-fits c f good ph g = go (c .turn) (f .turn) good g
   where
     go : (t : Turn) → FitsTurn t → (b : Bool) → (b ≡ true → FitsPhase ph) → Fits (start (turned c t) b ph .client)
-    go idle w true g = settle-fits (turned c idle) (to ph) 0 (f .id) (g refl)
-    go idle w false g = record { id = f .id; turn = tt }
-    go (ready p) w b g = record { id = f .id; turn = w }
-    go (waiting p) w b g = record { id = f .id; turn = w }
+    go idle w true g = settle-fits (turned c idle) (to ph) 0 (f .seed) (f .id) (g refl)
+    go idle w false g = record { seed = f .seed; id = f .id; turn = tt }
+    go (ready p) w b g = record { seed = f .seed; id = f .id; turn = w }
+    go (waiting p) w b g = record { seed = f .seed; id = f .id; turn = w }
 
 module _ (c : Client) (f : Fits c) where
   pub startSelect-fits : (bytes : Id) (bits : ℕ) → Fits (startSelect c bytes bits .client)
@@ -135,18 +136,18 @@ module _ (c : Client) (f : Fits c) where
   request-fits buffer = go (c .turn) (f .turn)
     where
       go : (t : Turn) → FitsTurn t → Fits (request (turned c t) buffer .client)
-      go idle w = record { id = f .id; turn = w }
-      go (ready ph) w = room (bytesOf (select (Phases.request ph)) (seedAfter (select (Phases.request ph)) (c .seed))) (seedAfter (select (Phases.request ph)) (c .seed))
+      go idle w = record { seed = f .seed; id = f .id; turn = w }
+      go (ready ph) w = room (bytesOf (select (Phases.request ph)) (seedAfter (select (Phases.request ph)) (c .seed))) (seedAfter (select (Phases.request ph)) (c .seed)) (omega arith)
         where
-          room : (bytes : List ℕ) (seed : ℕ) → Fits (grant (turned c (ready ph)) bytes seed ph buffer .client)
-          room bytes seed = either (ltb (length buffer) (length bytes))
+          room : (bytes : List ℕ) (seed : ℕ) → seed < 256 → Fits (grant (turned c (ready ph)) bytes seed ph buffer .client)
+          room bytes seed small = either (ltb (length buffer) (length bytes))
             where
               either : (b : Bool)
                   → Fits (cond {A = Asked} b (record { says = refused 16 (length bytes ∷ []); client = turned c (ready ph); buffer = buffer })
                   (record { says = granted (length bytes); client = record { seed = seed; id = c .id; turn = waiting ph }; buffer = bytes ++ drop (length bytes) buffer }) .client)
-              either true = record { id = f .id; turn = w }
-              either false = record { id = f .id; turn = w }
-      go (waiting ph) w = record { id = f .id; turn = w }
+              either true = record { seed = f .seed; id = f .id; turn = w }
+              either false = record { seed = small; id = f .id; turn = w }
+      go (waiting ph) w = record { seed = f .seed; id = f .id; turn = w }
 
   brief-cleared : (q : Prefix) → Brief (cleared (select q) (c .id))
   brief-cleared q = go (ltb 128 (length q))
@@ -160,15 +161,15 @@ module _ (c : Client) (f : Fits c) where
   record-fits bytes = go (c .turn) (f .turn)
     where
       go : (t : Turn) → FitsTurn t → Fits (record′ (turned c t) bytes .client)
-      go idle w = record { id = f .id; turn = w }
-      go (ready ph) w = record { id = f .id; turn = w }
-      go (waiting ph) w = settle-fits _ (step ph (hear bytes)) (length bytes) (brief-cleared (Phases.request ph)) (phase-fits ph w (hear bytes))
+      go idle w = record { seed = f .seed; id = f .id; turn = w }
+      go (ready ph) w = record { seed = f .seed; id = f .id; turn = w }
+      go (waiting ph) w = settle-fits _ (step ph (hear bytes)) (length bytes) (f .seed) (brief-cleared (Phases.request ph)) (phase-fits ph w (hear bytes))
 
   pub linkFailed-fits : Fits (linkFailed c .client)
   unfolding linkFailed
   linkFailed-fits = go (c .turn) (f .turn)
     where
       go : (t : Turn) → FitsTurn t → Fits (linkFailed (turned c t) .client)
-      go idle w = record { id = f .id; turn = w }
-      go (ready ph) w = record { id = f .id; turn = w }
-      go (waiting ph) w = record { id = f .id; turn = tt }
+      go idle w = record { seed = f .seed; id = f .id; turn = w }
+      go (ready ph) w = record { seed = f .seed; id = f .id; turn = w }
+      go (waiting ph) w = record { seed = f .seed; id = f .id; turn = tt }

@@ -22,6 +22,8 @@ pub mod Fits
 pub mod Resuming
 pub mod Talking
 pub mod Ending
+pub mod Carried
 pub mod Keeping
+pub mod Holding
 pub mod Condition3
 pub mod Examples

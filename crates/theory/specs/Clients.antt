@@ -12,10 +12,13 @@ use Rattle.paper.specs.Talk.{select}
 use Rattle.theory.specs.Phases as Phases
 use Rattle.theory.specs.Phases.{Phase, probing, parting, seeking, walking, Then, to, ends, refuses, step, starting}
 
--- An id, where there is one, is of at most 16 bytes.
+-- P holds of the id, where there is one.
+abbrev pub OfAny : (Id → Type 0) → Option Id → Type 0
+OfAny P none = Unit {0}
+OfAny P (some id) = P id
+
 abbrev pub Brief : Option Id → Type 0
-Brief none = Unit {0}
-Brief (some id) = length id ≤ longest
+Brief uid = OfAny (λ id. length id ≤ longest) uid
 
 -- No operation; one whose next request can be asked for; one whose request is out.
 pub data Turn : Type 0 where
