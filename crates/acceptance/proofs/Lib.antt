@@ -1,2 +1,3 @@
 pub mod Examples
 pub mod Condition3
+pub mod Calls
