@@ -4,6 +4,7 @@ use Prim.Native.Nat.{ℕ}
 use mathlib.Core.Bool.{cond}
 use mathlib.Core.List.{List, [], _∷_, map}
 use mathlib.Core.Option.{none, some}
+use lib.ListN.{replicate}
 use Rattle.paper.specs.Client as Paper
 use Rattle.paper.specs.Client.{refused, granted, onward, over}
 use Rattle.paper.specs.Hearing as Paper₂
@@ -55,9 +56,9 @@ carriedBy OutOfTurn x = []
 unfoldable pub idsOf : Table → List Paper₂.Id
 idsOf t = map (λ e. idOf (e .id)) (rows t 0 (t .count))
 
--- What was heard, with the id beside it. An id that is too long is refused, so that no answer holds it.
+-- What was heard, with the id beside it. Too long is read as an id of 17 bytes, which no answer of document 01's holds: it is refused.
 unfoldable pub heardFrom : Heard → Id → Paper₂.Heard
-heardFrom h x = onHeard h nothing (one (idOf x)) garble unaddressed garble
+heardFrom h x = onHeard h nothing (one (idOf x)) (one (replicate 17 0)) unaddressed garble
 
 -- An outcome, with the id and the ids beside it. "outcome 23" is a number of document 01's, and of the code's outcomes.
 unfoldable pub endOf : Outcome → Id → Table → Paper.Says
