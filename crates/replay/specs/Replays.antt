@@ -15,6 +15,7 @@ use Rattle.client.specs.declared.Outcome.{Outcome}
 use Rattle.client.specs.declared.Outcome.the-variants as Outcome
 use Rattle.client.specs.declared.Says.{Says}
 use Rattle.client.specs.declared.Says.the-variants.{Granted, Onward, Over, Refused}
+use Rattle.client.specs.declared.Started.{Started}
 use Rattle.client.specs.Clients.{fresh}
 use Rattle.starting.specs.Starting.{startDiscover}
 use Rattle.asking.specs.Asking.{request}
@@ -73,21 +74,22 @@ ended c k found n = record { client = c; stage = Ended n; selects = k; found = f
 abbrev pub stops : Replay → ℕ → Replay
 stops v n = ended (v .client) (v .selects) (v .found) n
 
--- The next Select, in a buffer that is long enough for any; one more of them is out.
-abbrev pub asks : Client → Says
-asks c = request c (replicate 64 0) .answer .says
-
-abbrev pub asking : Client → Client
-asking c = request c (replicate 64 0) .answer .client
-
 abbrev pub running : Client → ℕ → Replay
 running c k = record { client = c; stage = Running; selects = (k + 1) % 65536; found = noTable }
 
-unfoldable pub asked : Client → ℕ → Replay
-asked c k =
-    onSays (asks c) (λ n. running (asking c) k) (ended (asking c) k noTable 0)
-    (λ o. ended (asking c) k noTable (outcome o))
-    (λ r. ended (asking c) k noTable (number r))
+-- One Select more is out, if it was granted.
+unfoldable pub handed : Started → ℕ → Replay
+handed s k =
+    onSays (s .says) (λ n. running (s .client) k) (ended (s .client) k noTable 0)
+    (λ o. ended (s .client) k noTable (outcome o))
+    (λ r. ended (s .client) k noTable (number r))
+
+-- The next Select, asked for with a buffer that is long enough for any.
+unfoldable pub room : List ℕ
+room = replicate 64 0
+
+abbrev pub asked : Client → ℕ → Replay
+asked c k = handed (request c room .answer) k
 
 unfoldable pub goes : Says → Client → ℕ → Table → Replay
 goes says c k found =
