@@ -1,7 +1,7 @@
 -- The log read byte by byte: what a byte, a piece and the end of the input do.
 -- Assumes nothing.
 use Prim.Native.Nat.{ℕ}
-use mathlib.Core.Bool.{Bool, true, false, not, cond}
+use mathlib.Core.Bool.{Bool, true, false, cond}
 use mathlib.Core.List.{List, [], _∷_}
 use lib.ListN.{take}
 use Rattle.lines.specs.declared.Place.{Place}
@@ -18,32 +18,36 @@ use Rattle.bench.specs.declared.Log.{Log}
 abbrev pub idle : Reader
 idle = record { place = Start; len = 0; over = false }
 
-abbrev pub joins : Stage → Bool → Bool
-joins s over = onStage s false (not over) (λ k. false)
+-- Whether lines are joined to a record.
+abbrev pub joins : Stage → Bool
+joins s = onStage s false true (λ k. false)
 
+-- Whether a place is within a line.
 abbrev pub inside : Place → Bool
 inside p = onPlace p false true (λ h. true)
-
--- The end of line one, or of a line that its record has no room for.
-unfoldable pub broken : Replay → Reader → List ℕ → Replay
-broken v r buf = onStage (v .stage) (opens v (take (r .len) buf)) (stops v 22) (λ k. v)
-
--- An empty line: as line one, or at the end of a record.
-unfoldable pub emptied : Replay → Reader → List ℕ → Replay
-emptied v r buf =
-    onStage (v .stage) (opens v (take (r .len) buf)) (cond (r .over) (stops v 22) (takes v (take (r .len) buf))) (λ k. v)
 
 abbrev pub logOf : Reader → Replay → Log
 logOf r v = record { reader = r; replay = v }
 
+-- The end of line one, or of a line of a record.
+unfoldable pub lined : Replay → Reader → List ℕ → Log
+lined v r buf =
+    onStage (v .stage) (logOf idle (opens v (take (r .len) buf))) (cond (r .over) (logOf idle (stops v 22)) (logOf r v)) (λ k. logOf r v)
+
+-- An empty line: as line one, or at the end of a record.
+unfoldable pub emptied : Replay → Reader → List ℕ → Log
+emptied v r buf =
+    onStage (v .stage) (logOf idle (opens v (take (r .len) buf)))
+    (cond (r .over) (logOf idle (stops v 22)) (logOf idle (takes v (take (r .len) buf))))
+    (λ k. logOf r v)
+
 -- What the reader met.
 unfoldable pub met : Replay → Reader → Event → List ℕ → Log
-met v r e buf =
-    onEvent e
-    (logOf r v)
-    (cond (joins (v .stage) (r .over)) (logOf r v) (logOf idle (broken v r buf)))
-    (logOf idle (emptied v r buf))
-    (logOf idle (stops v 22))
+met v r e buf = onEvent e (logOf r v) (lined v r buf) (emptied v r buf) (logOf idle (stops v 22))
+
+-- Whether a piece was read to its end.
+abbrev pub more : Event → Bool
+more e = onEvent e true false false false
 
 -- A log, with the buffer that is lent to it.
 pub record Logged : Type 0 where

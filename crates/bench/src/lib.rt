@@ -8,7 +8,7 @@ use replay::Stage;
 ghost use mathlib.Core.Path.{_≡_};
 ghost use mathlib.Core.List.{[], _∷_};
 ghost use Rattle.replay.specs.Replays.{answer};
-ghost use Rattle.bench.specs.Machine.{idle, joins, inside, broken, emptied, begun, Logged, piece, lastLine};
+ghost use Rattle.bench.specs.Machine.{idle, joins, inside, logOf, lined, emptied, met, more, begun, Logged, piece, lastLine};
 
 pub struct Log {
     pub reader: Reader,
@@ -26,13 +26,13 @@ fn idle() -> Reader
     }
 }
 
-// Whether a line only adds to its record.
-fn joins(stage: Stage, over: bool) -> bool
-    ensures { λ r. ⌜ r ≡ joins stage over ⌝ }
+// Whether lines are joined to a record.
+fn joins(stage: Stage) -> bool
+    ensures { λ r. ⌜ r ≡ joins stage ⌝ }
 {
     match stage {
         Stage::First => false,
-        Stage::Running => !over,
+        Stage::Running => true,
         Stage::Ended(_) => false,
     }
 }
@@ -48,34 +48,69 @@ fn inside(place: Place) -> bool
     }
 }
 
-// The end of line one, or of a line that its record has no room for.
-fn broken(v: Replay, r: Reader, buf: &[u8]) -> Replay
-    ensures { λ w. ⌜ w ≡ broken v r (now (buf .entry)) ⌝ }
+fn log_of(reader: Reader, replay: Replay) -> Log
+    ensures { λ r. ⌜ r ≡ logOf reader replay ⌝ }
+{
+    Log { reader, replay }
+}
+
+// The end of line one, or of a line of a record.
+fn lined(v: Replay, r: Reader, buf: &[u8]) -> Log
+    ensures { λ w. ⌜ w ≡ lined v r (now (buf .entry)) ⌝ }
 {
     let s = v.stage;
     let n = r.len;
     match s {
-        Stage::First => v.opens(lines::front(buf, n)),
-        Stage::Running => v.stops(22),
-        Stage::Ended(_) => v,
+        Stage::First => log_of(idle(), v.opens(lines::front(buf, n))),
+        Stage::Running => {
+            if r.over {
+                return log_of(idle(), v.stops(22));
+            }
+            log_of(r, v)
+        }
+        Stage::Ended(_) => log_of(r, v),
     }
 }
 
 // An empty line: as line one, or at the end of a record.
-fn emptied(v: Replay, r: Reader, buf: &[u8]) -> Replay
+fn emptied(v: Replay, r: Reader, buf: &[u8]) -> Log
     ensures { λ w. ⌜ w ≡ emptied v r (now (buf .entry)) ⌝ }
 {
     let s = v.stage;
     let n = r.len;
     match s {
-        Stage::First => v.opens(lines::front(buf, n)),
+        Stage::First => log_of(idle(), v.opens(lines::front(buf, n))),
         Stage::Running => {
             if r.over {
-                return v.stops(22);
+                return log_of(idle(), v.stops(22));
             }
-            v.takes(lines::front(buf, n))
+            log_of(idle(), v.takes(lines::front(buf, n)))
         }
-        Stage::Ended(_) => v,
+        Stage::Ended(_) => log_of(r, v),
+    }
+}
+
+// What the reader met.
+fn met(v: Replay, r: Reader, e: Event, buf: &[u8]) -> Log
+    ensures { λ w. ⌜ w ≡ met v r e (now (buf .entry)) ⌝ }
+{
+    match e {
+        Event::More => log_of(r, v),
+        Event::Line => lined(v, r, buf),
+        Event::Empty => emptied(v, r, buf),
+        Event::Bad => log_of(idle(), v.stops(22)),
+    }
+}
+
+// Whether a piece was read to its end.
+fn more(e: Event) -> bool
+    ensures { λ r. ⌜ r ≡ more e ⌝ }
+{
+    match e {
+        Event::More => true,
+        Event::Line => false,
+        Event::Empty => false,
+        Event::Bad => false,
     }
 }
 
@@ -92,40 +127,25 @@ impl Log {
     pub fn feed(self, bytes: &[u8], buf: &mut [u8]) -> Log
         ensures { λ r. ⌜ record { log = r; bytes = now (buf .exit) } ≡ piece (record { log = self; bytes = now (buf .entry) }) (now (bytes .entry)) ⌝ }
     {
-        let mut v = self.replay;
-        let mut r = self.reader;
+        let mut w = self;
         let mut i = 0;
         loop {
+            let v = w.replay;
             let s = v.stage;
             if replay::is_ended(s) {
                 break;
             }
-            let f = r.feed(i, bytes, buf);
-            r = f.reader;
+            let r = w.reader;
+            let f = r.feed(joins(s), i, bytes, buf);
             i = f.at;
+            let q = f.reader;
             let e = f.event;
-            match e {
-                Event::More => break,
-                Event::Line => {
-                    if !joins(s, r.over) {
-                        v = broken(v, r, buf);
-                        r = idle();
-                    }
-                }
-                Event::Empty => {
-                    v = emptied(v, r, buf);
-                    r = idle();
-                }
-                Event::Bad => {
-                    v = v.stops(22);
-                    r = idle();
-                }
+            w = met(v, q, e, buf);
+            if more(e) {
+                break;
             }
         }
-        Log {
-            reader: r,
-            replay: v,
-        }
+        w
     }
 
     // The LF that a last line may lack.

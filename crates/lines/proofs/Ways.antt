@@ -2,11 +2,11 @@
 -- Assumes nothing.
 use Prim.Native.Nat.{ℕ, _+_, _*_, _%_, _<_, _≤_}
 use mathlib.Core.Bool.{Bool, true, false}
-use mathlib.Core.List.{List, [], _∷_}
-use mathlib.Core.Path.{_≡_, refl, sym, _∙_, ap}
+use mathlib.Core.List.{List}
+use mathlib.Core.Path.{_≡_, sym, _∙_}
 use native.Mathlib.Numerals.{add-one}
 use native.Mathlib.Omega.{arith}
-use lib.ListN.{length, getD, take, drop, set, drop-of-length-le}
+use lib.ListN.{length, getD, take, drop, drop-of-length-le}
 use lib.Seq.{drop-cons, take-all}
 use borrow.Author.Tests.{eq-eqb, ne-eqb, lt-ltb, le-ltb}
 use Rattle.paper.specs.Text.{digit}
@@ -15,12 +15,10 @@ use Rattle.lines.specs.declared.Place.the-variants.{Start, Even, Odd}
 use Rattle.lines.specs.declared.Turn.{Turn}
 use Rattle.lines.specs.declared.Turn.the-variants as Turn
 use Rattle.lines.specs.declared.Turn.the-variants.{Half, Whole}
-use Rattle.lines.specs.declared.Event.{Event}
 use Rattle.lines.specs.declared.Event.the-variants.{More, Line, Empty, Bad}
 use Rattle.lines.specs.declared.Reader.{Reader}
 use Rattle.lines.specs.declared.Step.{Step}
-use Rattle.lines.specs.declared.Fed.{Fed}
-use Rattle.lines.specs.Reading.{turn, step, keep, at, told, Stepped, Read, feed, onEvent}
+use Rattle.lines.specs.Reading.{turn, step, keep, at, told, halts, feed}
 
 module _ (p : Place) (b : ℕ) where
   module _ (lf : b ≡ 10) where
@@ -74,27 +72,20 @@ module _ (r : Reader) (buf : List ℕ) (b : ℕ) (t : Turn) (e : t ≡ turn (r .
   unfolding step
   on-bad q = simp (← e, q)
 
-module _ (s buf₀ buf : List ℕ) (w₀ w : Reader) (from i : ℕ) (q : feed i w buf (drop i s) ≡ feed from w₀ buf₀ (drop from s)) where
-  pub ran-out : length s ≤ i → record { fed = record { reader = w; at = i; event = More }; bytes = buf } ≡ feed from w₀ buf₀ (drop from s)
+module _ (s buf₀ buf : List ℕ) (j : Bool) (w₀ w : Reader) (from i : ℕ) (q : feed j i w buf (drop i s) ≡ feed j from w₀ buf₀ (drop from s)) where
+  pub ran-out : length s ≤ i → record { fed = record { reader = w; at = i; event = More }; bytes = buf } ≡ feed j from w₀ buf₀ (drop from s)
   unfolding feed
   ran-out h = rw (drop-of-length-le s {i = i} h) at q
 
-  module _ (buf′ : List ℕ) (x : Step) (h : i < length s) (e : record { step = x; bytes = buf′ } ≡ step w buf (getD s i 0)) where
-    pub further : x .event ≡ More → feed (i + 1) (x .reader) buf′ (drop (i + 1) s) ≡ feed from w₀ buf₀ (drop from s)
+  module _ (buf′ : List ℕ) (x : Step) (stop : Bool) (h : i < length s) (e : record { step = x; bytes = buf′ } ≡ step w buf (getD s i 0))
+      (eo : stop ≡ halts (x .event) j (x .reader .over)) where
+    pub further : stop ≡ false → feed j (i + 1) (x .reader) buf′ (drop (i + 1) s) ≡ feed j from w₀ buf₀ (drop from s)
     unfolding feed
-    further v = rw (add-one i) (rw (drop-cons s i 0, ← e, v, add-one i) at q)
+    further v = rw (add-one i) (rw (drop-cons s i 0, ← e, sym eo ∙ v, add-one i) at q)
 
-    pub line : x .event ≡ Line → record { fed = record { reader = x .reader; at = i + 1; event = x .event }; bytes = buf′ } ≡ feed from w₀ buf₀ (drop from s)
+    pub halted : stop ≡ true → record { fed = record { reader = x .reader; at = i + 1; event = x .event }; bytes = buf′ } ≡ feed j from w₀ buf₀ (drop from s)
     unfolding feed
-    line v = rw v (rw (drop-cons s i 0, ← e, v) at q)
-
-    pub empty : x .event ≡ Empty → record { fed = record { reader = x .reader; at = i + 1; event = x .event }; bytes = buf′ } ≡ feed from w₀ buf₀ (drop from s)
-    unfolding feed
-    empty v = rw v (rw (drop-cons s i 0, ← e, v) at q)
-
-    pub refused : x .event ≡ Bad → record { fed = record { reader = x .reader; at = i + 1; event = x .event }; bytes = buf′ } ≡ feed from w₀ buf₀ (drop from s)
-    unfolding feed
-    refused v = rw v (rw (drop-cons s i 0, ← e, v) at q)
+    halted v = rw (drop-cons s i 0, ← e, sym eo ∙ v) at q
 
 pub all-of : (n : ℕ) (s : List ℕ) → length s < n → s ≡ take n s
 all-of n s h = sym (take-all n s (omega arith))

@@ -1,7 +1,7 @@
 -- What reading a byte, and a piece, does to a reader and its buffer.
 -- Assumes nothing.
 use Prim.Native.Nat.{ℕ, _+_, _*_, _%_}
-use mathlib.Core.Bool.{true, cond}
+use mathlib.Core.Bool.{Bool, true, false, _||_, not, cond}
 use mathlib.Core.List.{List, [], _∷_}
 use lib.ListN.{length, set}
 use lib.Dec.{ltb, eqb}
@@ -78,12 +78,15 @@ pub record Read : Type 0 where
 abbrev pub went : ℕ → Stepped → Read
 went i s = record { fed = record { reader = s .step .reader; at = i; event = s .step .event }; bytes = s .bytes }
 
--- up to the first line's end or bad character, or to the end of the piece; i counts the place
-unfoldable pub feed : ℕ → Reader → List ℕ → List ℕ → Read
-feed i r buf [] = went i (told r More buf)
-feed i r buf (b ∷ bs) =
-    onEvent (step r buf b .step .event)
-    (feed (i + 1) (step r buf b .step .reader) (step r buf b .bytes) bs)
+-- whether reading halts after a character
+abbrev pub halts : Event → Bool → Bool → Bool
+halts e joined over = onEvent e false (over || not joined) true true
+
+-- up to the first empty line or bad character, or the end of the piece; a line's end is passed only where lines are joined and each byte had
+-- room; i counts the place
+unfoldable pub feed : Bool → ℕ → Reader → List ℕ → List ℕ → Read
+feed joined i r buf [] = went i (told r More buf)
+feed joined i r buf (b ∷ bs) =
+    cond (halts (step r buf b .step .event) joined (step r buf b .step .reader .over))
     (went (i + 1) (step r buf b))
-    (went (i + 1) (step r buf b))
-    (went (i + 1) (step r buf b))
+    (feed joined (i + 1) (step r buf b .step .reader) (step r buf b .bytes) bs)

@@ -1,7 +1,7 @@
 // Lines of hexadecimal, read in pieces of any length and in constant memory: the bytes go to a buffer that the caller lends.
 ghost use mathlib.Core.Path.{_≡_};
 ghost use lib.ListN.{take, drop};
-ghost use Rattle.lines.specs.Reading.{turn, step, keep, feed};
+ghost use Rattle.lines.specs.Reading.{turn, step, keep, halts, feed};
 
 // Where in a line the reader stands.
 pub enum Place {
@@ -76,6 +76,18 @@ pub fn taken(p: Place, b: u8) -> Turn
     }
 }
 
+// Whether reading halts after a character.
+pub fn halts(e: Event, joined: bool, over: bool) -> bool
+    ensures { λ r. ⌜ r ≡ halts e joined over ⌝ }
+{
+    match e {
+        Event::More => false,
+        Event::Line => over || !joined,
+        Event::Empty => true,
+        Event::Bad => true,
+    }
+}
+
 impl Reader {
     // A byte goes to the next place of the buffer; one too many is only noted.
     pub fn keep(self, v: u8, buf: &mut [u8]) -> Step
@@ -135,9 +147,10 @@ impl Reader {
         }
     }
 
-    // Up to the first line's end or bad character, or to the end of the piece.
-    pub fn feed(self, from: usize, piece: &[u8], buf: &mut [u8]) -> Fed
-        ensures { λ r. ⌜ record { fed = r; bytes = now (buf .exit) } ≡ feed from self (now (buf .entry)) (drop from (now (piece .entry))) ⌝ }
+    // Up to the first empty line or bad character, or the end of the piece. A line's end is passed only where lines are joined and each byte
+    // had room.
+    pub fn feed(self, joined: bool, from: usize, piece: &[u8], buf: &mut [u8]) -> Fed
+        ensures { λ r. ⌜ record { fed = r; bytes = now (buf .exit) } ≡ feed joined from self (now (buf .entry)) (drop from (now (piece .entry))) ⌝ }
     {
         let mut w = self;
         let mut i = from;
@@ -146,32 +159,14 @@ impl Reader {
             i += 1;
             let r = s.reader;
             let e = s.event;
-            match e {
-                Event::More => {
-                    w = r;
-                }
-                Event::Line => {
-                    return Fed {
-                        reader: r,
-                        at: i,
-                        event: e,
-                    };
-                }
-                Event::Empty => {
-                    return Fed {
-                        reader: r,
-                        at: i,
-                        event: e,
-                    };
-                }
-                Event::Bad => {
-                    return Fed {
-                        reader: r,
-                        at: i,
-                        event: e,
-                    };
-                }
+            if halts(e, joined, r.over) {
+                return Fed {
+                    reader: r,
+                    at: i,
+                    event: e,
+                };
             }
+            w = r;
         }
         Fed {
             reader: w,
