@@ -102,8 +102,8 @@ module _ (v : Replay) (run : isEnded (v .stage) ≡ false) (b : ℕ) (bs : List 
     place = ap (λ (f : Read). f .fed .at) f ∙ omega (arith, c .place);
     inside = omega (arith, c .inside);
     same =
-      ap (λ (l : Logged). piece l bs) (running ∙ ap (λ (w : Log). record { log = w; bytes = s .bytes }) (passed v (s .step .reader) (s .bytes) run (s .step .event) q))
-      ∙ c .same ∙ sym (ap (λ (f : Read). piece (on v f) (drop (c .k) bs)) f);
+        ap (λ (l : Logged). piece l bs) (running ∙ ap (λ (w : Log). record { log = w; bytes = s .bytes }) (passed v (s .step .reader) (s .bytes) run (s .step .event) q))
+        ∙ c .same ∙ sym (ap (λ (f : Read). piece (on v f) (drop (c .k) bs)) f);
     all = λ m. ap suc (c .all (sym (ap (λ (f : Read). more (f .fed .event)) f) ∙ m));
     some = λ m. omega arith;
   }

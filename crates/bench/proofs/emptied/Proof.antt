@@ -1,89 +1,64 @@
+-- `bench::emptied` meets its contract.
+-- Assumes nothing.
 use Rattle.bench.proofs.Ways.{first-empty, record-over, record-taken, ended-empty}
 use borrow.Author.Needs.{needs}
 use Rattle.bench.proofs.emptied.Statement.{statement}
 use Rattle.bench.proofs.emptied.Tie as tie
-use Rattle.bench.proofs.emptied.Reads as reads
-use Rattle.bench.proofs.emptied.Lts as lts
-use Rattle.bench.proofs.idle.Reads as idle-reads
-use Rattle.bench.proofs.log_of.Reads as log-of-reads
-use Rattle.lines.proofs.front.Reads as front-reads
-use Rattle.replay.proofs.Replay.opens.Reads as opens-reads
-use Rattle.replay.proofs.Replay.stops.Reads as stops-reads
-use Rattle.replay.proofs.Replay.takes.Reads as takes-reads
 
--- src/lib.rt:82:32
 enum-told : tie.Need-enum-told
 enum-told c = search needs
 
--- src/lib.rt:82:32
 idle-requires : tie.Need-idle-requires
 idle-requires c κs = search needs
 
--- src/lib.rt:82:48
 front-requires : tie.Need-front-requires
 front-requires c κs = search needs
 
--- src/lib.rt:82:40
 opens-requires : tie.Need-opens-requires
 opens-requires c κs = search needs
 
--- src/lib.rt:82:25
 log-of-requires : tie.Need-log-of-requires
 log-of-requires c κs = search needs
 
--- src/lib.rt:84:16
 enum-told-2 : tie.Need-enum-told-2
 enum-told-2 c = search needs
 
--- src/lib.rt:85:31
 idle-requires-2 : tie.Need-idle-requires-2
 idle-requires-2 c κs = search needs
 
--- src/lib.rt:85:39
 stops-requires : tie.Need-stops-requires
 stops-requires c κs = search needs
 
--- src/lib.rt:85:17
 log-of-requires-2 : tie.Need-log-of-requires-2
 log-of-requires-2 c κs = search needs
 
--- src/lib.rt:85:17
 returns : tie.Need-returns
 returns c = search (record-over, needs)
 
--- src/lib.rt:87:20
 idle-requires-3 : tie.Need-idle-requires-3
 idle-requires-3 c κs = search needs
 
--- src/lib.rt:87:36
 front-requires-2 : tie.Need-front-requires-2
 front-requires-2 c κs = search needs
 
--- src/lib.rt:87:28
 takes-requires : tie.Need-takes-requires
 takes-requires c κs = search needs
 
--- src/lib.rt:87:13
 log-of-requires-3 : tie.Need-log-of-requires-3
 log-of-requires-3 c κs = search needs
 
--- src/lib.rt:89:28
 enum-told-3 : tie.Need-enum-told-3
 enum-told-3 c = search needs
 
--- src/lib.rt:89:28
 log-of-requires-4 : tie.Need-log-of-requires-4
 log-of-requires-4 c κs = search needs
 
--- src/lib.rt:76:1
 returns-2 : tie.Need-returns-2
 returns-2 c = search (first-empty, needs)
 
--- src/lib.rt:76:1
 returns-3 : tie.Need-returns-3
 returns-3 c = search (record-taken, needs)
 
--- src/lib.rt:76:1
 returns-4 : tie.Need-returns-4
 returns-4 c = search (ended-empty, needs)
 

@@ -2,7 +2,7 @@
 -- Assumes nothing.
 use Rattle.lines.proofs.Ways.{all-of}
 use mathlib.Core.Path.{sym}
-use lib.Seq.{length-take-le, take-all}
+use lib.Seq.{length-take-le}
 use borrow.Author.Needs.{needs}
 use Rattle.lines.proofs.front.Statement.{statement}
 use Rattle.lines.proofs.front.Tie as tie

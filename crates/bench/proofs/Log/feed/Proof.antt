@@ -1,3 +1,5 @@
+-- `bench::Log::feed` meets its contract.
+-- Assumes nothing.
 use borrow.Author.Needs.{needs}
 use mathlib.Core.Path.{_≡_}
 use lib.ListN.{length, drop}
@@ -6,13 +8,6 @@ use Rattle.bench.specs.Machine.{piece}
 use Rattle.bench.proofs.Cut.{within, less, onward, to-end, on-ended}
 use Rattle.bench.proofs.Log.feed.Statement.{statement}
 use Rattle.bench.proofs.Log.feed.Tie as tie
-use Rattle.bench.proofs.Log.feed.Reads as reads
-use Rattle.bench.proofs.Log.feed.Lts as lts
-use Rattle.bench.proofs.joins.Reads as joins-reads
-use Rattle.bench.proofs.met.Reads as met-reads
-use Rattle.bench.proofs.more.Reads as more-reads
-use Rattle.lines.proofs.Reader.feed.Reads as feed-reads
-use Rattle.replay.proofs.is_ended.Reads as is-ended-reads
 
 abbrev Inv-loop : tie.InvT-loop
 Inv-loop bytes buf₀ w₀ i₀ buf w i = (i ≤ length bytes) × (length buf ≡ length buf₀) × (piece (record { log = w; bytes = buf }) (drop i bytes) ≡ piece (record { log = w₀; bytes = buf₀ }) bytes)
@@ -20,31 +15,24 @@ Inv-loop bytes buf₀ w₀ i₀ buf w i = (i ≤ length bytes) × (length buf �
 abbrev μ-loop : tie.MeasureT-loop
 μ-loop bytes buf₀ w₀ i₀ buf w i = length bytes - i
 
--- src/lib.rt:132:9
 loop-holds : tie.Need-loop-holds Inv-loop μ-loop
 loop-holds c = search needs
 
--- src/lib.rt:135:16
 is-ended-requires : tie.Need-is-ended-requires Inv-loop μ-loop
 is-ended-requires c κs = search needs
 
--- src/lib.rt:139:28
 joins-requires : tie.Need-joins-requires Inv-loop μ-loop
 joins-requires c κs = search needs
 
--- src/lib.rt:139:17
 feed-requires : tie.Need-feed-requires Inv-loop μ-loop
 feed-requires c κs = search needs
 
--- src/lib.rt:143:13
 met-requires : tie.Need-met-requires Inv-loop μ-loop
 met-requires c κs = search needs
 
--- src/lib.rt:144:16
 more-requires : tie.Need-more-requires Inv-loop μ-loop
 more-requires c κs = search needs
 
--- src/lib.rt:132:9
 loop-less : tie.Need-loop-less Inv-loop μ-loop
 loop-less c =
     let t = c .before .before .before .before .before .before .before in
@@ -59,7 +47,6 @@ loop-less c =
     let em = c .before .more .ensures in
     search (less, needs)
 
--- src/lib.rt:132:9
 loop-again : tie.Need-loop-again Inv-loop μ-loop
 loop-again c =
     let t = c .before .before .before .before .before .before .before in
@@ -74,15 +61,12 @@ loop-again c =
     let em = c .before .more .ensures in
     (search (within, needs), search needs, search (onward, needs))
 
--- src/lib.rt:127:5
 same-length : tie.Need-same-length Inv-loop μ-loop
 same-length c = search needs
 
--- src/lib.rt:127:5
 returns : tie.Need-returns Inv-loop μ-loop
 returns c = search (on-ended, needs)
 
--- src/lib.rt:127:5
 same-length-2 : tie.Need-same-length-2 Inv-loop μ-loop
 same-length-2 c =
     let t = c .before .before .before .before .before .before .before in
@@ -97,7 +81,6 @@ same-length-2 c =
     let em = c .before .more .ensures in
     search needs
 
--- src/lib.rt:127:5
 returns-2 : tie.Need-returns-2 Inv-loop μ-loop
 returns-2 c =
     let t = c .before .before .before .before .before .before .before in

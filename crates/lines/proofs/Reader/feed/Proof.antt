@@ -1,3 +1,5 @@
+-- `lines::Reader::feed` meets its contract.
+-- Assumes nothing.
 use borrow.Author.Needs.{needs}
 use mathlib.Core.Path.{_≡_}
 use Prim.Native.Nat.{_-_}
@@ -6,10 +8,6 @@ use Rattle.lines.specs.Reading.{feed}
 use Rattle.lines.proofs.Ways.{further, halted, ran-out}
 use Rattle.lines.proofs.Reader.feed.Statement.{statement}
 use Rattle.lines.proofs.Reader.feed.Tie as tie
-use Rattle.lines.proofs.Reader.feed.Reads as reads
-use Rattle.lines.proofs.Reader.feed.Lts as lts
-use Rattle.lines.proofs.Reader.step.Reads as step-reads
-use Rattle.lines.proofs.halts.Reads as halts-reads
 
 abbrev Inv-loop : tie.InvT-loop
 Inv-loop joined from piece buf₀ w₀ i₀ buf w i = (length buf ≡ length buf₀) × (feed joined i w buf (drop i piece) ≡ feed joined from w₀ buf₀ (drop from piece))
@@ -17,47 +15,36 @@ Inv-loop joined from piece buf₀ w₀ i₀ buf w i = (length buf ≡ length buf
 abbrev μ-loop : tie.MeasureT-loop
 μ-loop joined from piece buf₀ w₀ i₀ buf w i = length piece - i
 
--- src/lib.rt:157:9
 loop-holds : tie.Need-loop-holds Inv-loop μ-loop
 loop-holds c = search needs
 
--- src/lib.rt:158:28
 shared-slice-read-step : tie.Need-shared-slice-read-step Inv-loop μ-loop
 shared-slice-read-step c = search needs
 
--- src/lib.rt:158:17
 step-requires : tie.Need-step-requires Inv-loop μ-loop
 step-requires c κs = search needs
 
--- src/lib.rt:159:13
 add-i : tie.Need-add-i Inv-loop μ-loop
 add-i c = search needs
 
--- src/lib.rt:162:17
 halts-requires : tie.Need-halts-requires Inv-loop μ-loop
 halts-requires c κs = search needs
 
--- src/lib.rt:163:17
 same-length : tie.Need-same-length Inv-loop μ-loop
 same-length c = search needs
 
--- src/lib.rt:163:17
 returns : tie.Need-returns Inv-loop μ-loop
 returns c = search (halted, needs)
 
--- src/lib.rt:157:9
 loop-less : tie.Need-loop-less Inv-loop μ-loop
 loop-less c = search needs
 
--- src/lib.rt:157:9
 loop-again : tie.Need-loop-again Inv-loop μ-loop
 loop-again c = (search needs, search (further, needs))
 
--- src/lib.rt:152:5
 same-length-2 : tie.Need-same-length-2 Inv-loop μ-loop
 same-length-2 c = search needs
 
--- src/lib.rt:152:5
 returns-2 : tie.Need-returns-2 Inv-loop μ-loop
 returns-2 c = search (ran-out, needs)
 
