@@ -83,6 +83,7 @@ fn used(found: Table) -> usize
 fn put_all(answer: Answer, out: &mut [u8]) -> usize
     requires { ⌜ 2121 ≤ length (now out) ⌝ }
     ensures { λ r. ⌜ record { len = r; bytes = now (out .exit) } ≡ placed (text answer) (now (out .entry)) ⌝ }
+    ensures { λ r. ⌜ r ≤ 2121 ⌝ }
 {
     let found = answer.found;
     let n = used(found);
@@ -94,6 +95,7 @@ fn put_all(answer: Answer, out: &mut [u8]) -> usize
 // The whole output at the front of the buffer, which is long enough for any.
 pub fn show(answer: Answer, out: &mut [u8; 2121]) -> usize
     ensures { λ r. ⌜ record { len = r; bytes = now (out .exit) } ≡ placed (text answer) (now (out .entry)) ⌝ }
+    ensures { λ r. ⌜ r ≤ 2121 ⌝ }
 {
     put_all(answer, out)
 }
