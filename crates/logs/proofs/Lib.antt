@@ -1,3 +1,4 @@
 pub mod Rest
 pub mod Bytes
 pub mod Runs
+pub mod Joined

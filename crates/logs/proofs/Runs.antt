@@ -65,7 +65,7 @@ unfolding ran lastLine piece
 end-start v n o buf = refl
 
 -- After a call the stage is not the first.
-pub settled : Stage → Bool
+unfoldable pub settled : Stage → Bool
 settled First = false
 settled Running = true
 settled (Ended k) = true
