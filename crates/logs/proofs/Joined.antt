@@ -1,7 +1,7 @@
 -- A record read byte by byte is the paper's record, and what is left of a run is the client's talk over the records that are left.
 -- Assumes nothing.
 use Prim.Native.Nat.{ℕ, _+_, _*_, _%_, _<_, _≤_}
-use mathlib.Core.Bool.{Bool, true, false, cond, false≢true}
+use mathlib.Core.Bool.{Bool, true, false, false≢true}
 use mathlib.Core.List.{List, [], _∷_, _++_}
 use mathlib.Core.Path.{_≡_, refl, sym, _∙_, ap}
 use native.Mathlib.Omega.{arith}
@@ -11,7 +11,7 @@ use lib.Seq.{length-take-le, take-suc-set}
 use lib.Dec.{ltb, eqb}
 use borrow.Author.Tests.{ltb-true, ltb-false}
 use Rattle.paper.specs.Text.{digit}
-use Rattle.paper.specs.Log.{Records, missing, spoilt, next, joined, lines, longer}
+use Rattle.paper.specs.Log.{Records, spoilt, next, joined, lines, longer}
 use Rattle.lines.specs.declared.Place.{Place}
 use Rattle.lines.specs.declared.Place.the-variants.{Start, Even, Odd}
 use Rattle.lines.specs.declared.Turn.the-variants as Turn
