@@ -32,7 +32,7 @@ pub struct Client {
     pub walk: Walk,
 }
 
-// The refusals, by document 01's numbers in Calls.antt. Prefixes stand beside them in the answer.
+// The refusals; document 01's numbers of them are in Numbers.antt. Prefixes stand beside them in the answer.
 pub enum Refusal {
     Io,
     NoDevice,

@@ -9,6 +9,7 @@ use native.Mathlib.Numerals.{add-one}
 use lib.ListN.{length, getD, drop-of-length-le, List·getD-eq-default}
 use lib.Seq.{drop-cons, take-nil}
 use native.Mathlib.Decide.{decLt}
+use Rattle.paper.specs.Count.{All}
 use Rattle.paper.specs.Frame.{le, number, field}
 
 pub le-length : (k x : ℕ) → length (le k x) ≡ k
@@ -23,8 +24,7 @@ number-le (suc k) x h = omega (arith, number-le k (x / 256) (omega (arith, rw (p
 
 -- Each is a byte.
 abbrev pub Bytes : List ℕ → Type 0
-Bytes [] = Unit {0}
-Bytes (b ∷ bs) = (b < 256) × Bytes bs
+Bytes bs = All (λ b. b < 256) bs
 
 pub le-number : (bs : List ℕ) → Bytes bs → le (length bs) (number bs) ≡ bs
 unfolding le number

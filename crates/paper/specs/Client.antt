@@ -23,7 +23,7 @@ pub record Client : Type 0 where
   pub left : Left
 
 -- "fresh client: 0"
-pub fresh : Client
+unfoldable pub fresh : Client
 fresh = record { seed = 0; id = none; left = idle }
 
 -- A refusal's number and what it carries; a request of so many bytes; it goes on, with the progress made; it has ended, with the progress

@@ -51,7 +51,7 @@ next-is q id s = ap (λ (x : List ℕ). getD (bitsOf x) (length q) false) (id-of
 pub asked-back : (q : Prefix) → length q ≤ 128 → bitsAsked (askOf q) ≡ q
 asked-back q h = take-append-le (length q) (bitsOf (packed 16 q)) (replicate 127 false) (rw (bits-length (packed 16 q), packed-length 16 q) h) ∙ packed-read 16 q h
 
-nobody-back : bitsAsked Moves.nobody ≡ nobody
+pub nobody-back : bitsAsked Moves.nobody ≡ nobody
 unfolding Moves.nobody nobody bitsOf counting bit
 nobody-back = refl
 

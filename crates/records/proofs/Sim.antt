@@ -165,11 +165,11 @@ module _ (pre : Prefix) where
     settled-sim id false = descend-sim ids marks
 
 -- What is heard: an id that is not too long is told.
-short-of : (x : Paper.Id) → long (one x) ≡ false → Short x
+pub short-of : (x : Paper.Id) → long (one x) ≡ false → Short x
 unfolding long
 short-of x e = ltb-false 16 (length x) e
 
-told : (x : Paper.Id) → long (one x) ≡ false → oneHeard x ≡ record { heard = One; id = idFrom x }
+pub told : (x : Paper.Id) → long (one x) ≡ false → oneHeard x ≡ record { heard = One; id = idFrom x }
 unfolding long oneHeard
 told x e = rw e
 
@@ -213,7 +213,7 @@ module _ (pre : Prefix) (marks : Marks) (ids : List Paper.Id) (d : length (path 
       ending : Table → Next
       ending t = record { goes = Done; walk = Moves.finding Moves.noWalk t }
 
-long-is : (h : Paper.Heard) → Code.long (shownHeard h .heard) ≡ long h
+pub long-is : (h : Paper.Heard) → Code.long (shownHeard h .heard) ≡ long h
 unfolding Code.long long oneHeard
 long-is nothing = refl
 long-is (one x) = go (ltb 16 (length x))

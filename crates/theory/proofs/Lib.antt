@@ -19,5 +19,11 @@ pub mod Most
 pub mod Kept
 pub mod Refine
 pub mod Fits
+pub mod Resuming
+pub mod Talking
+pub mod Ending
+pub mod Carried
+pub mod Keeping
+pub mod Holding
 pub mod Condition3
 pub mod Examples

@@ -59,7 +59,7 @@ pub resume : State → Walk (List Id)
 resume s = resumes (s .pre) (s .marks) (s .ids) (s .phase)
 
 -- A machine's place in the conversation.
-pub resumed : Next → Walk (List Id)
+unfoldable pub resumed : Next → Walk (List Id)
 resumed (going s) = resume s
 resumed (ended (done ids)) = return ids
 resumed (ended (stopped c)) = stop c

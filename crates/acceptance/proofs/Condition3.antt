@@ -1,0 +1,54 @@
+-- Document 01, acceptance condition 3: the discovery of the driven client, from bytes to bytes.
+-- Assumes nothing.
+use Prim.Native.Nat.{ℕ, _+_, _-_, _*_, _≤_, _<_}
+use mathlib.Core.Bool.{false}
+use mathlib.Core.List.{List}
+use mathlib.Core.Option.{Option}
+use mathlib.Core.Path.{_≡_}
+use lib.ListN.{length}
+use Rattle.paper.specs.Client.{bytesOf}
+use Rattle.paper.specs.Count.{matching, heardOf, All, Pods, count, selects, limit}
+use Rattle.paper.specs.Hearing.{Id, Prefix, bitsOf, hear}
+use Rattle.paper.specs.Talk.{select}
+use Rattle.paper.specs.Walk.{sort, discover, run}
+use Rattle.lore.proofs.Words.{Bytes}
+use Rattle.theory.specs.Clients.{Brief}
+use Rattle.client.specs.declared.Outcome.the-variants.{Found}
+use Rattle.client.specs.declared.Says.the-variants.{Over}
+use Rattle.client.specs.declared.Turn.the-variants.{Idle}
+use Rattle.client.specs.Clients.{fresh}
+use Rattle.records.specs.Calls.{Call, Good, reached, Rests}
+use Rattle.records.specs.Served.{Wire, isOnward, discovered, resting, heardBy, EndsAs, Finds, Lists, devices}
+use Rattle.records.proofs.Calls as Calls
+use Rattle.records.proofs.Devices as Devices
+use Rattle.records.proofs.Discovers as Discovers
+
+-- Whatever was called before: a client with no operation is of a seed and an attached id or none, and nothing else.
+pub idle-rests : (calls : List Call) → All Good calls → reached fresh calls .turn ≡ Idle → Rests (reached fresh calls)
+idle-rests = Calls.idle-rests
+
+-- A buffer that holds every Select; any seed; an attached id or none; a prefix of at most 16 bytes.
+module _ (buffer : List ℕ) (room : 31 ≤ length buffer) (seed : ℕ) (byte : seed < 256) (id : Option Id) (brief : Brief id) (given : Id) (short : length given ≤ 16) (bytes : Bytes given) where
+  module _ (wire : Wire) where
+    -- Whatever the wire answers: it has ended, within the limit.
+    pub ends-within : (isOnward ((discovered buffer wire (resting seed id) given) .0 .says) ≡ false) × ((discovered buffer wire (resting seed id) given) .1 ≤ limit (bitsOf given))
+    ends-within = Discovers.ends-within buffer room wire seed byte id brief given short bytes
+
+    -- It has ended as document 01's discovery does, after as many Selects.
+    pub ends-as : EndsAs seed id (run (heardBy wire seed) 0 (discover (bitsOf given))) (discovered buffer wire (resting seed id) given)
+    ends-as = Discovers.ends-as buffer room wire seed byte id brief given short bytes
+
+    -- What it found is in order, distinct and few.
+    pub lists : (discovered buffer wire (resting seed id) given) .0 .says ≡ Over Found → Lists (bitsOf given) (discovered buffer wire (resting seed id) given)
+    lists = Discovers.lists buffer room wire seed byte id brief given short bytes
+
+    -- On a wire that lets hear the ids S: it has found exactly those that match, sorted, after exactly the Selects counted, and those are few.
+    pub finds : (S : List Id) (L : ℕ) → ((k n : ℕ) (q : Prefix) → hear (wire k (bytesOf (select q) n)) ≡ heardOf (matching q S)) → Pods L (matching (bitsOf given) S)
+        → Finds seed (sort (matching (bitsOf given) S)) (selects S L (bitsOf given)) (discovered buffer wire (resting seed id) given)
+        × (selects S L (bitsOf given) ≤ 2 + count S (bitsOf given) * (8 * L - length (bitsOf given) + 2))
+    finds = Discovers.finds buffer room wire seed byte id brief given short bytes
+
+  -- There is such a wire for any ids of at most 16 bytes.
+  pub finds-devices : (S : List Id) (L : ℕ) → All (λ x. (length x ≤ 16) × Bytes x) S → Pods L (matching (bitsOf given) S)
+      → Finds seed (sort (matching (bitsOf given) S)) (selects S L (bitsOf given)) (discovered buffer (devices S) (resting seed id) given)
+  finds-devices S L small pods = (finds (devices S) S L (Devices.devices-honest S small) pods) .0

@@ -1,0 +1,245 @@
+-- The driven client is document 01's conversation: every answer, whatever is called and in whatever order.
+-- Assumes nothing.
+use Prim.Native.Nat.{ℕ, _*_}
+use mathlib.Core.Bool.{Bool, true, false, _&&_, cond}
+use mathlib.Core.List.{List, [], _∷_, _++_}
+use mathlib.Core.Option.{Option, none, some}
+use mathlib.Core.Path.{_≡_, refl, sym, _∙_, ap, ap₂}
+use native.Mathlib.Omega.{arith}
+use lib.Dec.{leb, ltb}
+use lib.ListN.{length, drop}
+use Rattle.paper.specs.Client as Paper
+use Rattle.paper.specs.Client.{Says, refused, granted, short, bytesOf, seedAfter}
+use Rattle.paper.specs.Count.{All}
+use Rattle.paper.specs.Hearing.{Id, bitsOf, hear}
+use Rattle.paper.specs.Talk.{select}
+use Rattle.lore.proofs.Words.{Bytes}
+use Rattle.theory.specs.Phases as Phases
+use Rattle.theory.specs.Phases.{Phase, probing, parting, seeking, walking, Then, to, ends, refuses, step, starting}
+use Rattle.theory.specs.Clients as Machine
+use Rattle.theory.specs.Clients.{Brief, Turn, idle, ready, waiting, turned, settle, grant}
+use Rattle.theory.proofs.Keeping.{FitsTurn, Fits, fresh-fits, startSelect-fits, startDeselect-fits, startAttach-fits, startDiscover-fits, request-fits, record-fits, linkFailed-fits}
+use Rattle.theory.proofs.Carried.{heard-bytes}
+use Rattle.theory.proofs.Holding.{Holds, fresh-holds, startSelect-holds, startDeselect-holds, startAttach-holds, startDiscover-holds, request-holds, record-holds, linkFailed-holds}
+use Rattle.theory.proofs.Talking.{paperOf, fresh-sim, startSelect-sim, startDeselect-sim, startAttach-sim, startDiscover-sim, request-sim, record-sim, linkFailed-sim}
+use Rattle.ids.specs.Ids.{noId}
+use Rattle.ids.proofs.Laws.{id-of-from}
+use Rattle.walk.specs.Moves.{noWalk}
+use Rattle.client.specs.declared.Client.{Client}
+use Rattle.client.specs.declared.Told.{Told}
+use Rattle.client.specs.declared.Turn.the-variants.{Idle}
+use Rattle.client.specs.Clients as Code₂
+use Rattle.client.specs.Numbers.{numberOf, carriedBy, saysOf}
+use Rattle.records.specs.Clients.{clientOf, refusedAs, startedAs, toldAs, askedAs}
+use Rattle.records.specs.Calls.{Call, startSelect, startDeselect, startAttach, startDiscover, request, record′, linkFailed, Good, Reply, saidBy, paperCall, startedBy, askedBy, toldBy, codeCall, attachedTo, paperAnswer, codeAnswer, paperAnswers, codeAnswers, reached, Rests}
+use Rattle.records.proofs.Readable.{Readable, ReadableThen, io-read, turn-read, phase-read}
+use Rattle.records.proofs.Requests.{request-asked}
+use Rattle.records.proofs.Starts.{select-started, deselect-started, attach-started, attach-to-started, discover-started}
+use Rattle.records.proofs.Tells.{record-told, failed-told}
+
+-- The machine's answer to a call, and its client after it.
+abbrev settledBy : Machine.Told → Reply × Machine.Client
+settledBy t = (record { says = t .says; rest = t .rest; buffer = [] }, t .client)
+
+machineCall : Machine.Client → Call → Reply × Machine.Client
+machineCall c (startSelect bytes bits) = settledBy (Machine.startSelect c bytes bits)
+machineCall c startDeselect = settledBy (Machine.startDeselect c)
+machineCall c (startAttach uid) = settledBy (Machine.startAttach c uid)
+machineCall c (startDiscover given) = settledBy (Machine.startDiscover c given)
+machineCall c (request buffer) = (record { says = Machine.request c buffer .says; rest = 0; buffer = Machine.request c buffer .buffer }, Machine.request c buffer .client)
+machineCall c (record′ bytes) = settledBy (Machine.record′ c bytes)
+machineCall c linkFailed = settledBy (Machine.linkFailed c)
+
+abbrev inPaper : Reply × Machine.Client → Reply × Paper.Client
+inPaper r = (r .0, paperOf (r .1))
+
+abbrev inCode : Reply × Machine.Client → Reply × Client
+inCode r = (r .0, clientOf (r .1))
+
+paper-call : (c : Machine.Client) (call : Call) → paperCall (paperOf c) call ≡ inPaper (machineCall c call)
+unfolding paperCall machineCall
+paper-call c (startSelect bytes bits) = ap saidBy (startSelect-sim c bytes bits)
+paper-call c startDeselect = ap saidBy (startDeselect-sim c)
+paper-call c (startAttach uid) = ap saidBy (startAttach-sim c uid)
+paper-call c (startDiscover given) = ap saidBy (startDiscover-sim c given)
+paper-call c (request buffer) = ap (λ (a : Paper.Asked). (record { says = a .says; rest = 0; buffer = a .buffer }, a .client)) (request-sim c buffer)
+paper-call c (record′ bytes) = ap saidBy (record-sim c bytes)
+paper-call c linkFailed = ap saidBy (linkFailed-sim c)
+
+-- The starts' answers, read.
+started-read : (c : Machine.Client) (good : Bool) (ph : Phase) → startedBy (startedAs (Machine.start c good ph)) ≡ inCode (settledBy (Machine.start c good ph))
+unfolding Machine.start settle refusedAs saysOf numberOf carriedBy
+started-read c good ph = go (c .turn) good
+  where
+    go : (t : Turn) (b : Bool) → startedBy (startedAs (Machine.start (turned c t) b ph)) ≡ inCode (settledBy (Machine.start (turned c t) b ph))
+    go idle true = refl
+    go idle false = refl
+    go (ready p) b = refl
+    go (waiting p) b = refl
+
+asked-read : (c : Machine.Client) (buffer : List ℕ) → askedBy (askedAs (Machine.request c buffer)) ≡ inCode (machineCall c (request buffer))
+unfolding Machine.request machineCall grant refusedAs saysOf numberOf carriedBy
+asked-read c buffer = go (c .turn)
+  where
+    fits : (ph : Phase) (bytes : List ℕ) (seed : ℕ) (b : Bool) → Machine.Asked
+    fits ph bytes seed b =
+        cond b (record { says = refused 16 (length bytes ∷ []); client = turned c (ready ph); buffer = buffer })
+        (record { says = granted (length bytes); client = record { seed = seed; id = c .id; turn = waiting ph }; buffer = bytes ++ drop (length bytes) buffer })
+
+    room : (ph : Phase) (bytes : List ℕ) (seed : ℕ) (b : Bool)
+        → askedBy (askedAs (fits ph bytes seed b)) ≡ (record { says = fits ph bytes seed b .says; rest = 0; buffer = fits ph bytes seed b .buffer }, clientOf (fits ph bytes seed b .client))
+    room ph bytes seed true = refl
+    room ph bytes seed false = refl
+
+    go : (t : Turn) → askedBy (askedAs (Machine.request (turned c t) buffer)) ≡ inCode (machineCall (turned c t) (request buffer))
+    go idle = refl
+    go (ready ph) = room ph (bytesOf (select (Phases.request ph)) (seedAfter (select (Phases.request ph)) (c .seed))) (seedAfter (select (Phases.request ph)) (c .seed)) (ltb (length buffer) (length (bytesOf (select (Phases.request ph)) (seedAfter (select (Phases.request ph)) (c .seed)))))
+    go (waiting ph) = refl
+
+-- An answer that is read as it was said.
+said : (t : Machine.Told) → Readable (t .says) → toldBy (toldAs t) ≡ inCode (settledBy t)
+said t r = ap (λ (s : Says). (record { says = s; rest = t .rest; buffer = [] }, clientOf (t .client))) r
+
+settle-read : (c : Machine.Client) (t : Then) (at : ℕ) → ReadableThen t → Readable (settle c t at .says)
+unfolding settle saysOf
+settle-read c (to ph) at r = refl
+settle-read c (ends o) at r = r
+settle-read c (refuses n carries) at r = r
+
+record-read : (c : Machine.Client) → Fits c → (bytes : List ℕ) → Readable (Machine.record′ c bytes .says)
+unfolding Machine.record′
+record-read c f bytes = go (c .turn) (f .turn)
+  where
+    go : (t : Turn) → FitsTurn t → Readable (Machine.record′ (turned c t) bytes .says)
+    go idle w = turn-read
+    go (ready ph) w = turn-read
+    go (waiting ph) w = settle-read _ (step ph (hear bytes)) (length bytes) (phase-read ph w (hear bytes))
+
+failed-read : (c : Machine.Client) → Readable (Machine.linkFailed c .says)
+unfolding Machine.linkFailed
+failed-read c = go (c .turn)
+  where
+    go : (t : Turn) → Readable (Machine.linkFailed (turned c t) .says)
+    go idle = turn-read
+    go (ready ph) = turn-read
+    go (waiting ph) = io-read
+
+code-call : (c : Machine.Client) → Fits c → (call : Call) → Good call → codeCall (clientOf c) call ≡ inCode (machineCall c call)
+unfolding codeCall machineCall Machine.startSelect Machine.startDeselect Machine.startAttach Machine.startDiscover
+code-call c f (startSelect bytes bits) g = ap startedBy (select-started c bytes bits) ∙ started-read c (short bytes && (leb bits 128 && leb bits (8 * length bytes))) (probing bytes bits)
+code-call c f startDeselect g = ap startedBy (deselect-started c) ∙ started-read c true parting
+code-call c f (startAttach none) g = ap startedBy (attach-started c) ∙ started-read c true (seeking none)
+code-call c f (startAttach (some given)) g = ap startedBy (attach-to-started c given) ∙ started-read c (short given) (seeking (some given))
+code-call c f (startDiscover given) g = ap startedBy (discover-started c given g) ∙ started-read c (short given) (walking (starting (bitsOf given)))
+code-call c f (request buffer) g = ap askedBy (request-asked c f buffer) ∙ asked-read c buffer
+code-call c f (record′ bytes) g = ap toldBy (record-told c f bytes) ∙ said (Machine.record′ c bytes) (record-read c f bytes)
+code-call c f linkFailed g = ap toldBy (failed-told c) ∙ said (Machine.linkFailed c) (failed-read c)
+
+call-fits : (c : Machine.Client) → Fits c → (call : Call) → Fits ((machineCall c call) .1)
+unfolding machineCall
+call-fits c f (startSelect bytes bits) = startSelect-fits c f bytes bits
+call-fits c f startDeselect = startDeselect-fits c f
+call-fits c f (startAttach uid) = startAttach-fits c f uid
+call-fits c f (startDiscover given) = startDiscover-fits c f given
+call-fits c f (request buffer) = request-fits c f buffer
+call-fits c f (record′ bytes) = record-fits c f bytes
+call-fits c f linkFailed = linkFailed-fits c f
+
+call-bytes : (c : Machine.Client) → Holds Bytes c → (call : Call) → Good call → Holds Bytes ((machineCall c call) .1)
+unfolding machineCall
+call-bytes c b (startSelect bytes bits) g = startSelect-holds Bytes c b bytes bits g
+call-bytes c b startDeselect g = startDeselect-holds Bytes c b
+call-bytes c b (startAttach uid) g = startAttach-holds Bytes c b uid g
+call-bytes c b (startDiscover given) g = startDiscover-holds Bytes c b given
+call-bytes c b (request buffer) g = request-holds Bytes c b buffer
+call-bytes c b (record′ bytes) g = record-holds Bytes c b bytes (heard-bytes bytes g)
+call-bytes c b linkFailed g = linkFailed-holds Bytes c b
+
+attached-back : (c : Machine.Client) → Fits c → attachedTo (clientOf c) ≡ c .id
+unfolding attachedTo
+attached-back c f = go (c .turn) (c .id) (f .id)
+  where
+    go : (t : Turn) (x : Option Id) → Brief x → attachedTo (clientOf (record { seed = c .seed; id = x; turn = t })) ≡ x
+    go idle none b = refl
+    go idle (some x) b = ap some (id-of-from x b)
+    go (ready ph) none b = refl
+    go (ready ph) (some x) b = ap some (id-of-from x b)
+    go (waiting ph) none b = refl
+    go (waiting ph) (some x) b = ap some (id-of-from x b)
+
+seed-of : (c : Machine.Client) → clientOf c .seed ≡ c .seed
+seed-of c = go (c .turn)
+  where
+    go : (t : Turn) → clientOf (turned c t) .seed ≡ c .seed
+    go idle = refl
+    go (ready ph) = refl
+    go (waiting ph) = refl
+
+same-answer : (r : Reply) (c : Machine.Client) → Fits c → codeAnswer (inCode (r, c)) ≡ paperAnswer (inPaper (r, c))
+unfolding paperOf
+same-answer r c f = λ i. record { reply = r; seed = seed-of c i; id = attached-back c f i }
+
+agrees : (c : Machine.Client) → Fits c → (calls : List Call) → All Good calls → codeAnswers (clientOf c) calls ≡ paperAnswers (paperOf c) calls
+unfolding codeAnswers paperAnswers
+agrees c f [] g = refl
+agrees c f (call ∷ calls) g =
+    ap (λ (r : Reply × Client). codeAnswer r ∷ codeAnswers (r .1) calls) (code-call c f call (g .0))
+    ∙ ap₂ _∷_ answer (agrees ((machineCall c call) .1) (call-fits c f call) calls (g .1))
+    ∙ sym (ap (λ (r : Reply × Paper.Client). paperAnswer r ∷ paperAnswers (r .1) calls) (paper-call c call))
+  where
+    after : Machine.Client
+    after = (machineCall c call) .1
+
+    answer : codeAnswer (inCode (machineCall c call)) ≡ paperAnswer (inPaper (machineCall c call))
+    answer = same-answer ((machineCall c call) .0) after (call-fits c f call)
+
+-- A new client is document 01's.
+new-client : Code₂.fresh ≡ clientOf Machine.fresh
+unfolding Code₂.fresh Machine.fresh
+new-client = refl
+
+-- Every answer of the code is document 01's: link failures and calls out of turn included.
+pub calls-agree : (calls : List Call) → All Good calls → codeAnswers Code₂.fresh calls ≡ paperAnswers Paper.fresh calls
+calls-agree calls g = rw (new-client, ← fresh-sim) (agrees Machine.fresh fresh-fits calls g)
+
+-- A client that calls lead to.
+record Reached (d : Client) : Type 0 where
+  machine : Machine.Client
+  fits : Fits machine
+  bytes : Holds Bytes machine
+  client : d ≡ clientOf machine
+
+reaches : (c : Machine.Client) → Fits c → Holds Bytes c → (calls : List Call) → All Good calls → Reached (reached (clientOf c) calls)
+unfolding reached
+reaches c f b [] g = record { machine = c; fits = f; bytes = b; client = refl }
+reaches c f b (call ∷ calls) g = rw (code-call c f call (g .0)) (reaches ((machineCall c call) .1) (call-fits c f call) (call-bytes c b call (g .0)) calls (g .1))
+
+idle-is : (c : Machine.Client) → Fits c → Holds Bytes c → clientOf c .turn ≡ Idle → Rests (clientOf c)
+idle-is c f b e = go (c .turn) e
+  where
+    go : (t : Turn) → clientOf (turned c t) .turn ≡ Idle → Rests (clientOf (turned c t))
+    go idle e = record { seed = c .seed; byte = f .seed; id = c .id; brief = f .id; bytes = b .id; client = refl }
+    go (ready ph) e = absurd (let z : _≡_ {A = ℕ} 0 1 = cc in omega arith)
+    go (waiting ph) e = absurd (let z : _≡_ {A = ℕ} 0 1 = cc in omega arith)
+
+-- Whatever was called before: a client with no operation is of a seed and an attached id or none, and nothing else.
+pub idle-rests : (calls : List Call) → All Good calls → reached Code₂.fresh calls .turn ≡ Idle → Rests (reached Code₂.fresh calls)
+idle-rests calls g e = rw (r .client) (idle-is (r .machine) (r .fits) (r .bytes) (rw (r .client) at e))
+  where
+    r : Reached (reached Code₂.fresh calls)
+    r = rw new-client (reaches Machine.fresh fresh-fits (fresh-holds Bytes) calls g)
+
+rests-idle : (d : Client) → Rests d → d ≡ Code₂.idle d
+unfolding Code₂.idle
+rests-idle d r = rw (r .client)
+
+same-idle : (c d : Client) → c .seed ≡ d .seed → Code₂.attached c ≡ Code₂.attached d → Code₂.idle c ≡ Code₂.idle d
+unfolding Code₂.idle Code₂.attached
+same-idle c d s a = λ i. record { seed = s i; attached = a i .any; id = a i .id; turn = Idle; prefix = noId; bits = 0; walk = noWalk }
+
+-- So two such clients of one seed and attached id are equal.
+pub idle-canonical : (xs ys : List Call) → All Good xs → All Good ys → reached Code₂.fresh xs .turn ≡ Idle → reached Code₂.fresh ys .turn ≡ Idle
+    → reached Code₂.fresh xs .seed ≡ reached Code₂.fresh ys .seed → Code₂.attached (reached Code₂.fresh xs) ≡ Code₂.attached (reached Code₂.fresh ys)
+    → reached Code₂.fresh xs ≡ reached Code₂.fresh ys
+idle-canonical xs ys g h e f s a =
+    rests-idle (reached Code₂.fresh xs) (idle-rests xs g e) ∙ same-idle (reached Code₂.fresh xs) (reached Code₂.fresh ys) s a ∙ sym (rests-idle (reached Code₂.fresh ys) (idle-rests ys h f))

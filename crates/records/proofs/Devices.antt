@@ -1,0 +1,63 @@
+-- The wire of some devices lets hear what document 01's honest wire does: the premise on wires is met.
+-- Assumes nothing.
+use Prim.Native.Nat.{ℕ, _+_, _/_, _≤_}
+use mathlib.Core.Bool.{Bool, true, false, cond}
+use mathlib.Core.List.{List, [], _∷_}
+use mathlib.Core.Path.{_≡_, refl, _∙_, ap}
+use native.Mathlib.Omega.{arith}
+use lib.ListN.{length, take}
+use lib.Seq.{take-append-le}
+use Rattle.paper.specs.Client.{bytesOf}
+use Rattle.paper.specs.Count.{matching, heardOf, All}
+use Rattle.paper.specs.Frame.{le, check, read, readSynced, skipped, frameHead, frameBody, frameBytes, command-Select, status-Ok}
+use Rattle.paper.specs.Hearing.{Id, Prefix, bitsOf, matches, garble, selectPayload, packed, clean, frames, hear}
+use Rattle.paper.specs.Talk.{select}
+use Rattle.lore.proofs.Bits.{bits-length}
+use Rattle.lore.proofs.Packed.{packed-length, packed-read}
+use Rattle.lore.proofs.Words.{Bytes}
+use Rattle.theory.proofs.Frames as Frames
+use Rattle.theory.proofs.Heard.{nothing-heard, hear-ok}
+use Rattle.select.specs.Selects.{selectFrame}
+use Rattle.records.specs.Served.{bitsIn, spoken, devices}
+use Rattle.records.proofs.Requests.{bits-append}
+
+-- The bits that were asked for are those that the bytes hold.
+bits-in : (q : Prefix) (seed : ℕ) → bitsIn (bytesOf (select q) seed) ≡ q
+unfolding bitsIn bytesOf frameBytes frameBody frameHead selectPayload le
+bits-in q seed =
+    ap (take (length q)) (bits-append (packed n q) tail)
+    ∙ take-append-le (length q) (bitsOf (packed n q)) (bitsOf tail) (rw (bits-length (packed n q), packed-length n q) (omega arith))
+    ∙ packed-read n q (omega arith)
+  where
+    n : ℕ
+    n = (length q + 7) / 8
+
+    tail : List ℕ
+    tail = le 2 (check (frameBody (selectFrame seed q)))
+
+stray : hear (0 ∷ []) ≡ garble
+unfolding hear frames clean read readSynced skipped
+stray = refl
+
+reply-fits : (x : Id) → length x ≤ 16 → Bytes x → Frames.Fits (record { command = command-Select; status = status-Ok; flags = 0; address = 0; payload = x })
+reply-fits x h b = record { command = omega arith; status = omega arith; flags = omega arith; address = omega arith; payload = b; short = omega arith }
+
+spoken-heard : (ids : List Id) → All (λ x. (length x ≤ 16) × Bytes x) ids → hear (spoken ids) ≡ heardOf ids
+unfolding spoken heardOf
+spoken-heard [] h = nothing-heard
+spoken-heard (x ∷ []) h = hear-ok _ (reply-fits x (h .0 .0) (h .0 .1)) refl
+spoken-heard (x ∷ y ∷ zs) h = stray
+
+matching-all : (P : Id → Type 0) (q : Prefix) (ids : List Id) → All P ids → All P (matching q ids)
+unfolding matching
+matching-all P q [] h = tt
+matching-all P q (x ∷ xs) h = go (matches q x) (matching-all P q xs (h .1))
+  where
+    go : (b : Bool) → All P (matching q xs) → All P (cond b (x ∷ matching q xs) (matching q xs))
+    go true r = (h .0, r)
+    go false r = r
+
+-- Any ids of at most 16 bytes.
+pub devices-honest : (S : List Id) → All (λ x. (length x ≤ 16) × Bytes x) S → (k n : ℕ) (q : Prefix) → hear (devices S k (bytesOf (select q) n)) ≡ heardOf (matching q S)
+unfolding devices
+devices-honest S h k n q = rw (bits-in q n) (spoken-heard (matching q S) (matching-all _ q S h))

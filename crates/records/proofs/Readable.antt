@@ -1,0 +1,172 @@
+-- The code's answers, read as document 01's, are what the machine says.
+-- Assumes nothing.
+use Prim.Native.Nat.{ℕ, _≤_}
+use mathlib.Core.Bool.{Bool, true, false, cond}
+use mathlib.Core.List.{List, [], _∷_, map}
+use mathlib.Core.Option.{Option, none, some}
+use mathlib.Core.Path.{_≡_, refl, _∙_, ap, ap₂}
+use lib.ListN.{length}
+use Rattle.paper.specs.Client.{Says, refused, over}
+use Rattle.paper.specs.Count.{All}
+use Rattle.paper.specs.Hearing as Paper
+use Rattle.paper.specs.Hearing.{nothing, one, unaddressed, garble}
+use Rattle.paper.specs.Talk.{Outcome, quiet, heard, attached, found}
+use Rattle.paper.specs.Walk.{long, done, stopped}
+use Rattle.theory.specs.Machine as Walk
+use Rattle.theory.specs.Machine.{State, asked, mine, other, leaving, going, ended}
+use Rattle.theory.specs.Clients.{Brief}
+use Rattle.theory.specs.Phases.{Phase, probing, parting, seeking, backing, walking, Then, to, ends, refuses, unlessLong, sought, walked, step}
+use Rattle.theory.proofs.Ending.{Undone, Staying, step-undone}
+use Rattle.theory.proofs.Fits.{Short, FitsNext, step-fits}
+use Rattle.theory.proofs.Keeping.{FitsPhase, FitsOutcome}
+use Rattle.ids.specs.Ids.{idOf}
+use Rattle.ids.proofs.Laws.{id-of-from}
+use Rattle.hearing.specs.declared.Hearing.{Hearing}
+use Rattle.table.specs.declared.Entry.{Entry}
+use Rattle.table.specs.Rows.{rows}
+use Rattle.client.specs.Numbers.{numberOf, carriedBy, idsOf, heardFrom, endOf, saysOf}
+use Rattle.records.specs.Picture.{rowOf, tableOf}
+use Rattle.records.specs.Clients.{Shown, refusedAs, shownSays}
+use Rattle.records.proofs.Sim.{short-of, told}
+use Rattle.records.proofs.Tables.{table-rows, table-count}
+
+abbrev pub readBack : Shown → Says
+readBack s = saysOf (s .says) (s .id) (s .found)
+
+-- An answer that is read as it was said.
+abbrev pub Readable : Says → Type 0
+Readable s = readBack (shownSays s) ≡ s
+
+-- The ids of a table of ids.
+map-back : (ids : List Paper.Id) → All Short ids → map (λ (e : Entry). idOf (e .id)) (map rowOf ids) ≡ ids
+map-back [] s = refl
+map-back (x ∷ xs) s = ap₂ _∷_ (id-of-from x (s .0)) (map-back xs (s .1))
+
+pub ids-back : (ids : List Paper.Id) → length ids ≤ 64 → All Short ids → idsOf (tableOf ids) ≡ ids
+unfolding idsOf
+ids-back ids few s =
+    ap (λ (n : ℕ). map (λ (e : Entry). idOf (e .id)) (rows (tableOf ids) 0 n)) (table-count ids)
+    ∙ ap (map (λ (e : Entry). idOf (e .id))) (table-rows ids few s)
+    ∙ map-back ids s
+
+-- The refusals that carry nothing.
+pub io-read : Readable (refused 1 [])
+unfolding refusedAs saysOf endOf numberOf carriedBy
+io-read = refl
+
+none-read : Readable (refused 7 [])
+unfolding refusedAs saysOf endOf numberOf carriedBy
+none-read = refl
+
+several-read : Readable (refused 8 [])
+unfolding refusedAs saysOf endOf numberOf carriedBy
+several-read = refl
+
+bare-read : Readable (refused 11 [])
+unfolding refusedAs saysOf endOf numberOf carriedBy
+bare-read = refl
+
+deep-read : Readable (refused 12 [])
+unfolding refusedAs saysOf endOf numberOf carriedBy
+deep-read = refl
+
+long-read : Readable (refused 14 [])
+unfolding refusedAs saysOf endOf numberOf carriedBy
+long-read = refl
+
+full-read : Readable (refused 15 [])
+unfolding refusedAs saysOf endOf numberOf carriedBy
+full-read = refl
+
+pub turn-read : Readable (refused 21 [])
+unfolding refusedAs saysOf endOf numberOf carriedBy
+turn-read = refl
+
+unaddressed-read : Readable (refused 23 [])
+unfolding refusedAs saysOf endOf numberOf carriedBy
+unaddressed-read = refl
+
+-- Those that carry a prefix.
+missing-read : (x : Paper.Id) → Short x → Readable (refused 9 x)
+unfolding refusedAs saysOf numberOf carriedBy
+missing-read x s = ap (refused 9) (id-of-from x s)
+
+ambiguous-read : (x : Paper.Id) → Short x → Readable (refused 10 x)
+unfolding refusedAs saysOf numberOf carriedBy
+ambiguous-read x s = ap (refused 10) (id-of-from x s)
+
+-- The outcomes.
+outcome-read : (o : Outcome) → FitsOutcome o → Readable (over none o)
+unfolding saysOf endOf heardFrom
+outcome-read quiet f = refl
+outcome-read (heard nothing) f = refl
+outcome-read (heard (one x)) f =
+    ap (λ (r : Hearing). over none (heard (heardFrom (r .heard) (r .id)))) (told x f) ∙ ap (λ (y : Paper.Id). over none (heard (one y))) (id-of-from x (short-of x f))
+outcome-read (heard unaddressed) f = refl
+outcome-read (heard garble) f = refl
+outcome-read (attached none) f = refl
+outcome-read (attached (some x)) f = ap (λ (y : Paper.Id). over none (attached (some y))) (id-of-from x f)
+outcome-read (found ids) f = ap (λ (l : List Paper.Id). over none (found l)) (ids-back ids (f .0) (f .1))
+
+abbrev pub ReadableThen : Then → Type 0
+ReadableThen (to ph) = Unit {0}
+ReadableThen (ends o) = Readable (over none o)
+ReadableThen (refuses n carries) = Readable (refused n carries)
+
+unless-read : (h : Paper.Heard) (t : Then) → (long h ≡ false → ReadableThen t) → ReadableThen (unlessLong h t)
+unless-read h t f = go (long h) refl
+  where
+    go : (b : Bool) → long h ≡ b → ReadableThen (cond b (refuses 14 []) t)
+    go true e = long-read
+    go false e = f e
+
+sought-read : (uid : Option Paper.Id) → Brief uid → (h : Paper.Heard) → long h ≡ false → ReadableThen (sought uid h)
+unfolding sought
+sought-read none b nothing e = none-read
+sought-read (some x) b nothing e = missing-read x b
+sought-read uid b (one x) e = outcome-read (attached (some x)) (short-of x e)
+sought-read none b unaddressed e = outcome-read (attached none) tt
+sought-read (some x) b unaddressed e = bare-read
+sought-read uid b garble e = tt
+
+-- A walk's number, where it was stopped, is one that is read as it was said.
+abbrev pub Stops : Walk.Next → Type 0
+Stops (going s) = Unit {0}
+Stops (ended (done ids)) = Unit {0}
+Stops (ended (stopped n)) = Readable (refused n [])
+
+undone-stops : (n : Walk.Next) → Undone (λ n. Readable (refused n [])) n → Stops n
+undone-stops (going s) u = tt
+undone-stops (ended (done ids)) u = tt
+undone-stops (ended (stopped n)) u = u
+
+pub walked-read : (n : Walk.Next) → FitsNext n → Stops n → ReadableThen (walked n)
+walked-read (going s) f u = tt
+walked-read (ended (done ids)) f u = outcome-read (found ids) f
+walked-read (ended (stopped c)) f u = u
+
+pub step-stops : (s : State) (h : Paper.Heard) → Stops (Walk.step s h)
+unfolding Walk.step Walk.tooLong Walk.tell
+step-stops s h = go (s .phase)
+  where
+    at : Walk.Phase → State
+    at p = record { pre = s .pre; marks = s .marks; ids = s .ids; phase = p }
+
+    asks : (p : Walk.Phase) → Staying p → Stops (Walk.step (at p) h)
+    asks p a = undone-stops (Walk.step (at p) h) (step-undone (λ n. Readable (refused n [])) deep-read long-read full-read unaddressed-read (at p) h a)
+
+    go : (p : Walk.Phase) → Stops (Walk.step (at p) h)
+    go asked = asks asked tt
+    go (mine x) = asks (mine x) tt
+    go (other x good) = asks (other x good) tt
+    go leaving = tt
+
+-- Whatever is heard in a phase that fits.
+pub phase-read : (ph : Phase) → FitsPhase ph → (h : Paper.Heard) → ReadableThen (step ph h)
+unfolding step
+phase-read (probing bytes bits) f h = unless-read h (ends (heard h)) (λ e. outcome-read (heard h) e)
+phase-read parting f h = outcome-read quiet tt
+phase-read (seeking uid) f h = unless-read h (sought uid h) (sought-read uid f h)
+phase-read (backing none) f h = several-read
+phase-read (backing (some x)) f h = ambiguous-read x f
+phase-read (walking s) f h = walked-read (Walk.step s h) (step-fits s h f) (step-stops s h)

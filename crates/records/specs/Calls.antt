@@ -1,0 +1,118 @@
+-- Any calls, in any order: what the code answers to them, and what document 01 says that they answer.
+-- Assumes nothing.
+use Prim.Native.Nat.{ℕ, _<_}
+use mathlib.Core.Bool.{cond}
+use mathlib.Core.List.{List, [], _∷_}
+use mathlib.Core.Option.{Option, none, some}
+use mathlib.Core.Path.{_≡_}
+use Rattle.paper.specs.Client as Paper
+use Rattle.paper.specs.Hearing.{Id}
+use Rattle.lore.proofs.Words.{Bytes}
+use Rattle.theory.specs.Clients.{OfAny, Brief}
+use Rattle.ids.specs.Ids.{idOf, noId}
+use Rattle.table.specs.Rows.{noTable}
+use Rattle.client.specs.declared.Client.{Client}
+use Rattle.client.specs.declared.Started.{Started}
+use Rattle.client.specs.declared.Told.{Told}
+use Rattle.client.specs.Numbers.{saysOf}
+use Rattle.starting.specs.Starting as Code
+use Rattle.asking.specs.Asking as Code₂
+use Rattle.telling.specs.Telling as Code₃
+use Rattle.records.specs.Served.{resting}
+
+-- The starts with their arguments, a request with its buffer, a record with its bytes, a link that failed.
+pub data Call : Type 0 where
+  startSelect : Id → ℕ → Call
+  startDeselect : Call
+  startAttach : Option Id → Call
+  startDiscover : Id → Call
+  request : List ℕ → Call
+  record′ : List ℕ → Call
+  linkFailed : Call
+
+-- A call whose bytes are bytes.
+abbrev pub Good : Call → Type 0
+Good (startSelect bytes bits) = Bytes bytes
+Good startDeselect = Unit {0}
+Good (startAttach uid) = OfAny Bytes uid
+Good (startDiscover given) = Bytes given
+Good (request buffer) = Bytes buffer
+Good (record′ bytes) = Bytes bytes
+Good linkFailed = Unit {0}
+
+-- What is answered: what is said, where the unread rest begins, the buffer after a request.
+pub record Reply : Type 0 where
+  pub says : Paper.Says
+  pub rest : ℕ
+  pub buffer : List ℕ
+
+-- Document 01's answer to a call, and its client after it.
+abbrev pub saidBy : Paper.Told → Reply × Paper.Client
+saidBy t = (record { says = t .says; rest = t .rest; buffer = [] }, t .client)
+
+unfoldable pub paperCall : Paper.Client → Call → Reply × Paper.Client
+paperCall c (startSelect bytes bits) = saidBy (Paper.startSelect c bytes bits)
+paperCall c startDeselect = saidBy (Paper.startDeselect c)
+paperCall c (startAttach uid) = saidBy (Paper.startAttach c uid)
+paperCall c (startDiscover given) = saidBy (Paper.startDiscover c given)
+paperCall c (request buffer) = (record { says = Paper.request c buffer .says; rest = 0; buffer = Paper.request c buffer .buffer }, Paper.request c buffer .client)
+paperCall c (record′ bytes) = saidBy (Paper.record′ c bytes)
+paperCall c linkFailed = saidBy (Paper.linkFailed c)
+
+-- The code's answer to a call, read as document 01's, and its client after it.
+abbrev pub startedBy : Started → Reply × Client
+startedBy s = (record { says = saysOf (s .says) noId noTable; rest = 0; buffer = [] }, s .client)
+
+abbrev pub askedBy : Code₂.Asking → Reply × Client
+askedBy a = (record { says = saysOf (a .answer .says) noId noTable; rest = 0; buffer = a .bytes }, a .answer .client)
+
+abbrev pub toldBy : Told → Reply × Client
+toldBy t = (record { says = saysOf (t .says) (t .id) (t .found); rest = t .rest; buffer = [] }, t .client)
+
+unfoldable pub codeCall : Client → Call → Reply × Client
+codeCall c (startSelect bytes bits) = startedBy (Code.startSelect c bytes bits)
+codeCall c startDeselect = startedBy (Code.startDeselect c)
+codeCall c (startAttach none) = startedBy (Code.startAttach c)
+codeCall c (startAttach (some bytes)) = startedBy (Code.startAttachTo c bytes)
+codeCall c (startDiscover given) = startedBy (Code.startDiscover c given)
+codeCall c (request buffer) = askedBy (Code₂.request c buffer)
+codeCall c (record′ bytes) = toldBy (Code₃.record′ c bytes)
+codeCall c linkFailed = toldBy (Code₃.linkFailed c)
+
+-- An answer, with the seed and the attached id after it.
+pub record Answer : Type 0 where
+  pub reply : Reply
+  pub seed : ℕ
+  pub id : Option Id
+
+unfoldable pub attachedTo : Client → Option Id
+attachedTo c = cond (c .attached) (some (idOf (c .id))) none
+
+abbrev pub paperAnswer : Reply × Paper.Client → Answer
+paperAnswer r = record { reply = r .0; seed = r .1 .seed; id = r .1 .id }
+
+abbrev pub codeAnswer : Reply × Client → Answer
+codeAnswer r = record { reply = r .0; seed = r .1 .seed; id = attachedTo (r .1) }
+
+-- The answers to some calls, one after the other.
+unfoldable pub paperAnswers : Paper.Client → List Call → List Answer
+paperAnswers c [] = []
+paperAnswers c (call ∷ calls) = paperAnswer (paperCall c call) ∷ paperAnswers ((paperCall c call) .1) calls
+
+unfoldable pub codeAnswers : Client → List Call → List Answer
+codeAnswers c [] = []
+codeAnswers c (call ∷ calls) = codeAnswer (codeCall c call) ∷ codeAnswers ((codeCall c call) .1) calls
+
+-- The client after some calls.
+unfoldable pub reached : Client → List Call → Client
+reached c [] = c
+reached c (call ∷ calls) = reached ((codeCall c call) .1) calls
+
+-- A client with no operation, of a seed and an attached id or none.
+pub record Rests (c : Client) : Type 0 where
+  pub seed : ℕ
+  pub byte : seed < 256
+  pub id : Option Id
+  pub brief : Brief id
+  pub bytes : OfAny Bytes id
+  pub client : c ≡ resting seed id
