@@ -1,0 +1,18 @@
+-- `bench::begun` meets its contract.
+-- Assumes nothing.
+use Rattle.bench.proofs.Ways.{began}
+use borrow.Author.Needs.{needs}
+use Rattle.bench.proofs.begun.Statement.{statement}
+use Rattle.bench.proofs.begun.Tie as tie
+
+idle-requires : tie.Need-idle-requires
+idle-requires c κs = search needs
+
+begun-requires : tie.Need-begun-requires
+begun-requires c κs = search needs
+
+returns : tie.Need-returns
+returns c = search (began, needs)
+
+pub begun-spec : {M : Type 1} → statement M
+begun-spec = tie.close (tie.spec idle-requires begun-requires returns)

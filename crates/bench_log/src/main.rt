@@ -1,0 +1,56 @@
+// The bench log: standard input to standard output.
+ghost use Rattle.bench.specs.Machine.{Logged, begun};
+ghost use Rattle.bench.specs.Pieces.{Reached};
+use bench::Log;
+use libc::STDIN_FILENO;
+use libc::STDOUT_FILENO;
+
+struct Pumped {
+    more: bool,
+    log: Log,
+}
+
+// One read, and what it brought. A read that fails counts as the end of the input.
+fn pump(log: Log, page: &mut [u8], buf: &mut [u8]) -> Pumped
+    ensures { λ r. ⌜ Reached (record { log = log; bytes = now (buf .entry) }) (record { log = r .log; bytes = now (buf .exit) }) ⌝ }
+{
+    let got = libc::read(STDIN_FILENO, page);
+    if got <= 0 {
+        return Pumped { more: false, log };
+    }
+    let n = io::count(got, page);
+    let next = log.feed(&page[..n], buf);
+    Pumped {
+        more: true,
+        log: next,
+    }
+}
+
+// A proved loop has to end, and nothing says that the input does. So the turns are counted down, from 2^64 - 1, and each is a read of a byte
+// or more.
+fn pump_all(page: &mut [u8], buf: &mut [u8]) -> Log
+    ensures { λ r. ⌜ Reached (record { log = begun; bytes = now (buf .entry) }) (record { log = r; bytes = now (buf .exit) }) ⌝ }
+{
+    let mut log = bench::begun();
+    let mut turns = u64::MAX;
+    while turns > 0 {
+        let p = pump(log, page, buf);
+        let next = p.log;
+        log = next;
+        if !p.more {
+            return log;
+        }
+        turns -= 1;
+    }
+    log
+}
+
+fn main() {
+    let mut page = io::large_buffer();
+    let mut buf = io::buffer();
+    let log = pump_all(&mut page, &mut buf);
+    let answer = log.finish(&mut buf);
+    let mut out = [0u8; 2121];
+    let n = listing::show(answer, &mut out);
+    io::write_all(STDOUT_FILENO, &out[..n]);
+}

@@ -1,0 +1,18 @@
+-- `replay::Replay::takes` meets its contract.
+-- Assumes nothing.
+use Rattle.replay.proofs.Ways.{took}
+use borrow.Author.Needs.{needs}
+use Rattle.replay.proofs.Replay.takes.Statement.{statement}
+use Rattle.replay.proofs.Replay.takes.Tie as tie
+
+record-requires : tie.Need-record-requires
+record-requires c κs = search needs
+
+goes-requires : tie.Need-goes-requires
+goes-requires c κs = search needs
+
+returns : tie.Need-returns
+returns c = search (took, needs)
+
+pub takes-spec : {M : Type 1} → statement M
+takes-spec = tie.close (tie.spec record-requires goes-requires returns)

@@ -1,0 +1,108 @@
+-- The ways through the discovery over a log, from the facts that the code has.
+-- Assumes nothing.
+use Prim.Native.Nat.{ℕ, _+_, _-_, _%_}
+use mathlib.Core.List.{List, [], _∷_}
+use mathlib.Core.Path.{_≡_, refl, _∙_, ap}
+use native.Mathlib.Omega.{arith}
+use lib.ListN.{length, take, drop, getD, replicate}
+use borrow.Author.Tests.{eq-eqb, ne-eqb}
+use Rattle.lore.proofs.Parts.{part-all}
+use Rattle.paper.specs.Log.{prefixIn}
+use Rattle.table.specs.declared.Table.{Table}
+use Rattle.table.specs.Rows.{noTable}
+use Rattle.client.specs.declared.Client.{Client}
+use Rattle.client.specs.declared.Refusal.{Refusal}
+use Rattle.client.specs.declared.Outcome.{Outcome}
+use Rattle.client.specs.declared.Says.{Says}
+use Rattle.client.specs.declared.Says.the-variants.{Granted, Onward, Over, Refused}
+use Rattle.client.specs.declared.Started.{Started}
+use Rattle.client.specs.declared.Told.{Told}
+use Rattle.client.specs.Clients.{fresh}
+use Rattle.starting.specs.Starting.{startDiscover}
+use Rattle.asking.specs.Asking.{Asking, request}
+use Rattle.telling.specs.Telling.{record′}
+use Rattle.replay.specs.declared.Stage.the-variants.{First, Running, Ended}
+use Rattle.replay.specs.declared.Replay.{Replay}
+use Rattle.replay.specs.Replays.{code, begun, ended, stops, handed, room, asked, goes, opens, takes, answer}
+
+pub began : (c : Client) (t : Table) → c ≡ fresh → t ≡ noTable → record { client = c; stage = First; selects = 0; found = t } ≡ begun
+unfolding begun
+began c t ec et = rw (ec, et)
+
+-- The answer at the end of the input.
+module _ (v : Replay) where
+  pub before-first : v .stage ≡ First → record { code = 22; selects = v .selects; found = v .found } ≡ answer v
+  unfolding answer
+  before-first e = rw e
+
+  pub before-record : v .stage ≡ Running → record { code = 1; selects = v .selects; found = v .found } ≡ answer v
+  unfolding answer
+  before-record e = rw e
+
+  pub at-end : (k : ℕ) → v .stage ≡ Ended k → record { code = k; selects = v .selects; found = v .found } ≡ answer v
+  unfolding answer
+  at-end k e = rw e
+
+-- The next Select.
+module _ (c : Client) (k : ℕ) (s : Started) (bytes : List ℕ) (t : Table) (e : record { answer = s; bytes = bytes } ≡ request c (replicate 64 0)) (et : t ≡ noTable) where
+  same : handed s k ≡ asked c k
+  unfolding room
+  same = ap (λ (a : Asking). handed (a .answer) k) e
+
+  pub handed-out : (n j : ℕ) → s .says ≡ Granted n → j ≡ (k + 1) % 65536 → record { client = s .client; stage = Running; selects = j; found = t } ≡ asked c k
+  unfolding handed
+  handed-out n j q ej = rw (ej, et) (rw q at same)
+
+  pub goes-nowhere : (r : Replay) → s .says ≡ Onward → r ≡ ended (s .client) k t 0 → r ≡ asked c k
+  unfolding handed
+  goes-nowhere r q er = er ∙ rw et (rw q at same)
+
+  module _ (m : ℕ) (em : m ≡ code (s .says)) (r : Replay) (er : r ≡ ended (s .client) k t m) where
+    pub asks-over : (o : Outcome) → s .says ≡ Over o → r ≡ asked c k
+    unfolding handed
+    asks-over o q = er ∙ rw (et, em, q) (rw q at same)
+
+    pub asks-refused : (x : Refusal) → s .says ≡ Refused x → r ≡ asked c k
+    unfolding handed
+    asks-refused x q = er ∙ rw (et, em, q) (rw q at same)
+
+-- After a call.
+module _ (says : Says) (c : Client) (k : ℕ) (t : Table) (r : Replay) where
+  pub after-grant : (n : ℕ) → says ≡ Granted n → r ≡ ended c k t 0 → r ≡ goes says c k t
+  unfolding goes
+  after-grant n q e = e ∙ rw q
+
+  pub after-onward : says ≡ Onward → r ≡ asked c k → r ≡ goes says c k t
+  unfolding goes
+  after-onward q e = e ∙ rw q
+
+  module _ (m : ℕ) (em : m ≡ code says) (e : r ≡ ended c k t m) where
+    pub after-end : (o : Outcome) → says ≡ Over o → r ≡ goes says c k t
+    unfolding goes
+    after-end o q = e ∙ rw (em, q)
+
+    pub after-refusal : (x : Refusal) → says ≡ Refused x → r ≡ goes says c k t
+    unfolding goes
+    after-refusal x q = e ∙ rw (em, q)
+
+-- Line one.
+module _ (v r : Replay) where
+  pub no-byte : (line : List ℕ) → length line ≡ 0 → r ≡ stops v 22 → r ≡ opens v line
+  unfolding opens prefixIn
+  no-byte [] h e = e
+  no-byte (b ∷ bs) h e = absurd (omega arith)
+
+  pub other-byte : (line : List ℕ) → (length line ≡ 0 → ⊥) → (getD line 0 0 ≡ 1 → ⊥) → r ≡ stops v 22 → r ≡ opens v line
+  unfolding opens prefixIn
+  other-byte [] n h e = absurd (n refl)
+  other-byte (b ∷ bs) n h e = e ∙ rw (ne-eqb b 1 h)
+
+  pub opened : (line : List ℕ) (s : Started) (t : Table) → (length line ≡ 0 → ⊥) → getD line 0 0 ≡ 1 → s ≡ startDiscover (v .client) (take (length line - 1) (drop 1 line)) → t ≡ noTable
+      → r ≡ goes (s .says) (s .client) (v .selects) t → r ≡ opens v line
+  unfolding opens prefixIn
+  opened [] s t n h es et e = absurd (n refl)
+  opened (b ∷ bs) s t n h es et e = e ∙ rw (eq-eqb b 1 h, es ∙ ap (startDiscover (v .client)) (part-all 1 (b ∷ bs)), et)
+
+pub took : (v r : Replay) (bytes : List ℕ) (t : Told) → t ≡ record′ (v .client) bytes → r ≡ goes (t .says) (t .client) (v .selects) (t .found) → r ≡ takes v bytes
+unfolding takes
+took v r bytes t et e = e ∙ rw et

@@ -1,0 +1,110 @@
+-- What line one, a record and the end of the input make of a discovery over a log.
+-- Assumes nothing.
+use Prim.Native.Nat.{ℕ, _+_, _%_}
+use mathlib.Core.Bool.{Bool, true, false}
+use mathlib.Core.List.{List}
+use lib.ListN.{replicate}
+use Rattle.paper.specs.Hearing.{onSome}
+use Rattle.paper.specs.Log.{prefixIn}
+use Rattle.table.specs.declared.Table.{Table}
+use Rattle.table.specs.Rows.{noTable}
+use Rattle.client.specs.declared.Client.{Client}
+use Rattle.client.specs.declared.Refusal.{Refusal}
+use Rattle.client.specs.declared.Refusal.the-variants as Refusal
+use Rattle.client.specs.declared.Outcome.{Outcome}
+use Rattle.client.specs.declared.Outcome.the-variants as Outcome
+use Rattle.client.specs.declared.Says.{Says}
+use Rattle.client.specs.declared.Says.the-variants.{Granted, Onward, Over, Refused}
+use Rattle.client.specs.declared.Started.{Started}
+use Rattle.client.specs.Clients.{fresh}
+use Rattle.starting.specs.Starting.{startDiscover}
+use Rattle.asking.specs.Asking.{request}
+use Rattle.telling.specs.Telling.{record′}
+use Rattle.listing.specs.declared.Answer.{Answer}
+use Rattle.replay.specs.declared.Stage.{Stage}
+use Rattle.replay.specs.declared.Stage.the-variants.{First, Running, Ended}
+use Rattle.replay.specs.declared.Replay.{Replay}
+
+-- The cases.
+abbrev pub onStage {ℓ} : {A : Type ℓ} → Stage → A → A → (ℕ → A) → A
+onStage First f r e = f
+onStage Running f r e = r
+onStage (Ended k) f r e = e k
+
+abbrev pub onSays {ℓ} : {A : Type ℓ} → Says → (ℕ → A) → A → (Outcome → A) → (Refusal → A) → A
+onSays (Granted n) g o v r = g n
+onSays Onward g o v r = o
+onSays (Over x) g o v r = v x
+onSays (Refused x) g o v r = r x
+
+-- "Refusal numbers" of document 01.
+abbrev pub number : Refusal → ℕ
+number Refusal.Io = 1
+number Refusal.NoDevice = 7
+number Refusal.SeveralDevices = 8
+number Refusal.NoSuchUid = 9
+number Refusal.AmbiguousUid = 10
+number Refusal.NotAddressable = 11
+number Refusal.DuplicateUid = 12
+number Refusal.BadPrefix = 13
+number Refusal.LongId = 14
+number Refusal.TableFull = 15
+number (Refusal.ShortBuffer n) = 16
+number Refusal.OutOfTurn = 21
+
+abbrev pub outcome : Outcome → ℕ
+outcome Outcome.Quiet = 0
+outcome (Outcome.Heard h) = 0
+outcome (Outcome.Attached any) = 0
+outcome Outcome.Found = 0
+outcome Outcome.Unaddressed = 23
+
+abbrev pub code : Says → ℕ
+code says = onSays says (λ n. 0) 0 outcome number
+
+abbrev pub isEnded : Stage → Bool
+isEnded s = onStage s false false (λ k. true)
+
+unfoldable pub begun : Replay
+begun = record { client = fresh; stage = First; selects = 0; found = noTable }
+
+abbrev pub ended : Client → ℕ → Table → ℕ → Replay
+ended c k found n = record { client = c; stage = Ended n; selects = k; found = found }
+
+abbrev pub stops : Replay → ℕ → Replay
+stops v n = ended (v .client) (v .selects) (v .found) n
+
+abbrev pub running : Client → ℕ → Replay
+running c k = record { client = c; stage = Running; selects = (k + 1) % 65536; found = noTable }
+
+-- One Select more is out, if it was granted.
+unfoldable pub handed : Started → ℕ → Replay
+handed s k =
+    onSays (s .says) (λ n. running (s .client) k) (ended (s .client) k noTable 0)
+    (λ o. ended (s .client) k noTable (outcome o))
+    (λ r. ended (s .client) k noTable (number r))
+
+-- The next Select, asked for with a buffer that is long enough for any.
+unfoldable pub room : List ℕ
+room = replicate 64 0
+
+abbrev pub asked : Client → ℕ → Replay
+asked c k = handed (request c room .answer) k
+
+unfoldable pub goes : Says → Client → ℕ → Table → Replay
+goes says c k found =
+    onSays says (λ n. ended c k found 0) (asked c k) (λ o. ended c k found (outcome o)) (λ r. ended c k found (number r))
+
+-- "Line one: 01 and prefix bytes."
+unfoldable pub opens : Replay → List ℕ → Replay
+opens v line =
+    onSome (prefixIn line) (stops v 22)
+    (λ given. goes (startDiscover (v .client) given .says) (startDiscover (v .client) given .client) (v .selects) noTable)
+
+unfoldable pub takes : Replay → List ℕ → Replay
+takes v bytes =
+    goes (record′ (v .client) bytes .says) (record′ (v .client) bytes .client) (v .selects) (record′ (v .client) bytes .found)
+
+-- "a first line missing": 22; "a record without its empty line gives 1".
+unfoldable pub answer : Replay → Answer
+answer v = record { code = onStage (v .stage) 22 1 (λ k. k); selects = v .selects; found = v .found }
