@@ -67,7 +67,7 @@ pub record Closed (v : Replay) (e : Ended (List Id)) (k : ℕ) : Type 0 where
   pub fits : FitsNext (ended e)
 
 -- A run where the machine of the walk stands: with a Select out, which is one more than document 01 counts so far; or ended.
-data Stands : Replay → Next → ℕ → Type 0 where
+pub data Stands : Replay → Next → ℕ → Type 0 where
   out : (seed : ℕ) (id : Option Id) (s : State) (j k : ℕ) → Fits (record { seed = seed; id = id; turn = waiting (walking s) }) → j ≡ suc k % 65536
       → Stands (record { client = clientOf (record { seed = seed; id = id; turn = waiting (walking s) }); stage = Running; selects = j; found = noTable }) (going s) k
   over′ : (c : Client) (e : Ended (List Id)) (j k : ℕ) → j ≡ k % 65536 → FitsNext (ended e) → Stands (Replays.ended c j (endTable e) (numbered e)) (ended e) k
@@ -164,7 +164,7 @@ module _ (seed : ℕ) (id : Option Id) (s : State) (f : Fits (record { seed = se
       rw (number-ends (refusedAs n [] .says) (refusedAs n [] .id) (refusedAs n [] .found) n u (toldAs (settled (ended (stopped n))) .client) j, refused-table n [])
       (over′ (toldAs (settled (ended (stopped n))) .client) (stopped n) j (suc k) e tt)
 
-  pub took : Stands (takes (record { client = clientOf w; stage = Running; selects = j; found = noTable }) bytes) (Walking.step s (hear bytes)) (suc k)
+  took : Stands (takes (record { client = clientOf w; stage = Running; selects = j; found = noTable }) bytes) (Walking.step s (hear bytes)) (suc k)
   took = rw takes-is (onto-stands (Walking.step s (hear bytes)) (step-fits s (hear bytes) (f .turn)) (step-stops s (hear bytes)) settled-fits)
 
 -- Document 01's conversation where the machine stands.
@@ -172,14 +172,31 @@ over-step : (s : State) (rs : Records) (k : ℕ) → Log.over (resumed (going s)
 unfolding resumed
 over-step s rs k = ap (λ (m : Walk.Walk (List Id)). Log.over m rs k) (resume-step s)
 
-pub talks : (rs : Records) (v : Replay) (n : Next) (k : ℕ) → Stands v n k → Closed (talk v rs) ((Log.over (resumed n) rs k) .0) ((Log.over (resumed n) rs k) .1)
+abbrev pub Talks : Records → Type 0
+Talks rs = (v : Replay) (n : Next) (k : ℕ) → Stands v n k → Closed (talk v rs) ((Log.over (resumed n) rs k) .0) ((Log.over (resumed n) rs k) .1)
+
+ended-talks : (rs : Records) (x : Client) (e : Ended (List Id)) (j k : ℕ) → j ≡ k % 65536 → FitsNext (ended e)
+    → Closed (talk (Replays.ended x j (endTable e) (numbered e)) rs) ((Log.over (resumed (ended e)) rs k) .0) ((Log.over (resumed (ended e)) rs k) .1)
+unfolding Log.over resumed answer
+ended-talks rs x (done ids) j k e f = rw (talk-ended rs (Replays.ended x j (tableOf ids) 0) refl) (record { code = refl; found = refl; selects = e; fits = f })
+ended-talks rs x (stopped n) j k e f = rw (talk-ended rs (Replays.ended x j noTable n) refl) (record { code = refl; found = refl; selects = e; fits = tt })
+
+missing-talks : Talks missing
 unfolding talk Log.over resumed answer
-talks rs v (ended (done ids)) k (over′ c e j k₁ q f) =
-    rw (talk-ended rs (Replays.ended c j (tableOf ids) 0) refl) (record { code = refl; found = refl; selects = q; fits = f })
-talks rs v (ended (stopped n)) k (over′ c e j k₁ q f) =
-    rw (talk-ended rs (Replays.ended c j noTable n) refl) (record { code = refl; found = refl; selects = q; fits = tt })
-talks missing v (going s) k (out seed id s₁ j k₁ f q) = rw (over-step s missing k) (record { code = refl; found = refl; selects = q; fits = tt })
-talks spoilt v (going s) k (out seed id s₁ j k₁ f q) = rw (over-step s spoilt k) (record { code = refl; found = refl; selects = q; fits = tt })
-talks (next bytes rs) v (going s) k (out seed id s₁ j k₁ f q) =
-    rw (over-step s (next bytes rs) k)
-    (talks rs (takes v bytes) (Walking.step s (hear bytes)) (suc k) (took seed id s f bytes j k q))
+missing-talks v n k (over′ x e j k₁ r f) = ended-talks missing x e j k₁ r f
+missing-talks v n k (out seed id s j k₁ f r) = rw (over-step s missing k₁) (record { code = refl; found = refl; selects = r; fits = tt })
+
+spoilt-talks : Talks spoilt
+unfolding talk Log.over resumed answer
+spoilt-talks v n k (over′ x e j k₁ r f) = ended-talks spoilt x e j k₁ r f
+spoilt-talks v n k (out seed id s j k₁ f r) = rw (over-step s spoilt k₁) (record { code = refl; found = refl; selects = r; fits = tt })
+
+next-talks : (bytes : List ℕ) (rs : Records) → Talks rs → Talks (next bytes rs)
+unfolding talk Log.over
+next-talks bytes rs ih v n k (over′ x e j k₁ r f) = ended-talks (next bytes rs) x e j k₁ r f
+next-talks bytes rs ih v n k (out seed id s j k₁ f r) = rw (over-step s (next bytes rs) k₁) (ih _ (Walking.step s (hear bytes)) (suc k₁) (took seed id s f bytes j k₁ r))
+
+pub talks : (rs : Records) → Talks rs
+talks missing = missing-talks
+talks spoilt = spoilt-talks
+talks (next bytes rs) = next-talks bytes rs (talks rs)
