@@ -1,13 +1,11 @@
 -- The client over the records of a log is document 01's conversation over them.
 -- Assumes nothing.
 use Prim.Native.Nat.{ℕ, suc, _+_, _%_, _≤_, _<_}
-use mathlib.Core.Bool.{Bool, true, false, cond}
-use mathlib.Core.List.{List, [], _∷_}
-use mathlib.Core.Option.{Option, none, some}
-use mathlib.Core.Path.{_≡_, refl, sym, _∙_, ap, subst}
+use mathlib.Core.List.{List, []}
+use mathlib.Core.Option.{Option}
+use mathlib.Core.Path.{_≡_, refl, _∙_, ap, subst}
 use native.Mathlib.Omega.{arith}
-use lib.ListN.{length, replicate, length-replicate}
-use lib.Dec.{ltb}
+use lib.ListN.{length, length-replicate}
 use borrow.Author.Tests.{le-ltb}
 use Rattle.paper.specs.Client as Paper
 use Rattle.paper.specs.Client.{refused, over, bytesOf, seedAfter, cleared}
@@ -22,7 +20,7 @@ use Rattle.theory.specs.Machine.{State, Next, going, ended}
 use Rattle.theory.specs.Phases as Phases
 use Rattle.theory.specs.Phases.{walking}
 use Rattle.theory.specs.Clients as Machine
-use Rattle.theory.specs.Clients.{waiting, ready, Brief}
+use Rattle.theory.specs.Clients.{waiting, ready}
 use Rattle.theory.proofs.Fits as Walk₂
 use Rattle.theory.proofs.Fits.{FitsNext, step-fits}
 use Rattle.theory.proofs.Keeping.{Fits, record-fits}
@@ -35,13 +33,12 @@ use Rattle.client.specs.declared.Outcome.{Outcome}
 use Rattle.client.specs.declared.Outcome.the-variants as Outcome
 use Rattle.client.specs.declared.Says.{Says}
 use Rattle.client.specs.declared.Says.the-variants.{Granted, Onward, Over, Refused}
-use Rattle.client.specs.declared.Started.{Started}
 use Rattle.client.specs.declared.Told.{Told}
-use Rattle.client.specs.Numbers.{numberOf, carriedBy, endOf, saysOf}
+use Rattle.client.specs.Numbers.{numberOf, endOf, saysOf}
 use Rattle.asking.specs.Asking.{Asking, request}
 use Rattle.telling.specs.Telling.{record′}
 use Rattle.records.specs.Picture.{tableOf}
-use Rattle.records.specs.Clients.{clientOf, refusedAs, shownSays, askedAs, toldAs}
+use Rattle.records.specs.Clients.{clientOf, refusedAs, shownSays, toldAs}
 use Rattle.records.specs.Served.{endTable}
 use Rattle.records.proofs.Readable.{Stops, step-stops}
 use Rattle.records.proofs.Requests.{request-asked}
@@ -50,7 +47,7 @@ use Rattle.records.proofs.Tells.{record-told}
 use Rattle.replay.specs.declared.Stage.the-variants.{Running}
 use Rattle.replay.specs.declared.Replay.{Replay}
 use Rattle.replay.specs.Replays as Replays
-use Rattle.replay.specs.Replays.{running, handed, room, asked, goes, takes, stops, answer}
+use Rattle.replay.specs.Replays.{running, handed, room, asked, goes, takes, answer}
 use Rattle.logs.specs.Talks.{talk}
 use Rattle.logs.proofs.Runs.{talk-ended}
 

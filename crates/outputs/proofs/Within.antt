@@ -1,11 +1,9 @@
 -- A conversation over records asks no more Selects than over any wire that hears them, so a log's count is below 65,536.
 -- Assumes nothing.
 use Prim.Native.Nat.{ℕ, zero, suc, _+_, _-_, _≤_, _<_}
-use mathlib.Core.List.{List}
 use mathlib.Core.Path.{_≡_, refl, _∙_, ap}
 use native.Mathlib.Omega.{arith}
 use lib.ListN.{length}
-use Rattle.paper.specs.Count.{limit}
 use Rattle.paper.specs.Hearing.{Prefix, Heard, nothing, hear}
 use Rattle.paper.specs.Log.{Records, missing, spoilt, next, over}
 use Rattle.paper.specs.Walk.{Walk, return, stop, select, Wire, run, discover}

@@ -1,114 +1,90 @@
+-- `replay::number` meets its contract.
+-- Assumes nothing.
 use Rattle.client.specs.Numbers.{numberOf}
 use borrow.Author.Needs.{needs}
 use Rattle.replay.proofs.number.Statement.{statement}
 use Rattle.replay.proofs.number.Tie as tie
-use Rattle.replay.proofs.number.Reads as reads
-use Rattle.replay.proofs.number.Lts as lts
 
--- src/lib.rt:31:24
 enum-told : tie.Need-enum-told
 enum-told c = search needs
 
--- src/lib.rt:32:30
 enum-told-2 : tie.Need-enum-told-2
 enum-told-2 c = search needs
 
--- src/lib.rt:33:36
 enum-told-3 : tie.Need-enum-told-3
 enum-told-3 c = search needs
 
--- src/lib.rt:34:31
 enum-told-4 : tie.Need-enum-told-4
 enum-told-4 c = search needs
 
--- src/lib.rt:35:34
 enum-told-5 : tie.Need-enum-told-5
 enum-told-5 c = search needs
 
--- src/lib.rt:36:36
 enum-told-6 : tie.Need-enum-told-6
 enum-told-6 c = search needs
 
--- src/lib.rt:37:34
 enum-told-7 : tie.Need-enum-told-7
 enum-told-7 c = search needs
 
--- src/lib.rt:38:31
 enum-told-8 : tie.Need-enum-told-8
 enum-told-8 c = search needs
 
--- src/lib.rt:39:28
 enum-told-9 : tie.Need-enum-told-9
 enum-told-9 c = search needs
 
--- src/lib.rt:40:31
 enum-told-10 : tie.Need-enum-told-10
 enum-told-10 c = search needs
 
--- src/lib.rt:41:36
 enum-told-11 : tie.Need-enum-told-11
 enum-told-11 c = search needs
 
--- src/lib.rt:42:31
 enum-told-12 : tie.Need-enum-told-12
 enum-told-12 c = search needs
 
--- src/lib.rt:27:1
 returns : tie.Need-returns
 unfolding numberOf
 returns c = search needs
 
--- src/lib.rt:27:1
 returns-2 : tie.Need-returns-2
 unfolding numberOf
 returns-2 c = search needs
 
--- src/lib.rt:27:1
 returns-3 : tie.Need-returns-3
 unfolding numberOf
 returns-3 c = search needs
 
--- src/lib.rt:27:1
 returns-4 : tie.Need-returns-4
 unfolding numberOf
 returns-4 c = search needs
 
--- src/lib.rt:27:1
 returns-5 : tie.Need-returns-5
 unfolding numberOf
 returns-5 c = search needs
 
--- src/lib.rt:27:1
 returns-6 : tie.Need-returns-6
 unfolding numberOf
 returns-6 c = search needs
 
--- src/lib.rt:27:1
 returns-7 : tie.Need-returns-7
 unfolding numberOf
 returns-7 c = search needs
 
--- src/lib.rt:27:1
 returns-8 : tie.Need-returns-8
 unfolding numberOf
 returns-8 c = search needs
 
--- src/lib.rt:27:1
 returns-9 : tie.Need-returns-9
 unfolding numberOf
 returns-9 c = search needs
 
--- src/lib.rt:27:1
 returns-10 : tie.Need-returns-10
 unfolding numberOf
 returns-10 c = search needs
 
--- src/lib.rt:27:1
 returns-11 : tie.Need-returns-11
 unfolding numberOf
 returns-11 c = search needs
 
--- src/lib.rt:27:1
 returns-12 : tie.Need-returns-12
 unfolding numberOf
 returns-12 c = search needs
