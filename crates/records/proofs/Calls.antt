@@ -194,7 +194,7 @@ agrees c f (call ∷ calls) g =
     answer = same-answer ((machineCall c call) .0) after (call-fits c f call)
 
 -- A new client is document 01's.
-new-client : Code₂.fresh ≡ clientOf Machine.fresh
+pub new-client : Code₂.fresh ≡ clientOf Machine.fresh
 unfolding Code₂.fresh Machine.fresh
 new-client = refl
 

@@ -61,7 +61,7 @@ refused-table n carries =
     either false x y e f = f
 
 -- A Select takes at most 31 bytes.
-select-length : (q : Prefix) (seed : ℕ) → length q ≤ 129 → length (bytesOf (select q) seed) ≤ 31
+pub select-length : (q : Prefix) (seed : ℕ) → length q ≤ 129 → length (bytesOf (select q) seed) ≤ 31
 unfolding bytesOf
 select-length q seed h = omega (arith, frame-length (selectFrame seed q), payload-length seed q)
 

@@ -18,6 +18,7 @@ use Rattle.client.specs.declared.Says.the-variants.{Granted, Onward, Over, Refu
 use Rattle.client.specs.declared.Started.{Started}
 use Rattle.client.specs.declared.Told.{Told}
 use Rattle.client.specs.Clients.{fresh}
+use Rattle.client.specs.Numbers.{numberOf}
 use Rattle.starting.specs.Starting.{startDiscover}
 use Rattle.asking.specs.Asking.{Asking, request}
 use Rattle.telling.specs.Telling.{record′}
@@ -28,6 +29,9 @@ use Rattle.replay.specs.Replays.{code, begun, ended, stops, handed, room
 pub began : (c : Client) (t : Table) → c ≡ fresh → t ≡ noTable → record { client = c; stage = First; selects = 0; found = t } ≡ begun
 unfolding begun
 began c t ec et = rw (ec, et)
+
+pub code-refused : (says : Says) (r : Refusal) (n : ℕ) → says ≡ Refused r → n ≡ numberOf r → n ≡ code says
+code-refused says r n q e = e ∙ rw q
 
 -- The answer at the end of the input.
 module _ (v : Replay) where

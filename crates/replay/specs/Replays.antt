@@ -10,13 +10,13 @@ use Rattle.table.specs.declared.Table.{Table}
 use Rattle.table.specs.Rows.{noTable}
 use Rattle.client.specs.declared.Client.{Client}
 use Rattle.client.specs.declared.Refusal.{Refusal}
-use Rattle.client.specs.declared.Refusal.the-variants as Refusal
 use Rattle.client.specs.declared.Outcome.{Outcome}
 use Rattle.client.specs.declared.Outcome.the-variants as Outcome
 use Rattle.client.specs.declared.Says.{Says}
 use Rattle.client.specs.declared.Says.the-variants.{Granted, Onward, Over, Refused}
 use Rattle.client.specs.declared.Started.{Started}
 use Rattle.client.specs.Clients.{fresh}
+use Rattle.client.specs.Numbers.{numberOf}
 use Rattle.starting.specs.Starting.{startDiscover}
 use Rattle.asking.specs.Asking.{request}
 use Rattle.telling.specs.Telling.{record′}
@@ -37,21 +37,7 @@ onSays Onward g o v r = o
 onSays (Over x) g o v r = v x
 onSays (Refused x) g o v r = r x
 
--- "Refusal numbers" of document 01.
-abbrev pub number : Refusal → ℕ
-number Refusal.Io = 1
-number Refusal.NoDevice = 7
-number Refusal.SeveralDevices = 8
-number Refusal.NoSuchUid = 9
-number Refusal.AmbiguousUid = 10
-number Refusal.NotAddressable = 11
-number Refusal.DuplicateUid = 12
-number Refusal.BadPrefix = 13
-number Refusal.LongId = 14
-number Refusal.TableFull = 15
-number (Refusal.ShortBuffer n) = 16
-number Refusal.OutOfTurn = 21
-
+-- The number that a run ends with.
 abbrev pub outcome : Outcome → ℕ
 outcome Outcome.Quiet = 0
 outcome (Outcome.Heard h) = 0
@@ -60,7 +46,7 @@ outcome Outcome.Found = 0
 outcome Outcome.Unaddressed = 23
 
 abbrev pub code : Says → ℕ
-code says = onSays says (λ n. 0) 0 outcome number
+code says = onSays says (λ n. 0) 0 outcome numberOf
 
 abbrev pub isEnded : Stage → Bool
 isEnded s = onStage s false false (λ k. true)
@@ -82,7 +68,7 @@ unfoldable pub handed : Started → ℕ → Replay
 handed s k =
     onSays (s .says) (λ n. running (s .client) k) (ended (s .client) k noTable 0)
     (λ o. ended (s .client) k noTable (outcome o))
-    (λ r. ended (s .client) k noTable (number r))
+    (λ r. ended (s .client) k noTable (numberOf r))
 
 -- The next Select, asked for with a buffer that is long enough for any.
 unfoldable pub room : List ℕ
@@ -93,7 +79,7 @@ asked c k = handed (request c room .answer) k
 
 unfoldable pub goes : Says → Client → ℕ → Table → Replay
 goes says c k found =
-    onSays says (λ n. ended c k found 0) (asked c k) (λ o. ended c k found (outcome o)) (λ r. ended c k found (number r))
+    onSays says (λ n. ended c k found 0) (asked c k) (λ o. ended c k found (outcome o)) (λ r. ended c k found (numberOf r))
 
 -- "Line one: 01 and prefix bytes."
 unfoldable pub opens : Replay → List ℕ → Replay

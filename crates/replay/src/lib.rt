@@ -6,7 +6,8 @@ use client::Says;
 use listing::Answer;
 use table::Table;
 ghost use mathlib.Core.Path.{_≡_};
-ghost use Rattle.replay.specs.Replays.{number, outcome, code, isEnded, begun, ended, asked, goes, opens, takes, answer};
+ghost use Rattle.client.specs.Numbers.{numberOf};
+ghost use Rattle.replay.specs.Replays.{outcome, code, isEnded, begun, ended, asked, goes, opens, takes, answer};
 
 // Line one is still to come; a Select is out; the run has ended with an answer.
 pub enum Stage {
@@ -24,7 +25,7 @@ pub struct Replay {
 
 // A refusal's number in document 01.
 pub fn number(r: Refusal) -> u8
-    ensures { λ n. ⌜ n ≡ number r ⌝ }
+    ensures { λ n. ⌜ n ≡ numberOf r ⌝ }
 {
     match r {
         Refusal::Io => 1,

@@ -187,7 +187,7 @@ pub resume-start : (pre : Prefix) → discover pre ≡ resumed (start pre)
 unfolding discover start resumed resume resumes listen farewell
 resume-start pre = sym (bind-assoc (ask pre) _ _)
 
-run-later : {A : Type 0} (wire : Wire) (k : ℕ) (w : Walk A) → k ≤ (run wire k w) .1
+pub run-later : {A : Type 0} (wire : Wire) (k : ℕ) (w : Walk A) → k ≤ (run wire k w) .1
 unfolding run
 run-later wire k (return a) = omega arith
 run-later wire k (stop c) = omega arith

@@ -105,6 +105,9 @@ unhex-read (h ∷ l ∷ text) id e = go (λ bs. unhex-read text bs) (decLt (digi
     go ih (yes a) (no b) o f = absurd (Option·none-ne-some id (sym (unhex-bad-low h l text (omega arith)) ∙ e))
     go ih (no a) b o f = absurd (Option·none-ne-some id (sym (unhex-bad-high h l text (omega arith)) ∙ e))
 
+pub unhex-bytes : (text bytes : List ℕ) → unhex text ≡ some bytes → Bytes bytes
+unhex-bytes text bytes e = unhex-read text bytes e .bytes
+
 module _ (text id : List ℕ) (parsed : parseUid text ≡ some id) where
   unhexed : (length text ≤ 32) × (unhex text ≡ some id)
   unfolding parseUid
