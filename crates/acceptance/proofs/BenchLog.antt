@@ -1,0 +1,16 @@
+-- Document 01, "The bench log program": in whatever pieces the input is read, what is written is document 01's output of the whole input.
+-- Assumes nothing.
+use Prim.Native.Nat.{ℕ}
+use mathlib.Core.List.{List}
+use mathlib.Core.Path.{_≡_}
+use lib.ListN.{length}
+use Rattle.paper.specs.Log.{output}
+use Rattle.listing.specs.Listing.{text}
+use Rattle.replay.specs.Replays.{answer}
+use Rattle.bench.specs.Machine.{begun, lastLine}
+use Rattle.bench.specs.Pieces.{pieces, concat}
+use Rattle.outputs.proofs.Output as Output
+
+pub writes : (ps : List (List ℕ)) (buf : List ℕ) → length buf ≡ 4096
+    → text (answer (lastLine (pieces (record { log = begun; bytes = buf }) ps) .log .replay)) ≡ output (concat ps)
+writes = Output.log-output
