@@ -204,6 +204,12 @@ def logs():
     yield "prefix_of_5000_bytes", b"01" + b"00" * 5000 + b"\n"
     yield "prefix_of_17_bytes_with_a_bad_digit", b"01" + b"00" * 17 + b"g0\n"
     yield "prefix_of_17_bytes_and_a_half", b"01" + b"00" * 17 + b"0\n"
+    yield "prefix_of_5000_bytes_without_lf", b"01" + b"00" * 5000
+    yield "prefix_of_5000_bytes_with_a_bad_digit", b"01" + b"00" * 5000 + b"g0\n"
+    yield "prefix_of_5000_bytes_and_a_half", b"01" + b"00" * 5000 + b"0"
+    yield "first_line_02_of_5000_bytes", b"02" + b"00" * 5000 + b"\n"
+    yield "prefix_in_upper_case", b"01AB\n\n\n"
+    yield "the_last_record_missing", found[:-1]
     yield "sixty_four_ids", log(b"", pods(*many(64, 16)))
     yield "sixty_five_ids", log(b"", pods(*many(65, 16)))
     yield "garble_down_to_128_bits", log(b"", always(b"\x00"))
@@ -232,6 +238,7 @@ def logs():
     yield "record_of_4097_bytes", b"01\n" + b"00" * 4097 + b"\n\n\n"
     yield "record_of_4096_bytes_in_lines", b"01\n" + (b"00" * 64 + b"\n") * 64 + b"\n\n"
     yield "record_of_4097_bytes_in_lines", b"01\n" + (b"00" * 64 + b"\n") * 64 + b"00\n\n\n"
+    yield "record_of_4097_bytes_without_lf", b"01\n" + b"00" * 4097
     yield "record_over_and_odd", b"01\n" + b"00" * 4097 + b"0\n\n"
     yield "lines_after_the_end", b"01\n\n\nzz\n01\nnothing of this is read\n"
 
@@ -239,12 +246,12 @@ def logs():
 def long_log():
     """A log of over 31,000 Selects: 64 ids that part in their first six bits, each made to fail its confirmation down to its last bit."""
     idents = [bytes([i]) + bytes(15) for i in range(64)]
-    asked = set()
+    spelt, asked = [(bits_of(i), reply(i)) for i in idents], set()
 
     def wire(k, bits):
-        here_ = [i for i in idents if bits_of(i)[:len(bits)] == bits]
+        here_ = [answer for own, answer in spelt if own[:len(bits)] == bits]
         if len(here_) == 1:
-            return [reply(here_[0])]
+            return here_
         if not here_ and tuple(bits) in asked:
             return []
         asked.add(tuple(bits))

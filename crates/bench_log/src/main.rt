@@ -1,6 +1,7 @@
 // The bench log: standard input to standard output.
 ghost use Rattle.bench.specs.Machine.{Logged, begun};
 ghost use Rattle.bench.specs.Pieces.{Reached};
+ghost use Rattle.bench_log.specs.Reports.{Reports};
 use bench::Log;
 use libc::STDIN_FILENO;
 use libc::STDOUT_FILENO;
@@ -45,12 +46,19 @@ fn pump_all(page: &mut [u8], buf: &mut [u8]) -> Log
     log
 }
 
+// The output of all that was read, at the front of a buffer.
+fn report(page: &mut [u8], buf: &mut [u8; 4096], out: &mut [u8; 2121]) -> usize
+    ensures { λ r. ⌜ Reports (now (out .entry)) r (now (out .exit)) ⌝ }
+{
+    let log = pump_all(page, buf);
+    let answer = log.finish(buf);
+    listing::show(answer, out)
+}
+
 fn main() {
     let mut page = io::large_buffer();
     let mut buf = io::buffer();
-    let log = pump_all(&mut page, &mut buf);
-    let answer = log.finish(&mut buf);
     let mut out = [0u8; 2121];
-    let n = listing::show(answer, &mut out);
+    let n = report(&mut page, &mut buf, &mut out);
     io::write_all(STDOUT_FILENO, &out[..n]);
 }

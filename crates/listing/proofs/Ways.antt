@@ -22,7 +22,7 @@ use Rattle.table.specs.declared.Entry.{Entry}
 use Rattle.table.specs.declared.Table.{Table}
 use Rattle.table.specs.Rows.{row, rows}
 use Rattle.listing.specs.declared.Answer.{Answer}
-use Rattle.listing.specs.Listing.{used, inRow, idsOf, line, Placed, placed, text}
+use Rattle.listing.specs.Listing.{used, inRow, firstIds, line, Placed, placed, text}
 
 pub line-length : (bytes : List ℕ) → length (line bytes) ≡ 2 * length bytes + 1
 line-length bytes = omega (arith, length-append (hexText bytes) (10 ∷ []), hexText-length bytes)
@@ -124,8 +124,8 @@ rows-more (suc n) t i = ap (λ (l : List Entry). row t i ∷ l) (rows-more n t (
     here : i + 1 + n ≡ i + suc n
     here = omega arith
 
-ids-more : (t : Table) (i : ℕ) → idsOf t (i + 1) ≡ idsOf t i ++ (inRow (row t i) ∷ [])
-unfolding idsOf
+ids-more : (t : Table) (i : ℕ) → firstIds t (i + 1) ≡ firstIds t i ++ (inRow (row t i) ∷ [])
+unfolding firstIds
 ids-more t i =
     rw (add-one i)
     (ap (map inRow) (rows-more i t 0 ∙ ap (λ (k : ℕ). rows t 0 i ++ (row t k ∷ [])) here) ∙ map-append inRow (rows t 0 i) (row t i ∷ []))
@@ -138,26 +138,26 @@ unfolding idLines
 lines-more [] x = refl
 lines-more (y ∷ ys) x = ap (λ (l : List ℕ). hexText y ++ 10 ∷ l) (lines-more ys x) ∙ sym (append-assoc (hexText y) (10 ∷ idLines ys) (line x))
 
-pub none-yet : (t : Table) (out : List ℕ) → record { len = 0; bytes = out } ≡ placed (idLines (idsOf t 0)) out
-unfolding idsOf rows idLines
+pub none-yet : (t : Table) (out : List ℕ) → record { len = 0; bytes = out } ≡ placed (idLines (firstIds t 0)) out
+unfolding firstIds rows idLines
 none-yet t out = refl
 
-pub one-more : (t : Table) (x : Entry) (i at k : ℕ) (out₀ out part : List ℕ) → record { len = at; bytes = out } ≡ placed (idLines (idsOf t i)) out₀ → x ≡ row t i
+pub one-more : (t : Table) (x : Entry) (i at k : ℕ) (out₀ out part : List ℕ) → record { len = at; bytes = out } ≡ placed (idLines (firstIds t i)) out₀ → x ≡ row t i
     → record { len = k; bytes = part } ≡ placed (line (idOf (x .id))) (take (length out - at) (drop at out))
-    → record { len = at + k; bytes = putMid at (length out - at) out part } ≡ placed (idLines (idsOf t (i + 1))) out₀
+    → record { len = at + k; bytes = putMid at (length out - at) out part } ≡ placed (idLines (firstIds t (i + 1))) out₀
 one-more t x i at k out₀ out part e ex p =
-    then-placed (idLines (idsOf t i)) (line (idOf (x .id))) out₀ out part at k e p
+    then-placed (idLines (firstIds t i)) (line (idOf (x .id))) out₀ out part at k e p
     ∙ ap (λ (l : List ℕ). placed l out₀)
-    (ap (λ (y : Entry). idLines (idsOf t i) ++ line (inRow y)) ex ∙ sym (lines-more (idsOf t i) (inRow (row t i))) ∙ ap idLines (sym (ids-more t i)))
+    (ap (λ (y : Entry). idLines (firstIds t i) ++ line (inRow y)) ex ∙ sym (lines-more (firstIds t i) (inRow (row t i))) ∙ ap idLines (sym (ids-more t i)))
 
-pub all-wrote : (t : Table) (i n at : ℕ) (out₀ out : List ℕ) → i ≤ n → n ≤ i → record { len = at; bytes = out } ≡ placed (idLines (idsOf t i)) out₀
-    → record { len = at; bytes = out } ≡ placed (idLines (idsOf t n)) out₀
+pub all-wrote : (t : Table) (i n at : ℕ) (out₀ out : List ℕ) → i ≤ n → n ≤ i → record { len = at; bytes = out } ≡ placed (idLines (firstIds t i)) out₀
+    → record { len = at; bytes = out } ≡ placed (idLines (firstIds t n)) out₀
 all-wrote t i n at out₀ out h g e = let s : i ≡ n = omega arith in rw s at e
 
-pub text-wrote : (a : Answer) (n at k : ℕ) (out₀ out part : List ℕ) → n ≡ used (a .found) → record { len = at; bytes = out } ≡ placed (idLines (idsOf (a .found) n)) out₀
+pub text-wrote : (a : Answer) (n at k : ℕ) (out₀ out part : List ℕ) → n ≡ used (a .found) → record { len = at; bytes = out } ≡ placed (idLines (firstIds (a .found) n)) out₀
     → record { len = k; bytes = part } ≡ placed (lastLine (a .code) n (a .selects)) (take (length out - at) (drop at out))
     → record { len = at + k; bytes = putMid at (length out - at) out part } ≡ placed (text a) out₀
 unfolding text
 text-wrote a n at k out₀ out part en e p =
-    then-placed (idLines (idsOf (a .found) n)) (lastLine (a .code) n (a .selects)) out₀ out part at k e p
-    ∙ ap (λ (m : ℕ). placed (idLines (idsOf (a .found) m) ++ lastLine (a .code) m (a .selects)) out₀) en
+    then-placed (idLines (firstIds (a .found) n)) (lastLine (a .code) n (a .selects)) out₀ out part at k e p
+    ∙ ap (λ (m : ℕ). placed (idLines (firstIds (a .found) m) ++ lastLine (a .code) m (a .selects)) out₀) en

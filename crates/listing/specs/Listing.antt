@@ -22,8 +22,8 @@ abbrev pub inRow : Entry → Paper.Id
 inRow x = idOf (x .id)
 
 -- The ids of the first n rows.
-unfoldable pub idsOf : Table → ℕ → List Paper.Id
-idsOf t n = map inRow (rows t 0 n)
+unfoldable pub firstIds : Table → ℕ → List Paper.Id
+firstIds t n = map inRow (rows t 0 n)
 
 abbrev pub line : List ℕ → List ℕ
 line bytes = hexText bytes ++ (10 ∷ [])
@@ -37,4 +37,4 @@ abbrev pub placed : List ℕ → List ℕ → Placed
 placed text buffer = record { len = length text; bytes = text ++ drop (length text) buffer }
 
 unfoldable pub text : Answer → List ℕ
-text a = idLines (idsOf (a .found) (used (a .found))) ++ lastLine (a .code) (used (a .found)) (a .selects)
+text a = idLines (firstIds (a .found) (used (a .found))) ++ lastLine (a .code) (used (a .found)) (a .selects)

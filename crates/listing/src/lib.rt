@@ -7,7 +7,7 @@ ghost use Prim.Native.Nat.{_+_, _*_, _≤_, _<_};
 ghost use lib.ListN.{length};
 ghost use Rattle.paper.specs.Log.{idLines, lastLine};
 ghost use Rattle.ids.specs.Ids.{idOf};
-ghost use Rattle.listing.specs.Listing.{used, idsOf, line, placed, text};
+ghost use Rattle.listing.specs.Listing.{used, firstIds, line, placed, text};
 
 // The answer's number, the Selects handed out, and the ids found.
 pub struct Answer {
@@ -44,7 +44,7 @@ fn put_id(id: Id, out: &mut [u8]) -> usize
 fn put_ids(found: Table, n: usize, out: &mut [u8]) -> usize
     requires { ⌜ n ≤ 64 ⌝ }
     requires { ⌜ 33 * n ≤ length (now out) ⌝ }
-    ensures { λ r. ⌜ record { len = r; bytes = now (out .exit) } ≡ placed (idLines (idsOf found n)) (now (out .entry)) ⌝ }
+    ensures { λ r. ⌜ record { len = r; bytes = now (out .exit) } ≡ placed (idLines (firstIds found n)) (now (out .entry)) ⌝ }
     ensures { λ r. ⌜ r ≤ 33 * n ⌝ }
 {
     let mut at = 0;
@@ -83,7 +83,6 @@ fn used(found: Table) -> usize
 fn put_all(answer: Answer, out: &mut [u8]) -> usize
     requires { ⌜ 2121 ≤ length (now out) ⌝ }
     ensures { λ r. ⌜ record { len = r; bytes = now (out .exit) } ≡ placed (text answer) (now (out .entry)) ⌝ }
-    ensures { λ r. ⌜ r ≤ 2121 ⌝ }
 {
     let found = answer.found;
     let n = used(found);
@@ -95,7 +94,6 @@ fn put_all(answer: Answer, out: &mut [u8]) -> usize
 // The whole output at the front of the buffer, which is long enough for any.
 pub fn show(answer: Answer, out: &mut [u8; 2121]) -> usize
     ensures { λ r. ⌜ record { len = r; bytes = now (out .exit) } ≡ placed (text answer) (now (out .entry)) ⌝ }
-    ensures { λ r. ⌜ r ≤ 2121 ⌝ }
 {
     put_all(answer, out)
 }

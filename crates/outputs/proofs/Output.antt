@@ -41,7 +41,7 @@ use Rattle.records.proofs.Readable.{ids-back}
 use Rattle.records.proofs.Starts.{discover-started}
 use Rattle.records.proofs.Tables.{table-count}
 use Rattle.listing.specs.declared.Answer.{Answer}
-use Rattle.listing.specs.Listing.{used, inRow, idsOf, text}
+use Rattle.listing.specs.Listing.{used, inRow, firstIds, text}
 use Rattle.replay.specs.declared.Replay.{Replay}
 use Rattle.replay.specs.Replays as Replays
 use Rattle.replay.specs.Replays.{begun, stops, goes, opens, answer}
@@ -68,18 +68,18 @@ all-used : (ids : List Id) → length ids ≤ 64 → used (tableOf ids) ≡ leng
 unfolding used
 all-used ids h = ap (λ (n : ℕ). cond (ltb n 64) n 64) (table-count ids) ∙ used-all (length ids) h
 
-all-listed : (ids : List Id) → length ids ≤ 64 → All Short ids → idsOf (tableOf ids) (length ids) ≡ ids
-unfolding idsOf Numbers.idsOf
+all-listed : (ids : List Id) → length ids ≤ 64 → All Short ids → firstIds (tableOf ids) (length ids) ≡ ids
+unfolding firstIds Numbers.idsOf
 all-listed ids h s = ap (λ (n : ℕ). map inRow (rows (tableOf ids) 0 n)) (sym (table-count ids)) ∙ ids-back ids h s
 
 done-text : (ids : List Id) (k : ℕ) → length ids ≤ 64 → All Short ids → text (of 0 k (tableOf ids)) ≡ shown (done ids) k
 unfolding text shown
 done-text ids k h s =
-    ap (λ (n : ℕ). idLines (idsOf (tableOf ids) n) ++ lastLine 0 n k) (all-used ids h)
+    ap (λ (n : ℕ). idLines (firstIds (tableOf ids) n) ++ lastLine 0 n k) (all-used ids h)
     ∙ ap (λ (l : List Id). idLines l ++ lastLine 0 (length ids) k) (all-listed ids h s)
 
 stopped-text : (n k : ℕ) → text (of n k noTable) ≡ shown (stopped n) k
-unfolding text shown used idsOf rows idLines noTable
+unfolding text shown used firstIds rows idLines noTable
 stopped-text n k = refl
 
 end-text : (e : Ended (List Id)) (k : ℕ) → FitsNext (Walking.ended e) → text (of (numbered e) k (endTable e)) ≡ shown e k

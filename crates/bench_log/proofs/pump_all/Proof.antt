@@ -1,3 +1,5 @@
+-- `bench_log::pump_all` meets its contract.
+-- Assumes nothing.
 use borrow.Author.Needs.{needs}
 use mathlib.Core.Path.{_≡_}
 use lib.ListN.{length}
@@ -6,10 +8,6 @@ use Rattle.bench.specs.Pieces.{Reached}
 use Rattle.bench.proofs.Reach.{at-begin, pumped}
 use Rattle.bench_log.proofs.pump_all.Statement.{statement}
 use Rattle.bench_log.proofs.pump_all.Tie as tie
-use Rattle.bench_log.proofs.pump_all.Reads as reads
-use Rattle.bench_log.proofs.pump_all.Lts as lts
-use Rattle.bench.proofs.begun.Reads as begun-reads
-use Rattle.bench_log.proofs.pump.Reads as pump-reads
 
 abbrev Inv-loop : tie.InvT-loop
 Inv-loop page₀ buf₀ log₀ turns₀ page buf log turns = (length page ≡ length page₀) × (length buf ≡ length buf₀) × Reached (record { log = begun; bytes = buf₀ }) (record { log = log; bytes = buf })
@@ -17,51 +15,39 @@ Inv-loop page₀ buf₀ log₀ turns₀ page buf log turns = (length page ≡ le
 abbrev μ-loop : tie.MeasureT-loop
 μ-loop page₀ buf₀ log₀ turns₀ page buf log turns = turns
 
--- src/main.rt:34:9
 begun-requires : tie.Need-begun-requires Inv-loop μ-loop
 begun-requires c κs = search needs
 
--- src/main.rt:36:5
 loop-holds : tie.Need-loop-holds Inv-loop μ-loop
 loop-holds c = (search needs, search needs, search (at-begin, needs))
 
--- src/main.rt:37:13
 pump-requires : tie.Need-pump-requires Inv-loop μ-loop
 pump-requires c κs = search needs
 
--- src/main.rt:41:13
 same-length : tie.Need-same-length Inv-loop μ-loop
 same-length c = search needs
 
--- src/main.rt:41:13
 same-length-2 : tie.Need-same-length-2 Inv-loop μ-loop
 same-length-2 c = search needs
 
--- src/main.rt:41:13
 returns : tie.Need-returns Inv-loop μ-loop
 returns c = search (pumped, needs)
 
--- src/main.rt:43:9
 sub-turns : tie.Need-sub-turns Inv-loop μ-loop
 sub-turns c = search needs
 
--- src/main.rt:36:5
 loop-less : tie.Need-loop-less Inv-loop μ-loop
 loop-less c = search needs
 
--- src/main.rt:36:5
 loop-again : tie.Need-loop-again Inv-loop μ-loop
 loop-again c = (search needs, search needs, search (pumped, needs))
 
--- src/main.rt:31:1
 same-length-3 : tie.Need-same-length-3 Inv-loop μ-loop
 same-length-3 c = search needs
 
--- src/main.rt:31:1
 same-length-4 : tie.Need-same-length-4 Inv-loop μ-loop
 same-length-4 c = search needs
 
--- src/main.rt:31:1
 returns-2 : tie.Need-returns-2 Inv-loop μ-loop
 returns-2 c = search needs
 

@@ -33,7 +33,7 @@ same-length : tie.Need-same-length
 same-length c = search needs
 
 returns : tie.Need-returns
-returns c = (search (text-wrote, needs), search needs)
+returns c = search (text-wrote, needs)
 
 pub put-all-spec : {M : Type 1} → statement M
 put-all-spec =

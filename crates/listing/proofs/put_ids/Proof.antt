@@ -5,13 +5,13 @@ use mathlib.Core.Path.{_≡_}
 use Prim.Native.Nat.{_≤_, _-_, _*_}
 use lib.ListN.{length}
 use Rattle.paper.specs.Log.{idLines}
-use Rattle.listing.specs.Listing.{idsOf, placed}
+use Rattle.listing.specs.Listing.{firstIds, placed}
 use Rattle.listing.proofs.Ways.{none-yet, one-more, all-wrote}
 use Rattle.listing.proofs.put_ids.Statement.{statement}
 use Rattle.listing.proofs.put_ids.Tie as tie
 
 abbrev Inv-loop : tie.InvT-loop
-Inv-loop found n out₀ at₀ i₀ out at i = (i ≤ n) × (at ≤ 33 * i) × (length out ≡ length out₀) × (record { len = at; bytes = out } ≡ placed (idLines (idsOf found i)) out₀)
+Inv-loop found n out₀ at₀ i₀ out at i = (i ≤ n) × (at ≤ 33 * i) × (length out ≡ length out₀) × (record { len = at; bytes = out } ≡ placed (idLines (firstIds found i)) out₀)
 
 abbrev μ-loop : tie.MeasureT-loop
 μ-loop found n out₀ at₀ i₀ out at i = n - i

@@ -1,0 +1,13 @@
+-- What stands in the program's output buffer.
+-- Assumes nothing.
+use Prim.Native.Nat.{ℕ}
+use mathlib.Core.List.{List}
+use mathlib.Core.Path.{_≡_}
+use Rattle.paper.specs.Log.{output}
+use Rattle.listing.specs.Listing.{placed}
+use Rattle.bench.specs.Pieces.{concat}
+
+-- Some pieces were read, and document 01's output of them, one after the other, stands at the front of the buffer.
+pub record Reports (before : List ℕ) (n : ℕ) (after : List ℕ) : Type 0 where
+  pub fed : List (List ℕ)
+  pub same : record { len = n; bytes = after } ≡ placed (output (concat fed)) before
