@@ -16,8 +16,9 @@ use Rattle.replay.specs.declared.Stage.{Stage}
 use Rattle.replay.specs.declared.Stage.the-variants.{First, Running, Ended}
 use Rattle.replay.specs.declared.Replay.{Replay}
 use Rattle.replay.specs.Replays.{isEnded}
-use Rattle.bench.specs.declared.Log.{Log}
-use Rattle.bench.specs.Machine.{Logged, byte, piece, lined, met, more, joins, logOf}
+use Rattle.events.specs.declared.Log.{Log}
+use Rattle.events.specs.Events.{lined, met, logOf}
+use Rattle.bench.specs.Machine.{Logged, byte, piece, more, joins}
 
 abbrev pub at : Reader → Replay → List ℕ → Logged
 at r v buf = record { log = logOf r v; bytes = buf }

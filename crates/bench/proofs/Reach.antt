@@ -3,7 +3,7 @@
 use mathlib.Core.List.{List, [], _∷_, _++_}
 use mathlib.Core.Path.{_≡_, refl, sym, _∙_, ap}
 use Prim.Native.Nat.{ℕ}
-use Rattle.bench.specs.declared.Log.{Log}
+use Rattle.events.specs.declared.Log.{Log}
 use Rattle.bench.specs.Machine.{Logged, piece, begun}
 use Rattle.bench.specs.Pieces.{Reached, pieces}
 

@@ -4,74 +4,18 @@ use Prim.Native.Nat.{ℕ}
 use mathlib.Core.Bool.{Bool, true, false}
 use mathlib.Core.List.{List, [], _∷_}
 use mathlib.Core.Path.{_≡_, sym, _∙_, ap}
-use lib.ListN.{take}
-use Rattle.lines.specs.declared.Event.{Event}
-use Rattle.lines.specs.declared.Event.the-variants.{More, Line, Empty, Bad}
 use Rattle.lines.specs.declared.Reader.{Reader}
-use Rattle.replay.specs.declared.Stage.the-variants.{First, Running, Ended}
 use Rattle.replay.specs.declared.Replay.{Replay}
 use Rattle.replay.specs.Replays as Replays
-use Rattle.replay.specs.Replays.{stops, opens, takes, answer}
+use Rattle.replay.specs.Replays.{answer}
 use Rattle.listing.specs.declared.Answer.{Answer}
-use Rattle.bench.specs.declared.Log.{Log}
-use Rattle.bench.specs.Machine.{idle, inside, logOf, lined, emptied, met, begun, Logged, piece, lastLine}
+use Rattle.events.specs.declared.Log.{Log}
+use Rattle.events.specs.Events.{idle, logOf}
+use Rattle.bench.specs.Machine.{inside, begun, Logged, piece, lastLine}
 
-pub began : (r : Reader) (v : Replay) → r ≡ idle → v ≡ Replays.begun → record { reader = r; replay = v } ≡ begun
+pub began : (w : Log) (r : Reader) (v : Replay) → r ≡ idle → v ≡ Replays.begun → w ≡ logOf r v → w ≡ begun
 unfolding begun
-began r v er ev = rw (er, ev)
-
--- The end of a line.
-module _ (v : Replay) (r : Reader) (buf : List ℕ) (w : Log) where
-  module _ (x : Reader) (line : List ℕ) (u : Replay) (el : line ≡ take (r .len) buf) (ex : x ≡ idle) (ew : w ≡ logOf x u) where
-    pub first-line : v .stage ≡ First → u ≡ opens v line → w ≡ lined v r buf
-    unfolding lined
-    first-line s eu = ew ∙ rw (ex, eu, el, s)
-
-    pub first-empty : v .stage ≡ First → u ≡ opens v line → w ≡ emptied v r buf
-    unfolding emptied
-    first-empty s eu = ew ∙ rw (ex, eu, el, s)
-
-    pub record-taken : v .stage ≡ Running → r .over ≡ false → u ≡ takes v line → w ≡ emptied v r buf
-    unfolding emptied
-    record-taken s o eu = ew ∙ rw (ex, eu, el, s, o)
-
-  module _ (x : Reader) (u : Replay) (ex : x ≡ idle) (eu : u ≡ stops v 22) (ew : w ≡ logOf x u) where
-    pub line-over : v .stage ≡ Running → r .over ≡ true → w ≡ lined v r buf
-    unfolding lined
-    line-over s o = ew ∙ rw (ex, eu, s, o)
-
-    pub record-over : v .stage ≡ Running → r .over ≡ true → w ≡ emptied v r buf
-    unfolding emptied
-    record-over s o = ew ∙ rw (ex, eu, s, o)
-
-    pub met-bad : (e : Event) → e ≡ Bad → w ≡ met v r e buf
-    unfolding met
-    met-bad e q = ew ∙ rw (q, ex, eu)
-
-  module _ (ew : w ≡ logOf r v) where
-    pub line-joined : v .stage ≡ Running → r .over ≡ false → w ≡ lined v r buf
-    unfolding lined
-    line-joined s o = ew ∙ rw (s, o)
-
-    pub ended-line : (k : ℕ) → v .stage ≡ Ended k → w ≡ lined v r buf
-    unfolding lined
-    ended-line k s = ew ∙ rw s
-
-    pub ended-empty : (k : ℕ) → v .stage ≡ Ended k → w ≡ emptied v r buf
-    unfolding emptied
-    ended-empty k s = ew ∙ rw s
-
-    pub met-more : (e : Event) → e ≡ More → w ≡ met v r e buf
-    unfolding met
-    met-more e q = ew ∙ rw q
-
-  pub met-line : (e : Event) → e ≡ Line → w ≡ lined v r buf → w ≡ met v r e buf
-  unfolding met
-  met-line e q ew = ew ∙ rw q
-
-  pub met-empty : (e : Event) → e ≡ Empty → w ≡ emptied v r buf → w ≡ met v r e buf
-  unfolding met
-  met-empty e q ew = ew ∙ rw q
+began w r v er ev ew = ew ∙ rw (er, ev)
 
 module _ (w : Log) (buf : List ℕ) (b : Bool) (e : b ≡ inside (w .reader .place)) where
   pub closed : (x : Log) (buf′ : List ℕ) → b ≡ true → record { log = x; bytes = buf′ } ≡ piece (record { log = w; bytes = buf }) (10 ∷ [])

@@ -3,20 +3,15 @@
 use Prim.Native.Nat.{ℕ}
 use mathlib.Core.Bool.{Bool, true, false, cond}
 use mathlib.Core.List.{List, [], _∷_}
-use lib.ListN.{take}
 use Rattle.lines.specs.declared.Place.{Place}
-use Rattle.lines.specs.declared.Place.the-variants.{Start}
-use Rattle.lines.specs.declared.Reader.{Reader}
 use Rattle.lines.specs.declared.Event.{Event}
 use Rattle.lines.specs.Reading.{Stepped, step, onEvent, onPlace}
 use Rattle.replay.specs.declared.Stage.{Stage}
 use Rattle.replay.specs.declared.Replay.{Replay}
 use Rattle.replay.specs.Replays as Replays
-use Rattle.replay.specs.Replays.{onStage, isEnded, stops, opens, takes}
-use Rattle.bench.specs.declared.Log.{Log}
-
-abbrev pub idle : Reader
-idle = record { place = Start; len = 0; over = false }
+use Rattle.replay.specs.Replays.{onStage, isEnded}
+use Rattle.events.specs.declared.Log.{Log}
+use Rattle.events.specs.Events.{idle, logOf, met}
 
 -- Whether lines are joined to a record.
 abbrev pub joins : Stage → Bool
@@ -25,25 +20,6 @@ joins s = onStage s false true (λ k. false)
 -- Whether a place is within a line.
 abbrev pub inside : Place → Bool
 inside p = onPlace p false true (λ h. true)
-
-abbrev pub logOf : Reader → Replay → Log
-logOf r v = record { reader = r; replay = v }
-
--- The end of line one, or of a line of a record.
-unfoldable pub lined : Replay → Reader → List ℕ → Log
-lined v r buf =
-    onStage (v .stage) (logOf idle (opens v (take (r .len) buf))) (cond (r .over) (logOf idle (stops v 22)) (logOf r v)) (λ k. logOf r v)
-
--- An empty line: as line one, or at the end of a record.
-unfoldable pub emptied : Replay → Reader → List ℕ → Log
-emptied v r buf =
-    onStage (v .stage) (logOf idle (opens v (take (r .len) buf)))
-    (cond (r .over) (logOf idle (stops v 22)) (logOf idle (takes v (take (r .len) buf))))
-    (λ k. logOf r v)
-
--- What the reader met.
-unfoldable pub met : Replay → Reader → Event → List ℕ → Log
-met v r e buf = onEvent e (logOf r v) (lined v r buf) (emptied v r buf) (logOf idle (stops v 22))
 
 -- Whether a piece was read to its end.
 abbrev pub more : Event → Bool

@@ -9,7 +9,7 @@ use Rattle.paper.specs.Log.{output}
 use Rattle.listing.specs.declared.Answer.{Answer}
 use Rattle.listing.specs.Listing.{Placed, placed, text}
 use Rattle.replay.specs.Replays.{answer}
-use Rattle.bench.specs.declared.Log.{Log}
+use Rattle.events.specs.declared.Log.{Log}
 use Rattle.bench.specs.Machine.{Logged, begun, lastLine}
 use Rattle.bench.specs.Pieces.{Reached, concat}
 use Rattle.outputs.proofs.Output.{log-output}

@@ -2,7 +2,7 @@
 ghost use Rattle.bench.specs.Machine.{Logged, begun};
 ghost use Rattle.bench.specs.Pieces.{Reached};
 ghost use Rattle.bench_log.specs.Reports.{Reports};
-use bench::Log;
+use events::Log;
 use libc::STDIN_FILENO;
 use libc::STDOUT_FILENO;
 
@@ -20,7 +20,7 @@ fn pump(log: Log, page: &mut [u8], buf: &mut [u8]) -> Pumped
         return Pumped { more: false, log };
     }
     let n = io::count(got, page);
-    let next = log.feed(&page[..n], buf);
+    let next = bench::feed(log, &page[..n], buf);
     Pumped {
         more: true,
         log: next,
@@ -51,7 +51,7 @@ fn report(page: &mut [u8], buf: &mut [u8; 4096], out: &mut [u8; 2121]) -> usize
     ensures { λ r. ⌜ Reports (now (out .entry)) r (now (out .exit)) ⌝ }
 {
     let log = pump_all(page, buf);
-    let answer = log.finish(buf);
+    let answer = bench::finish(log, buf);
     listing::show(answer, out)
 }
 

@@ -16,8 +16,9 @@ use Rattle.lines.specs.declared.Reader.{Reader}
 use Rattle.lines.specs.Reading.{turn, step, keep}
 use Rattle.replay.specs.declared.Replay.{Replay}
 use Rattle.replay.specs.Replays.{isEnded, stops}
-use Rattle.bench.specs.declared.Log.{Log}
-use Rattle.bench.specs.Machine.{Logged, byte, met, lined, emptied, logOf, idle}
+use Rattle.events.specs.declared.Log.{Log}
+use Rattle.events.specs.Events.{met, lined, emptied, logOf, idle}
+use Rattle.bench.specs.Machine.{Logged, byte}
 
 abbrev pub reader : Place → ℕ → Bool → Reader
 reader p n o = record { place = p; len = n; over = o }

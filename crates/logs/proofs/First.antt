@@ -22,8 +22,8 @@ use Rattle.replay.specs.declared.Stage.the-variants.{First}
 use Rattle.replay.specs.declared.Replay.{Replay}
 use Rattle.replay.specs.Replays.{isEnded, stops, opens, goes}
 use Rattle.table.specs.Rows.{noTable}
-use Rattle.bench.specs.declared.Log.{Log}
-use Rattle.bench.specs.Machine.{lined, emptied, logOf, idle}
+use Rattle.events.specs.declared.Log.{Log}
+use Rattle.events.specs.Events.{lined, emptied, logOf, idle}
 use Rattle.logs.specs.Talks.{talk}
 use Rattle.logs.proofs.Rest.{behind, odd, second, odd-is, unread, odd-unread}
 use Rattle.logs.proofs.Bytes.{reader, at, with′}
@@ -173,7 +173,7 @@ module _ (v : Replay) (before : v .stage ≡ First) where
   lined-is n o buf = rw before
 
   emptied-is : (n : ℕ) (o : Bool) (buf : List ℕ) → emptied v (reader Start n o) buf ≡ logOf idle (opens v (take n buf))
-  unfolding emptied
+  unfolding emptied lined
   emptied-is n o buf = rw before
 
   module _ (b : ℕ) (bs : List ℕ) (ih : Opens v bs) (n : ℕ) (o : Bool) (buf acc : List ℕ) (wide : 17 < length buf) (held : Held acc buf n o) where

@@ -21,8 +21,8 @@ use Rattle.replay.specs.declared.Stage.the-variants.{First, Running, Ended}
 use Rattle.replay.specs.declared.Replay.{Replay}
 use Rattle.telling.specs.Telling.{record′}
 use Rattle.replay.specs.Replays.{isEnded, stops, takes}
-use Rattle.bench.specs.declared.Log.{Log}
-use Rattle.bench.specs.Machine.{lined, emptied, logOf, idle}
+use Rattle.events.specs.declared.Log.{Log}
+use Rattle.events.specs.Events.{lined, emptied, logOf, idle}
 use Rattle.logs.specs.Talks.{talk}
 use Rattle.logs.proofs.Rest.{from, fromEven, fromOdd}
 use Rattle.logs.proofs.Rest as Rest

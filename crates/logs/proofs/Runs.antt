@@ -24,8 +24,9 @@ use Rattle.replay.specs.declared.Stage.the-variants.{First, Running, Ended}
 use Rattle.replay.specs.declared.Replay.{Replay}
 use Rattle.asking.specs.Asking.{request}
 use Rattle.replay.specs.Replays.{isEnded, stops, handed, room, goes}
-use Rattle.bench.specs.declared.Log.{Log}
-use Rattle.bench.specs.Machine.{Logged, byte, piece, lined, emptied, inside, lastLine, idle}
+use Rattle.events.specs.declared.Log.{Log}
+use Rattle.events.specs.Events.{lined, emptied, idle}
+use Rattle.bench.specs.Machine.{Logged, byte, piece, inside, lastLine}
 use Rattle.bench.proofs.Cut.{still}
 use Rattle.logs.specs.Talks.{talk}
 use Rattle.logs.proofs.Bytes.{reader, at}

@@ -1,8 +1,9 @@
 -- The ways through the discovery over a log, from the facts that the code has.
 -- Assumes nothing.
 use Prim.Native.Nat.{ℕ, _+_, _-_, _%_}
+use mathlib.Core.Bool.{Bool, true, false}
 use mathlib.Core.List.{List, [], _∷_}
-use mathlib.Core.Path.{_≡_, refl, _∙_, ap}
+use mathlib.Core.Path.{_≡_, refl, sym, _∙_, ap}
 use native.Mathlib.Omega.{arith}
 use lib.ListN.{length, take, drop, getD, replicate}
 use borrow.Author.Tests.{eq-eqb, ne-eqb}
@@ -12,9 +13,8 @@ use Rattle.table.specs.declared.Table.{Table}
 use Rattle.table.specs.Rows.{noTable}
 use Rattle.client.specs.declared.Client.{Client}
 use Rattle.client.specs.declared.Refusal.{Refusal}
-use Rattle.client.specs.declared.Outcome.{Outcome}
 use Rattle.client.specs.declared.Says.{Says}
-use Rattle.client.specs.declared.Says.the-variants.{Granted, Onward, Over, Refused}
+use Rattle.client.specs.declared.Says.the-variants.{Refused}
 use Rattle.client.specs.declared.Started.{Started}
 use Rattle.client.specs.declared.Told.{Told}
 use Rattle.client.specs.Clients.{fresh}
@@ -24,7 +24,7 @@ use Rattle.asking.specs.Asking.{Asking, request}
 use Rattle.telling.specs.Telling.{record′}
 use Rattle.replay.specs.declared.Stage.the-variants.{First, Running, Ended}
 use Rattle.replay.specs.declared.Replay.{Replay}
-use Rattle.replay.specs.Replays.{code, begun, ended, stops, handed, room, asked, goes, opens, takes, answer}
+use Rattle.replay.specs.Replays.{code, isGranted, isOnward, begun, ended, stops, handed, room, asked, goes, opens, takes, answer}
 
 pub began : (c : Client) (t : Table) → c ≡ fresh → t ≡ noTable → record { client = c; stage = First; selects = 0; found = t } ≡ begun
 unfolding begun
@@ -53,41 +53,23 @@ module _ (c : Client) (k : ℕ) (s : Started) (bytes : List ℕ) (t : Table) (e 
   unfolding room
   same = ap (λ (a : Asking). handed (a .answer) k) e
 
-  pub handed-out : (n j : ℕ) → s .says ≡ Granted n → j ≡ (k + 1) % 65536 → record { client = s .client; stage = Running; selects = j; found = t } ≡ asked c k
+  pub handed-out : (b : Bool) (j : ℕ) → b ≡ isGranted (s .says) → b ≡ true → j ≡ (k + 1) % 65536 → record { client = s .client; stage = Running; selects = j; found = t } ≡ asked c k
   unfolding handed
-  handed-out n j q ej = rw (ej, et) (rw q at same)
+  handed-out b j eb q ej = rw (ej, et) (rw (sym eb ∙ q) at same)
 
-  pub goes-nowhere : (r : Replay) → s .says ≡ Onward → r ≡ ended (s .client) k t 0 → r ≡ asked c k
+  pub asks-ended : (b : Bool) (m : ℕ) (r : Replay) → b ≡ isGranted (s .says) → b ≡ false → m ≡ code (s .says) → r ≡ ended (s .client) k t m → r ≡ asked c k
   unfolding handed
-  goes-nowhere r q er = er ∙ rw et (rw q at same)
-
-  module _ (m : ℕ) (em : m ≡ code (s .says)) (r : Replay) (er : r ≡ ended (s .client) k t m) where
-    pub asks-over : (o : Outcome) → s .says ≡ Over o → r ≡ asked c k
-    unfolding handed
-    asks-over o q = er ∙ rw (et, em, q) (rw q at same)
-
-    pub asks-refused : (x : Refusal) → s .says ≡ Refused x → r ≡ asked c k
-    unfolding handed
-    asks-refused x q = er ∙ rw (et, em, q) (rw q at same)
+  asks-ended b m r eb q em er = er ∙ rw (et, em) (rw (sym eb ∙ q) at same)
 
 -- After a call.
-module _ (says : Says) (c : Client) (k : ℕ) (t : Table) (r : Replay) where
-  pub after-grant : (n : ℕ) → says ≡ Granted n → r ≡ ended c k t 0 → r ≡ goes says c k t
+module _ (says : Says) (c : Client) (k : ℕ) (t : Table) (r : Replay) (b : Bool) (eb : b ≡ isOnward says) where
+  pub after-onward : b ≡ true → r ≡ asked c k → r ≡ goes says c k t
   unfolding goes
-  after-grant n q e = e ∙ rw q
+  after-onward q e = e ∙ rw (sym eb ∙ q)
 
-  pub after-onward : says ≡ Onward → r ≡ asked c k → r ≡ goes says c k t
+  pub after-end : (m : ℕ) → b ≡ false → m ≡ code says → r ≡ ended c k t m → r ≡ goes says c k t
   unfolding goes
-  after-onward q e = e ∙ rw q
-
-  module _ (m : ℕ) (em : m ≡ code says) (e : r ≡ ended c k t m) where
-    pub after-end : (o : Outcome) → says ≡ Over o → r ≡ goes says c k t
-    unfolding goes
-    after-end o q = e ∙ rw (em, q)
-
-    pub after-refusal : (x : Refusal) → says ≡ Refused x → r ≡ goes says c k t
-    unfolding goes
-    after-refusal x q = e ∙ rw (em, q)
+  after-end m q em e = e ∙ rw (sym eb ∙ q, em)
 
 -- Line one.
 module _ (v r : Replay) where

@@ -1,7 +1,7 @@
 -- What line one, a record and the end of the input make of a discovery over a log.
 -- Assumes nothing.
 use Prim.Native.Nat.{ℕ, _+_, _%_}
-use mathlib.Core.Bool.{Bool, true, false}
+use mathlib.Core.Bool.{Bool, true, false, cond}
 use mathlib.Core.List.{List}
 use lib.ListN.{replicate}
 use Rattle.paper.specs.Hearing.{onSome}
@@ -63,12 +63,15 @@ stops v n = ended (v .client) (v .selects) (v .found) n
 abbrev pub running : Client → ℕ → Replay
 running c k = record { client = c; stage = Running; selects = (k + 1) % 65536; found = noTable }
 
+abbrev pub isGranted : Says → Bool
+isGranted says = onSays says (λ n. true) false (λ o. false) (λ r. false)
+
+abbrev pub isOnward : Says → Bool
+isOnward says = onSays says (λ n. false) true (λ o. false) (λ r. false)
+
 -- One Select more is out, if it was granted.
 unfoldable pub handed : Started → ℕ → Replay
-handed s k =
-    onSays (s .says) (λ n. running (s .client) k) (ended (s .client) k noTable 0)
-    (λ o. ended (s .client) k noTable (outcome o))
-    (λ r. ended (s .client) k noTable (numberOf r))
+handed s k = cond (isGranted (s .says)) (running (s .client) k) (ended (s .client) k noTable (code (s .says)))
 
 -- The next Select, asked for with a buffer that is long enough for any.
 unfoldable pub room : List ℕ
@@ -78,8 +81,7 @@ abbrev pub asked : Client → ℕ → Replay
 asked c k = handed (request c room .answer) k
 
 unfoldable pub goes : Says → Client → ℕ → Table → Replay
-goes says c k found =
-    onSays says (λ n. ended c k found 0) (asked c k) (λ o. ended c k found (outcome o)) (λ r. ended c k found (numberOf r))
+goes says c k found = cond (isOnward says) (asked c k) (ended c k found (code says))
 
 -- "Line one: 01 and prefix bytes."
 unfoldable pub opens : Replay → List ℕ → Replay

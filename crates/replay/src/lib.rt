@@ -7,7 +7,7 @@ use listing::Answer;
 use table::Table;
 ghost use mathlib.Core.Path.{_≡_};
 ghost use Rattle.client.specs.Numbers.{numberOf};
-ghost use Rattle.replay.specs.Replays.{outcome, code, isEnded, begun, ended, asked, goes, opens, takes, answer};
+ghost use Rattle.replay.specs.Replays.{outcome, code, isEnded, isGranted, isOnward, begun, ended, asked, goes, opens, takes, answer};
 
 // Line one is still to come; a Select is out; the run has ended with an answer.
 pub enum Stage {
@@ -101,6 +101,28 @@ pub fn ended(client: Client, selects: u16, found: Table, code: u8) -> Replay
     }
 }
 
+fn is_granted(says: Says) -> bool
+    ensures { λ r. ⌜ r ≡ isGranted says ⌝ }
+{
+    match says {
+        Says::Granted(_) => true,
+        Says::Onward => false,
+        Says::Over(_) => false,
+        Says::Refused(_) => false,
+    }
+}
+
+fn is_onward(says: Says) -> bool
+    ensures { λ r. ⌜ r ≡ isOnward says ⌝ }
+{
+    match says {
+        Says::Granted(_) => false,
+        Says::Onward => true,
+        Says::Over(_) => false,
+        Says::Refused(_) => false,
+    }
+}
+
 // The next Select is asked for, and counted if it is handed out.
 fn asked(client: Client, selects: u16) -> Replay
     ensures { λ r. ⌜ r ≡ asked client selects ⌝ }
@@ -109,32 +131,26 @@ fn asked(client: Client, selects: u16) -> Replay
     let s = asking::request(client, &mut room);
     let says = s.says;
     let next = s.client;
-    match says {
-        Says::Granted(_) => {
-            let found = Table::none();
-            Replay {
-                client: next,
-                stage: Stage::Running,
-                selects: std::num::wrapping_add_u16(selects, 1),
-                found,
-            }
-        }
-        Says::Onward => ended(next, selects, Table::none(), 0),
-        Says::Over(_) => ended(next, selects, Table::none(), code(says)),
-        Says::Refused(_) => ended(next, selects, Table::none(), code(says)),
+    let found = Table::none();
+    if is_granted(says) {
+        return Replay {
+            client: next,
+            stage: Stage::Running,
+            selects: std::num::wrapping_add_u16(selects, 1),
+            found,
+        };
     }
+    ended(next, selects, found, code(says))
 }
 
 // After a call that goes on, the next Select; after any other, the end.
 fn goes(says: Says, client: Client, selects: u16, found: Table) -> Replay
     ensures { λ r. ⌜ r ≡ goes says client selects found ⌝ }
 {
-    match says {
-        Says::Granted(_) => ended(client, selects, found, 0),
-        Says::Onward => asked(client, selects),
-        Says::Over(_) => ended(client, selects, found, code(says)),
-        Says::Refused(_) => ended(client, selects, found, code(says)),
+    if is_onward(says) {
+        return asked(client, selects);
     }
+    ended(client, selects, found, code(says))
 }
 
 impl Replay {

@@ -11,8 +11,11 @@ idle-requires c κs = search needs
 begun-requires : tie.Need-begun-requires
 begun-requires c κs = search needs
 
+log-of-requires : tie.Need-log-of-requires
+log-of-requires c κs = search needs
+
 returns : tie.Need-returns
 returns c = search (began, needs)
 
 pub begun-spec : {M : Type 1} → statement M
-begun-spec = tie.close (tie.spec idle-requires begun-requires returns)
+begun-spec = tie.close (tie.spec idle-requires begun-requires log-of-requires returns)

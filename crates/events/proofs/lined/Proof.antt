@@ -1,9 +1,9 @@
--- `bench::emptied` meets its contract.
+-- `events::lined` meets its contract.
 -- Assumes nothing.
-use Rattle.bench.proofs.Ways.{first-empty, record-over, record-taken, ended-empty}
+use Rattle.events.proofs.Ways.{first-line, line-over, line-joined, ended-line}
 use borrow.Author.Needs.{needs}
-use Rattle.bench.proofs.emptied.Statement.{statement}
-use Rattle.bench.proofs.emptied.Tie as tie
+use Rattle.events.proofs.lined.Statement.{statement}
+use Rattle.events.proofs.lined.Tie as tie
 
 enum-told : tie.Need-enum-told
 enum-told c = search needs
@@ -33,16 +33,7 @@ log-of-requires-2 : tie.Need-log-of-requires-2
 log-of-requires-2 c κs = search needs
 
 returns : tie.Need-returns
-returns c = search (record-over, needs)
-
-idle-requires-3 : tie.Need-idle-requires-3
-idle-requires-3 c κs = search needs
-
-front-requires-2 : tie.Need-front-requires-2
-front-requires-2 c κs = search needs
-
-takes-requires : tie.Need-takes-requires
-takes-requires c κs = search needs
+returns c = search (line-over, needs)
 
 log-of-requires-3 : tie.Need-log-of-requires-3
 log-of-requires-3 c κs = search needs
@@ -54,16 +45,16 @@ log-of-requires-4 : tie.Need-log-of-requires-4
 log-of-requires-4 c κs = search needs
 
 returns-2 : tie.Need-returns-2
-returns-2 c = search (first-empty, needs)
+returns-2 c = search (first-line, needs)
 
 returns-3 : tie.Need-returns-3
-returns-3 c = search (record-taken, needs)
+returns-3 c = search (line-joined, needs)
 
 returns-4 : tie.Need-returns-4
-returns-4 c = search (ended-empty, needs)
+returns-4 c = search (ended-line, needs)
 
-pub emptied-spec : {M : Type 1} → statement M
-emptied-spec =
+pub lined-spec : {M : Type 1} → statement M
+lined-spec =
     tie.close
     (tie.spec
     enum-told
@@ -76,9 +67,6 @@ emptied-spec =
     stops-requires
     log-of-requires-2
     returns
-    idle-requires-3
-    front-requires-2
-    takes-requires
     log-of-requires-3
     enum-told-3
     log-of-requires-4

@@ -1,9 +1,9 @@
--- `bench::Log::last_line` meets its contract.
+-- `bench::last_line` meets its contract.
 -- Assumes nothing.
 use Rattle.bench.proofs.Ways.{closed, no-line}
 use borrow.Author.Needs.{needs}
-use Rattle.bench.proofs.Log.last_line.Statement.{statement}
-use Rattle.bench.proofs.Log.last_line.Tie as tie
+use Rattle.bench.proofs.last_line.Statement.{statement}
+use Rattle.bench.proofs.last_line.Tie as tie
 
 inside-requires : tie.Need-inside-requires
 inside-requires c κs = search needs

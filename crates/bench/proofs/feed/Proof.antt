@@ -1,4 +1,4 @@
--- `bench::Log::feed` meets its contract.
+-- `bench::feed` meets its contract.
 -- Assumes nothing.
 use borrow.Author.Needs.{needs}
 use mathlib.Core.Path.{_≡_}
@@ -6,8 +6,8 @@ use lib.ListN.{length, drop}
 use Prim.Native.Nat.{_-_, _≤_}
 use Rattle.bench.specs.Machine.{piece}
 use Rattle.bench.proofs.Cut.{within, less, onward, to-end, on-ended}
-use Rattle.bench.proofs.Log.feed.Statement.{statement}
-use Rattle.bench.proofs.Log.feed.Tie as tie
+use Rattle.bench.proofs.feed.Statement.{statement}
+use Rattle.bench.proofs.feed.Tie as tie
 
 abbrev Inv-loop : tie.InvT-loop
 Inv-loop bytes buf₀ w₀ i₀ buf w i = (i ≤ length bytes) × (length buf ≡ length buf₀) × (piece (record { log = w; bytes = buf }) (drop i bytes) ≡ piece (record { log = w₀; bytes = buf₀ }) bytes)

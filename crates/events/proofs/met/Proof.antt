@@ -1,9 +1,9 @@
--- `bench::met` meets its contract.
+-- `events::met` meets its contract.
 -- Assumes nothing.
-use Rattle.bench.proofs.Ways.{met-more, met-line, met-empty, met-bad}
+use Rattle.events.proofs.Ways.{met-more, met-line, met-empty, met-bad}
 use borrow.Author.Needs.{needs}
-use Rattle.bench.proofs.met.Statement.{statement}
-use Rattle.bench.proofs.met.Tie as tie
+use Rattle.events.proofs.met.Statement.{statement}
+use Rattle.events.proofs.met.Tie as tie
 
 enum-told : tie.Need-enum-told
 enum-told c = search needs

@@ -1,9 +1,9 @@
--- `bench::Log::finish` meets its contract.
+-- `bench::finish` meets its contract.
 -- Assumes nothing.
 use Rattle.bench.proofs.Ways.{answered, left-bytes}
 use borrow.Author.Needs.{needs}
-use Rattle.bench.proofs.Log.finish.Statement.{statement}
-use Rattle.bench.proofs.Log.finish.Tie as tie
+use Rattle.bench.proofs.finish.Statement.{statement}
+use Rattle.bench.proofs.finish.Tie as tie
 
 last-line-requires : tie.Need-last-line-requires
 last-line-requires c κs = search needs
