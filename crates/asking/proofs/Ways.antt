@@ -10,7 +10,8 @@ use Rattle.hearing.specs.declared.Heard.the-variants.{TooLong}
 use Rattle.wire.specs.declared.Written.{Written}
 use Rattle.wire.specs.declared.Written.the-variants as Written
 use Rattle.frame.specs.Writing as Frame
-use Rattle.select.specs.Selects.{asked, selectFrame}
+use Rattle.paper.specs.Hearing.{selectFrame}
+use Rattle.select.specs.Selects.{asked}
 use Rattle.walk.specs.declared.Walk.{Walk}
 use Rattle.walk.specs.declared.Ask.{Ask}
 use Rattle.walk.specs.declared.Phase as Walk

@@ -1,7 +1,8 @@
 -- The client's record: of every value, also one that no sequence of calls reaches.
 -- Assumes nothing.
 use Prim.Native.Nat.{ℕ}
-use mathlib.Core.Bool.{Bool, true, false}
+use mathlib.Core.Bool.{Bool, true, false, not}
+use lib.Dec.{eqb}
 use Rattle.ids.specs.declared.Id.{Id}
 use Rattle.ids.specs.Ids.{noId}
 use Rattle.table.specs.declared.Table.{Table}
@@ -9,14 +10,24 @@ use Rattle.table.specs.Rows.{noTable}
 use Rattle.walk.specs.declared.Walk.{Walk}
 use Rattle.walk.specs.declared.Phase as Walk
 use Rattle.walk.specs.Moves.{noWalk}
+use Rattle.image.specs.declared.Info.{Info}
+use Rattle.client.specs.declared.Search.{Search}
+use Rattle.client.specs.declared.Search.the-variants.{Probing, Parting, Seeking, Backing, Walking}
+use Rattle.client.specs.declared.Purpose.{Purpose}
+use Rattle.client.specs.declared.Purpose.the-variants.{Tell, Clear, Load}
+use Rattle.client.specs.declared.Reset.{Reset}
+use Rattle.client.specs.declared.Job.{Job}
+use Rattle.client.specs.declared.Job.the-variants.{Informing, Erasing, Writing, Verifying, Resetting}
 use Rattle.client.specs.declared.Phase.{Phase}
-use Rattle.client.specs.declared.Phase.the-variants.{Probing, Parting, Seeking, Backing, Walking}
+use Rattle.client.specs.declared.Phase.the-variants.{Select, Demand, Leave}
 use Rattle.client.specs.declared.Turn.{Turn}
 use Rattle.client.specs.declared.Turn.the-variants.{Idle, Ready, Waiting}
 use Rattle.client.specs.declared.Client.{Client}
 use Rattle.client.specs.declared.Refusal.{Refusal}
 use Rattle.client.specs.declared.Says.{Says}
 use Rattle.client.specs.declared.Says.the-variants.{Onward, Refused}
+use Rattle.client.specs.declared.Progress.{Progress}
+use Rattle.client.specs.declared.Progress.the-variants.{None}
 use Rattle.client.specs.declared.Started.{Started}
 use Rattle.client.specs.declared.Told.{Told}
 use Rattle.client.specs.declared.Attached.{Attached}
@@ -27,12 +38,39 @@ onTurn Idle i r w = i
 onTurn (Ready p) i r w = r p
 onTurn (Waiting p) i r w = w p
 
-abbrev pub onPhase {ℓ} : {A : Type ℓ} → Phase → A → A → (Bool → A) → (Bool → A) → (Walk.Phase → A) → A
-onPhase Probing p d s b w = p
-onPhase Parting p d s b w = d
-onPhase (Seeking given) p d s b w = s given
-onPhase (Backing given) p d s b w = b given
-onPhase (Walking q) p d s b w = w q
+abbrev pub onSearch {ℓ} : {A : Type ℓ} → Search → A → A → (Bool → A) → (Bool → A) → (Walk.Phase → A) → A
+onSearch Probing p d s b w = p
+onSearch Parting p d s b w = d
+onSearch (Seeking given) p d s b w = s given
+onSearch (Backing given) p d s b w = b given
+onSearch (Walking q) p d s b w = w q
+
+abbrev pub onPurpose {ℓ} : {A : Type ℓ} → Purpose → A → A → (ℕ → A) → A
+onPurpose Tell t c l = t
+onPurpose Clear t c l = c
+onPurpose (Load n) t c l = l n
+
+abbrev pub onJob {ℓ} : {A : Type ℓ} → Job → (Purpose → A) → (Purpose → Info → ℕ → A) → (ℕ → Info → ℕ → ℕ → A) → (ℕ → Info → A) → (Reset → A) → A
+onJob (Informing why) i e w v r = i why
+onJob (Erasing why info address) i e w v r = e why info address
+onJob (Writing n info offset retries) i e w v r = w n info offset retries
+onJob (Verifying n info) i e w v r = v n info
+onJob (Resetting reset) i e w v r = r reset
+
+abbrev pub onPhase {ℓ} : {A : Type ℓ} → Phase → (Search → A) → (Job → A) → (Reset → A) → A
+onPhase (Select s) f g h = f s
+onPhase (Demand j) f g h = g j
+onPhase (Leave r) f g h = h r
+
+-- An image of another length than the one that a flash was started with.
+unfoldable pub differs : Purpose → ℕ → Bool
+differs why n = onPurpose why false false (λ m. not (eqb m n))
+
+unfoldable pub otherFor : Job → ℕ → Bool
+otherFor j n = onJob j (λ why. differs why n) (λ why info address. differs why n) (λ m info offset retries. not (eqb m n)) (λ m info. not (eqb m n)) (λ reset. false)
+
+unfoldable pub otherImage : Phase → ℕ → Bool
+otherImage p n = onPhase p (λ s. false) (λ j. otherFor j n) (λ reset. false)
 
 -- Clients made of others.
 abbrev pub begun : Client → Turn → Id → ℕ → Walk → Client
@@ -63,13 +101,17 @@ abbrev pub refuse : Client → Refusal → Started
 refuse c r = record { says = Refused r; client = c }
 
 abbrev pub refuses : Client → Refusal → Told
-refuses c r = record { says = Refused r; client = c; rest = 0; id = noId; found = noTable }
+refuses c r = record { says = Refused r; client = c; rest = 0; progress = None; id = noId; found = noTable }
 
 unfoldable pub over : Client → Says → Id → Table → ℕ → Told
-over c says x t at = record { says = says; client = idle c; rest = at; id = x; found = t }
+over c says x t at = record { says = says; client = idle c; rest = at; progress = None; id = x; found = t }
 
 abbrev pub stops : Client → Says → ℕ → Told
 stops c says at = over c says noId noTable at
 
 unfoldable pub onward : Client → Phase → Walk → ℕ → Told
-onward c p w at = record { says = Onward; client = begun c (Ready p) (c .prefix) (c .bits) w; rest = at; id = noId; found = noTable }
+onward c p w at = record { says = Onward; client = begun c (Ready p) (c .prefix) (c .bits) w; rest = at; progress = None; id = noId; found = noTable }
+
+-- With progress made.
+abbrev pub making : Told → Progress → Told
+making t progress = record { says = t .says; client = t .client; rest = t .rest; progress = progress; id = t .id; found = t .found }

@@ -3,28 +3,38 @@
 use Prim.Native.Nat.{ℕ}
 use mathlib.Core.Bool.{cond}
 use mathlib.Core.List.{List, [], _∷_, map}
-use mathlib.Core.Option.{none, some}
+use mathlib.Core.Option.{Option, none, some}
 use lib.ListN.{replicate}
 use Rattle.paper.specs.Client as Paper
 use Rattle.paper.specs.Client.{refused, granted, onward, over}
 use Rattle.paper.specs.Hearing as Paper₂
 use Rattle.paper.specs.Hearing.{nothing, one, unaddressed, garble}
-use Rattle.paper.specs.Talk.{quiet, heard, attached, found}
+use Rattle.paper.specs.Talk.{quiet, heard, attached, found, knows}
 use Rattle.ids.specs.declared.Id.{Id}
 use Rattle.ids.specs.Ids.{idOf}
 use Rattle.table.specs.declared.Table.{Table}
 use Rattle.table.specs.Rows.{rows}
 use Rattle.hearing.specs.declared.Heard.{Heard}
 use Rattle.hearing.specs.Heard.{onHeard}
+use Rattle.image.specs.declared.Compat.{Compat}
+use Rattle.image.specs.declared.Compat.the-variants.{Key, Missing}
+use Rattle.image.specs.Images.{paperInfo}
 use Rattle.client.specs.declared.Outcome.{Outcome}
 use Rattle.client.specs.declared.Outcome.the-variants as Code
 use Rattle.client.specs.declared.Refusal.{Refusal}
-use Rattle.client.specs.declared.Refusal.the-variants.{Io, NoDevice, SeveralDevices, NoSuchUid, AmbiguousUid, NotAddressable, DuplicateUid, BadPrefix, LongId, TableFull, ShortBuffer, OutOfTurn}
+use Rattle.client.specs.declared.Refusal.the-variants.{Io, Device, FirmwareTooLarge, CrcMismatch, BadInfo, Incompatible, NoDevice, SeveralDevices, NoSuchUid, AmbiguousUid, NotAddressable, DuplicateUid, BadPrefix, LongId, TableFull, ShortBuffer, RetriesSpent, ShortVerify, SpansTooFar, OtherImage, OutOfTurn}
+use Rattle.client.specs.declared.Progress.{Progress}
+use Rattle.client.specs.declared.Progress.the-variants.{None, Made}
 use Rattle.client.specs.declared.Says.{Says}
 use Rattle.client.specs.declared.Says.the-variants.{Granted, Onward, Over, Refused}
 
 unfoldable pub numberOf : Refusal → ℕ
 numberOf Io = 1
+numberOf (Device status) = 2
+numberOf (FirmwareTooLarge size capacity) = 3
+numberOf (CrcMismatch expected actual) = 4
+numberOf BadInfo = 5
+numberOf (Incompatible device image) = 6
 numberOf NoDevice = 7
 numberOf SeveralDevices = 8
 numberOf NoSuchUid = 9
@@ -35,11 +45,25 @@ numberOf BadPrefix = 13
 numberOf LongId = 14
 numberOf TableFull = 15
 numberOf (ShortBuffer n) = 16
+numberOf RetriesSpent = 17
+numberOf ShortVerify = 18
+numberOf SpansTooFar = 19
+numberOf OtherImage = 20
 numberOf OutOfTurn = 21
 
--- What a refusal carries: the prefix that stands beside it, or the length that was needed.
+-- The image's key, if it has one.
+abbrev pub keyOf : Compat → List ℕ
+keyOf (Key k) = k ∷ []
+keyOf Missing = []
+
+-- What a refusal carries: numbers of its own, or the prefix that stands beside it.
 unfoldable pub carriedBy : Refusal → Id → List ℕ
 carriedBy Io x = []
+carriedBy (Device status) x = status ∷ []
+carriedBy (FirmwareTooLarge size capacity) x = size ∷ capacity ∷ []
+carriedBy (CrcMismatch expected actual) x = expected ∷ actual ∷ []
+carriedBy BadInfo x = []
+carriedBy (Incompatible device image) x = device ∷ keyOf image
 carriedBy NoDevice x = []
 carriedBy SeveralDevices x = []
 carriedBy NoSuchUid x = idOf x
@@ -50,6 +74,10 @@ carriedBy BadPrefix x = []
 carriedBy LongId x = []
 carriedBy TableFull x = []
 carriedBy (ShortBuffer n) x = n ∷ []
+carriedBy RetriesSpent x = []
+carriedBy ShortVerify x = []
+carriedBy SpansTooFar x = []
+carriedBy OtherImage x = []
 carriedBy OutOfTurn x = []
 
 -- The ids of a table, row for row.
@@ -60,16 +88,21 @@ idsOf t = map (λ e. idOf (e .id)) (rows t 0 (t .count))
 unfoldable pub heardFrom : Heard → Id → Paper₂.Heard
 heardFrom h x = onHeard h nothing (one (idOf x)) (one (replicate 17 0)) unaddressed garble
 
--- An outcome, with the id and the ids beside it. "outcome 23" is a number of document 01's, and of the code's outcomes.
-unfoldable pub endOf : Outcome → Id → Table → Paper.Says
-endOf Code.Quiet x t = over none quiet
-endOf (Code.Heard h) x t = over none (heard (heardFrom h x))
-endOf (Code.Attached any) x t = over none (attached (cond any (some (idOf x)) none))
-endOf Code.Found x t = over none (found (idsOf t))
-endOf Code.Unaddressed x t = refused 23 []
+unfoldable pub progressOf : Progress → Option (ℕ × ℕ)
+progressOf None = none
+progressOf (Made done total) = some (done, total)
 
-unfoldable pub saysOf : Says → Id → Table → Paper.Says
-saysOf (Granted n) x t = granted n
-saysOf Onward x t = onward none
-saysOf (Over o) x t = endOf o x t
-saysOf (Refused r) x t = refused (numberOf r) (carriedBy r x)
+-- An outcome, with the progress, the id and the ids beside it. "outcome 23" is a number of document 01's, and of the code's outcomes.
+unfoldable pub endOf : Outcome → Progress → Id → Table → Paper.Says
+endOf Code.Quiet p x t = over (progressOf p) quiet
+endOf (Code.Heard h) p x t = over (progressOf p) (heard (heardFrom h x))
+endOf (Code.Attached any) p x t = over (progressOf p) (attached (cond any (some (idOf x)) none))
+endOf Code.Found p x t = over (progressOf p) (found (idsOf t))
+endOf (Code.Knows info) p x t = over (progressOf p) (knows (paperInfo info))
+endOf Code.Unaddressed p x t = refused 23 []
+
+unfoldable pub saysOf : Says → Progress → Id → Table → Paper.Says
+saysOf (Granted n) p x t = granted n
+saysOf Onward p x t = onward (progressOf p)
+saysOf (Over o) p x t = endOf o p x t
+saysOf (Refused r) p x t = refused (numberOf r) (carriedBy r x)

@@ -1,18 +1,51 @@
 // The client's record, by value: what runs, what is attached, and the moves from one record to the next.
 use hearing::Heard;
 use ids::Id;
+use image::Compat;
+use image::Info;
 use table::Table;
 use walk::Walk;
 ghost use mathlib.Core.Path.{_≡_};
-ghost use Rattle.client.specs.Clients.{fresh, running, idle, turned, begun, refuse, refuses, over, stops, onward, cleared, holding, attached};
+ghost use Rattle.client.specs.Numbers.{numberOf};
+ghost use Rattle.client.specs.Clients.{fresh, running, differs, otherFor, otherImage, idle, turned, begun, refuse, refuses, over, stops, onward, making, cleared, holding, attached};
 
-// What the request that is next, or out, is for; given says whether a prefix was.
-pub enum Phase {
+// What a Select is for; given says whether a prefix was.
+pub enum Search {
     Probing,
     Parting,
     Seeking(bool),
     Backing(bool),
     Walking(walk::Phase),
+}
+
+// What Info is asked for: itself, an erase, a flash of an image of so many bytes.
+pub enum Purpose {
+    Tell,
+    Clear,
+    Load(usize),
+}
+
+// Into the bootloader or the app; with a baud to store, or none.
+pub struct Reset {
+    pub bootloader: bool,
+    pub given: bool,
+    pub baud: u8,
+}
+
+// What a request with one answer is for. An Erase has its address; a Write the image's length, its offset, and how often it was repeated.
+pub enum Job {
+    Informing(Purpose),
+    Erasing(Purpose, Info, u32),
+    Writing(usize, Info, u64, u8),
+    Verifying(usize, Info),
+    Resetting(Reset),
+}
+
+// The request that is next, or out: a Select, one with one answer, one whose answer is not awaited.
+pub enum Phase {
+    Select(Search),
+    Demand(Job),
+    Leave(Reset),
 }
 
 // No operation; one whose next request can be asked for; one whose request is out.
@@ -35,6 +68,11 @@ pub struct Client {
 // The refusals; document 01's numbers of them are in Numbers.antt. Prefixes stand beside them in the answer.
 pub enum Refusal {
     Io,
+    Device(u8),
+    FirmwareTooLarge(u32, u32),
+    CrcMismatch(u16, u16),
+    BadInfo,
+    Incompatible(u32, Compat),
     NoDevice,
     SeveralDevices,
     NoSuchUid,
@@ -45,6 +83,10 @@ pub enum Refusal {
     LongId,
     TableFull,
     ShortBuffer(usize),
+    RetriesSpent,
+    ShortVerify,
+    SpansTooFar,
+    OtherImage,
     OutOfTurn,
 }
 
@@ -54,7 +96,14 @@ pub enum Outcome {
     Heard(Heard),
     Attached(bool),
     Found,
+    Knows(Info),
     Unaddressed,
+}
+
+// The progress that an answer made: done, of so many.
+pub enum Progress {
+    None,
+    Made(u64, u64),
 }
 
 // A request of so many bytes stands in the buffer; the operation goes on; it has ended; the call was refused.
@@ -71,11 +120,12 @@ pub struct Started {
     pub client: Client,
 }
 
-// The answer to a record: where its unread rest begins, and the id or prefix and the ids that the answer speaks of.
+// The answer to a record: where its unread rest begins, the progress made, and the id or prefix and the ids that the answer speaks of.
 pub struct Told {
     pub says: Says,
     pub client: Client,
     pub rest: usize,
+    pub progress: Progress,
     pub id: Id,
     pub found: Table,
 }
@@ -86,6 +136,36 @@ pub struct Attached {
     pub id: Id,
 }
 
+// A refusal's number in document 01.
+pub fn number(r: Refusal) -> u8
+    ensures { λ n. ⌜ n ≡ numberOf r ⌝ }
+{
+    match r {
+        Refusal::Io => 1,
+        Refusal::Device(_) => 2,
+        Refusal::FirmwareTooLarge(_, _) => 3,
+        Refusal::CrcMismatch(_, _) => 4,
+        Refusal::BadInfo => 5,
+        Refusal::Incompatible(_, _) => 6,
+        Refusal::NoDevice => 7,
+        Refusal::SeveralDevices => 8,
+        Refusal::NoSuchUid => 9,
+        Refusal::AmbiguousUid => 10,
+        Refusal::NotAddressable => 11,
+        Refusal::DuplicateUid => 12,
+        Refusal::BadPrefix => 13,
+        Refusal::LongId => 14,
+        Refusal::TableFull => 15,
+        Refusal::ShortBuffer(_) => 16,
+        Refusal::RetriesSpent => 17,
+        Refusal::ShortVerify => 18,
+        Refusal::SpansTooFar => 19,
+        Refusal::OtherImage => 20,
+        Refusal::OutOfTurn => 21,
+    }
+}
+
+// Whether an operation runs.
 pub fn running(turn: Turn) -> bool
     ensures { λ r. ⌜ r ≡ running turn ⌝ }
 {
@@ -93,6 +173,60 @@ pub fn running(turn: Turn) -> bool
         Turn::Idle => false,
         Turn::Ready(_) => true,
         Turn::Waiting(_) => true,
+    }
+}
+
+// An image of n bytes is not as long as the one that a flash was started with.
+fn differs(why: Purpose, n: usize) -> bool
+    ensures { λ r. ⌜ r ≡ differs why n ⌝ }
+{
+    match why {
+        Purpose::Tell => false,
+        Purpose::Clear => false,
+        Purpose::Load(m) => m != n,
+    }
+}
+
+fn other_for(job: Job, n: usize) -> bool
+    ensures { λ r. ⌜ r ≡ otherFor job n ⌝ }
+{
+    match job {
+        Job::Informing(why) => differs(why, n),
+        Job::Erasing(why, _, _) => differs(why, n),
+        Job::Writing(m, _, _, _) => m != n,
+        Job::Verifying(m, _) => m != n,
+        Job::Resetting(_) => false,
+    }
+}
+
+// An image of n bytes is not the one that runs: that concerns a flash alone.
+pub fn other_image(phase: Phase, n: usize) -> bool
+    ensures { λ r. ⌜ r ≡ otherImage phase n ⌝ }
+{
+    match phase {
+        Phase::Select(_) => false,
+        Phase::Demand(job) => other_for(job, n),
+        Phase::Leave(_) => false,
+    }
+}
+
+impl Told {
+    // With progress made.
+    pub fn making(self, progress: Progress) -> Told
+        ensures { λ r. ⌜ r ≡ making self progress ⌝ }
+    {
+        let says = self.says;
+        let client = self.client;
+        let id = self.id;
+        let found = self.found;
+        Told {
+            says,
+            client,
+            rest: self.rest,
+            progress,
+            id,
+            found,
+        }
     }
 }
 
@@ -195,6 +329,7 @@ impl Client {
             says: Says::Refused(r),
             client: self,
             rest: 0,
+            progress: Progress::None,
             id,
             found,
         }
@@ -209,6 +344,7 @@ impl Client {
             says,
             client,
             rest: at,
+            progress: Progress::None,
             id,
             found,
         }
@@ -233,6 +369,7 @@ impl Client {
             says: Says::Onward,
             client,
             rest: at,
+            progress: Progress::None,
             id,
             found,
         }

@@ -1,15 +1,18 @@
 -- Document 01, "The port and its edges" and "Refusal numbers": what each call answers and leaves.
 -- Assumes nothing.
-use Prim.Native.Nat.{ℕ, _+_, _*_, _%_}
-use mathlib.Core.Bool.{Bool, true, _&&_, cond}
+use Prim.Native.Nat.{ℕ, _+_, _-_, _*_, _%_}
+use mathlib.Core.Bool.{Bool, true, false, _&&_, not, cond}
 use mathlib.Core.List.{List, [], _∷_, _++_}
 use mathlib.Core.Option.{Option, none, some}
-use lib.Dec.{leb, ltb}
-use lib.ListN.{length, take, drop}
-use Rattle.paper.specs.Frame.{frameBytes, command-Select, status-Request}
-use Rattle.paper.specs.Hearing.{Id, bitsOf, selectPayload, hear, longest, onSome}
-use Rattle.paper.specs.Talk.{Ask, select, Answer, Talk, return, stop, report, ask, Outcome, quiet, heard, attached, found}
+use lib.Dec.{leb, ltb, eqb}
+use lib.ListN.{length, take, drop, replicate}
+use Rattle.paper.specs.Frame.{Frame, frameBytes, status-Request}
+use Rattle.paper.specs.Hearing.{Id, bitsOf, selectFrame, hear, longest, onSome}
+use Rattle.paper.specs.Answers as Answers
+use Rattle.paper.specs.Answers.{lost, answered, answer}
+use Rattle.paper.specs.Talk.{Payload, these, piece, Demand, Ask, select, demand, leave, Answered, Answer, Talk, return, stop, report, ask, Outcome, quiet, heard, attached, found, knows}
 use Rattle.paper.specs.Attach.{selectOnly, deselect, attach, discover}
+use Rattle.paper.specs.Flash.{informOnly, erase, flash, reset}
 
 -- Nothing runs; the next request and how it goes on; a request that is out, and how it goes on.
 pub data Left : Type 0 where
@@ -17,14 +20,16 @@ pub data Left : Type 0 where
   ready : (q : Ask) → (Answer q → Talk Outcome) → Left
   waiting : (q : Ask) → (Answer q → Talk Outcome) → Left
 
+-- With the attached id or none, and the length of the image that a running flash was started with.
 pub record Client : Type 0 where
   pub seed : ℕ
   pub id : Option Id
+  pub image : Option ℕ
   pub left : Left
 
 -- "fresh client: 0"
 unfoldable pub fresh : Client
-fresh = record { seed = 0; id = none; left = idle }
+fresh = record { seed = 0; id = none; image = none; left = idle }
 
 -- A refusal's number and what it carries; a request of so many bytes; it goes on, with the progress made; it has ended, with the progress
 -- made and its outcome.
@@ -40,8 +45,9 @@ pub record Told : Type 0 where
   pub client : Client
   pub rest : ℕ
 
-abbrev pub left : Client → Left → Client
-left c l = record { seed = c .seed; id = c .id; left = l }
+-- With no operation.
+abbrev pub ended : Client → Option Id → Client
+ended c id = record { seed = c .seed; id = id; image = none; left = idle }
 
 -- What an outcome makes of the attached id.
 unfoldable pub idAfter : Outcome → Option Id → Option Id
@@ -49,14 +55,15 @@ idAfter quiet id = id
 idAfter (heard h) id = id
 idAfter (attached new) id = new
 idAfter (found ids) id = id
+idAfter (knows info) id = id
 
 -- A conversation up to its next request or its end. "The others end the operation; seed and attached id stay as they are then."
 unfoldable pub proceed : Client → Option (ℕ × ℕ) → Talk Outcome → ℕ → Told
-proceed c progress (return o) at =
-    record { says = over progress o; client = record { seed = c .seed; id = idAfter o (c .id); left = idle }; rest = at }
-proceed c progress (stop n carries) at = record { says = refused n carries; client = left c idle; rest = at }
+proceed c progress (return o) at = record { says = over progress o; client = ended c (idAfter o (c .id)); rest = at }
+proceed c progress (stop n carries) at = record { says = refused n carries; client = ended c (c .id); rest = at }
 proceed c progress (report a b m) at = proceed c (some (a, b)) m at
-proceed c progress (ask q f) at = record { says = onward progress; client = left c (ready q f); rest = at }
+proceed c progress (ask q f) at =
+    record { says = onward progress; client = record { seed = c .seed; id = c .id; image = c .image; left = ready q f }; rest = at }
 
 -- Refused with no state changed.
 abbrev pub refuses : Client → ℕ → List ℕ → Told
@@ -67,10 +74,15 @@ onLeft idle i r w = i
 onLeft (ready q f) i r w = r q f
 onLeft (waiting q f) i r w = w q f
 
--- Starting: "Out of turn is: a start while an operation runs"; then 13.
-unfoldable pub start : Client → Bool → Talk Outcome → Told
-start c good talk =
-    onLeft (c .left) (cond good (proceed c none talk 0) (refuses c 13 [])) (λ q f. refuses c 21 []) (λ q f. refuses c 21 [])
+-- Starting: "Out of turn is: a start while an operation runs"; then 13. A flash is started with an image of some length.
+unfoldable pub startWith : Option ℕ → Client → Bool → Talk Outcome → Told
+startWith image c good talk =
+    onLeft (c .left)
+    (cond good (proceed (record { seed = c .seed; id = c .id; image = image; left = idle }) none talk 0) (refuses c 13 []))
+    (λ q f. refuses c 21 []) (λ q f. refuses c 21 [])
+
+abbrev pub start : Client → Bool → Talk Outcome → Told
+start c good talk = startWith none c good talk
 
 abbrev pub short : Id → Bool
 short bytes = leb (length bytes) longest
@@ -88,13 +100,46 @@ startAttach c uid = start c (onSome uid true short) (attach uid)
 unfoldable pub startDiscover : Client → Id → Told
 startDiscover c bytes = start c (short bytes) (discover bytes)
 
+unfoldable pub startInfo : Client → Told
+startInfo c = start c true informOnly
+
+unfoldable pub startErase : Client → Told
+startErase c = start c true erase
+
+unfoldable pub startFlash : Client → List ℕ → Told
+startFlash c image = startWith (some (length image)) c true (flash (length image))
+
+unfoldable pub startReset : Client → Bool → Bool → Told
+startReset c bootloader inBoot = start c true (reset bootloader none inBoot)
+
+unfoldable pub startSetBaud : Client → ℕ → Bool → Bool → Told
+startSetBaud c baud bootloader inBoot = start c true (reset bootloader (some baud) inBoot)
+
+-- "20: image length differs from the one at the start".
+abbrev pub otherLength : Option ℕ → List ℕ → Bool
+otherLength none image = false
+otherLength (some n) image = not (eqb n (length image))
+
 -- "A Select adds 1 to the seed, wrapping at 256."
 abbrev pub seedAfter : Ask → ℕ → ℕ
 seedAfter (select p) seed = (seed + 1) % 256
+seedAfter (demand d) seed = seed
+seedAfter (leave d) seed = seed
 
--- "Address and flags 0; payload: seed, bit count, then the bits."
-unfoldable pub bytesOf : Ask → ℕ → List ℕ
-bytesOf (select p) seed = frameBytes (record { command = command-Select; status = status-Request; flags = 0; address = 0; payload = selectPayload seed p })
+-- "The image is padded with FF"; "each Write carries the image from its offset on".
+unfoldable pub payloadOf : Payload → List ℕ → List ℕ
+payloadOf (these bytes) image = bytes
+payloadOf (piece offset k) image = take k (drop offset image) ++ replicate (k - (length image - offset)) 0xFF
+
+abbrev pub demandFrame : Demand → List ℕ → Frame
+demandFrame d image =
+    record { command = d .command; status = status-Request; flags = d .flags; address = d .address; payload = payloadOf (d .payload) image }
+
+-- The bytes of a request: with the seed that it carries, and the image lent.
+unfoldable pub bytesOf : Ask → ℕ → List ℕ → List ℕ
+bytesOf (select p) seed image = frameBytes (selectFrame seed p)
+bytesOf (demand d) seed image = frameBytes (demandFrame d image)
+bytesOf (leave d) seed image = frameBytes (demandFrame d image)
 
 -- A request asked for: the answer, the client after it, and the buffer after it.
 pub record Asked : Type 0 where
@@ -102,35 +147,67 @@ pub record Asked : Type 0 where
   pub client : Client
   pub buffer : List ℕ
 
+-- A request handed out is answered by a record; one whose answer is not awaited goes on at once.
+unfoldable pub handedOut : Client → ℕ → (q : Ask) → (Answer q → Talk Outcome) → Client
+handedOut c seed (select p) f = record { seed = seed; id = c .id; image = c .image; left = waiting (select p) f }
+handedOut c seed (demand d) f = record { seed = seed; id = c .id; image = c .image; left = waiting (demand d) f }
+handedOut c seed (leave d) f = proceed (record { seed = seed; id = c .id; image = c .image; left = c .left }) none (f tt) 0 .client
+
+-- Refused with no byte written.
+abbrev pub withholds : Client → ℕ → List ℕ → List ℕ → Asked
+withholds c n carries buffer = record { says = refused n carries; client = c; buffer = buffer }
+
 -- "A granted request fills its own length of the buffer and changes no byte after it."; a refused one writes nothing.
 unfoldable pub grant : Client → List ℕ → ℕ → (q : Ask) → (Answer q → Talk Outcome) → List ℕ → Asked
 grant c bytes seed q f buffer =
-    cond (ltb (length buffer) (length bytes)) (record { says = refused 16 (length bytes ∷ []); client = c; buffer = buffer })
-    (record { says = granted (length bytes); client = record { seed = seed; id = c .id; left = waiting q f }; buffer = bytes ++ drop (length bytes) buffer })
+    cond (ltb (length buffer) (length bytes)) (withholds c 16 (length bytes ∷ []) buffer)
+    (record { says = granted (length bytes); client = handedOut c seed q f; buffer = bytes ++ drop (length bytes) buffer })
 
-unfoldable pub request : Client → List ℕ → Asked
-request c buffer =
-    onLeft (c .left) (record { says = refused 21 []; client = c; buffer = buffer })
-    (λ q f. grant c (bytesOf q (seedAfter q (c .seed))) (seedAfter q (c .seed)) q f buffer)
-    (λ q f. record { says = refused 21 []; client = c; buffer = buffer })
+-- "Order: 21, 20, 13, 16".
+unfoldable pub request : Client → List ℕ → List ℕ → Asked
+request c image buffer =
+    onLeft (c .left) (withholds c 21 [] buffer)
+    (λ q f. cond (otherLength (c .image) image) (withholds c 20 [] buffer) (grant c (bytesOf q (seedAfter q (c .seed)) image) (seedAfter q (c .seed)) q f buffer))
+    (λ q f. withholds c 21 [] buffer)
 
 -- "Deselect ..; its record, once handed in, clears the attached id": no other Select has more than 128 bits.
 abbrev pub cleared : Ask → Option Id → Option Id
 cleared (select p) id = cond (ltb 128 (length p)) none id
+cleared (demand d) id = id
+cleared (leave d) id = id
 
--- What a record says to a request. "A Select consumes everything."
-abbrev pub reading : (q : Ask) → List ℕ → Answer q
-reading (select p) bytes = hear bytes
+-- What a record says to a request, if it answers it.
+abbrev pub replied : Answers.Answer → List ℕ → Option Answered
+replied lost image = none
+replied (answered r end) image = some (record { reply = r; image = image })
+
+abbrev pub reading : (q : Ask) → List ℕ → List ℕ → Option (Answer q)
+reading (select p) image bytes = some (hear bytes)
+reading (demand d) image bytes = replied (answer bytes) image
+reading (leave d) image bytes = some tt
+
+-- Where its unread rest begins. "A Select consumes everything"; "the unread rest is empty after 1".
+abbrev pub endOf : Answers.Answer → ℕ → ℕ
+endOf lost all = all
+endOf (answered r end) all = end
 
 abbrev pub place : Ask → List ℕ → ℕ
 place (select p) bytes = length bytes
+place (demand d) bytes = endOf (answer bytes) (length bytes)
+place (leave d) bytes = length bytes
 
--- A record handed in.
-unfoldable pub record′ : Client → List ℕ → Told
-record′ c bytes =
+-- "1: Io, or link failed".
+abbrev pub fails : Client → ℕ → Told
+fails c at = record { says = refused 1 []; client = ended c (c .id); rest = at }
+
+-- A record handed in. "Order: 21, 20, .. then the record."
+unfoldable pub record′ : Client → List ℕ → List ℕ → Told
+record′ c image bytes =
     onLeft (c .left) (refuses c 21 []) (λ q f. refuses c 21 [])
-    (λ q f. proceed (record { seed = c .seed; id = cleared q (c .id); left = c .left }) none (f (reading q bytes)) (place q bytes))
+    (λ q f.
+    cond (otherLength (c .image) image) (refuses c 20 [])
+    (onSome (reading q image bytes) (fails c (place q bytes))
+    (λ a. proceed (record { seed = c .seed; id = cleared q (c .id); image = c .image; left = c .left }) none (f a) (place q bytes))))
 
--- "1: Io, or link failed"; "the unread rest is empty after 1".
 unfoldable pub linkFailed : Client → Told
-linkFailed c = onLeft (c .left) (refuses c 21 []) (λ q f. refuses c 21 []) (λ q f. record { says = refused 1 []; client = left c idle; rest = 0 })
+linkFailed c = onLeft (c .left) (refuses c 21 []) (λ q f. refuses c 21 []) (λ q f. fails c 0)

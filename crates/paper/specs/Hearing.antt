@@ -6,7 +6,7 @@ use mathlib.Core.List.{List, [], _∷_}
 use mathlib.Core.Option.{Option, none, some}
 use lib.Dec.{ltb, eqb}
 use lib.ListN.{length, take, drop}
-use Rattle.paper.specs.Frame.{byte, Frame, size, Reading, short, tooLong, badCheck, whole, read, status-Request, status-Ok, status-Unsupported}
+use Rattle.paper.specs.Frame.{byte, Frame, size, Reading, short, tooLong, badCheck, whole, read, command-Select, status-Request, status-Ok, status-Unsupported}
 
 abbrev pub Id : Type 0
 Id = List ℕ
@@ -54,6 +54,10 @@ packed (suc k) bits = binary (take 8 bits) ∷ packed k (drop 8 bits)
 
 unfoldable pub selectPayload : ℕ → Prefix → List ℕ
 selectPayload seed bits = seed ∷ length bits ∷ packed ((length bits + 7) / 8) bits
+
+-- "Address and flags 0".
+abbrev pub selectFrame : ℕ → Prefix → Frame
+selectFrame seed p = record { command = command-Select; status = status-Request; flags = 0; address = 0; payload = selectPayload seed p }
 
 -- "Hearing reads frames until no byte is left (an empty record holds none): if any frame is short, too long or of bad check, or bytes
 -- were skipped, it is Garble."

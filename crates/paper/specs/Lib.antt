@@ -2,9 +2,10 @@ pub mod Frame
 pub mod Hearing
 pub mod Walk
 pub mod Count
+pub mod Answers
 pub mod Talk
 pub mod Attach
-pub mod Answers
+pub mod Flash
 pub mod Text
 pub mod Client
 pub mod Log

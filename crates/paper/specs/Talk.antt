@@ -1,18 +1,41 @@
 -- Document 01, "The port and its edges": an operation as a conversation: what is asked, and how it goes on from the answer.
 -- Assumes nothing.
 use Prim.Native.Nat.{ℕ}
-use mathlib.Core.List.{List, []}
+use mathlib.Core.List.{List, [], _∷_}
 use mathlib.Core.Option.{Option}
+use Rattle.paper.specs.Frame.{Info}
 use Rattle.paper.specs.Hearing.{Id, Prefix, Heard}
+use Rattle.paper.specs.Answers.{Reply}
 use Rattle.paper.specs.Walk as Walk
 use Rattle.paper.specs.Walk.{Walk}
 
--- A Select of a prefix; its seed is no part of it.
+-- The payload of a request: these bytes; or so many of the image lent with it, from an offset on.
+pub data Payload : Type 0 where
+  these : List ℕ → Payload
+  piece : ℕ → ℕ → Payload
+
+-- A request that is no Select.
+pub record Demand : Type 0 where
+  pub command : ℕ
+  pub flags : ℕ
+  pub address : ℕ
+  pub payload : Payload
+
+-- A Select of a prefix, whose seed is no part of it; a request with one answer; a request whose answer is not awaited.
 pub data Ask : Type 0 where
   select : Prefix → Ask
+  demand : Demand → Ask
+  leave : Demand → Ask
+
+-- What the one answer says, and the image lent with it.
+pub record Answered : Type 0 where
+  pub reply : Reply
+  pub image : List ℕ
 
 abbrev pub Answer : Ask → Type 0
 Answer (select p) = Heard
+Answer (demand d) = Answered
+Answer (leave d) = Unit {0}
 
 -- It returns a value, ends the operation with a refusal's number and what that carries, reports progress, or asks.
 pub data Talk (A : Type 0) : Type 0 where
@@ -32,15 +55,21 @@ infixl 20 _>>_
 abbrev pub _>>_ : {A B : Type 0} → Talk A → Talk B → Talk B
 m >> k = m >>= λ _. k
 
+-- The same for each number of a list, in its order.
+unfoldable pub each : List ℕ → (ℕ → Talk (Unit {0})) → Talk (Unit {0})
+each [] f = return tt
+each (x ∷ xs) f = f x >> each xs f
+
 -- A walk is a conversation that only selects.
 unfoldable pub walking : {A : Type 0} → Walk A → Talk A
 walking (Walk.return a) = return a
 walking (Walk.stop c) = stop c []
 walking (Walk.select p f) = ask (select p) (λ h. walking (f h))
 
--- What an operation succeeds with: nothing, what a Select heard, the attached id or none, the ids found.
+-- What an operation succeeds with: nothing, what a Select heard, the attached id or none, the ids found, the device information.
 pub data Outcome : Type 0 where
   quiet : Outcome
   heard : Heard → Outcome
   attached : Option Id → Outcome
   found : List Id → Outcome
+  knows : Info → Outcome

@@ -10,14 +10,13 @@ use lib.Seq.{take-append-le}
 use Rattle.paper.specs.Client.{bytesOf}
 use Rattle.paper.specs.Count.{matching, heardOf, All}
 use Rattle.paper.specs.Frame.{le, check, read, readSynced, skipped, frameHead, frameBody, frameBytes, command-Select, status-Ok}
-use Rattle.paper.specs.Hearing.{Id, Prefix, bitsOf, matches, garble, selectPayload, packed, clean, frames, hear}
+use Rattle.paper.specs.Hearing.{Id, Prefix, bitsOf, matches, garble, selectPayload, packed, clean, frames, hear, selectFrame}
 use Rattle.paper.specs.Talk.{select}
 use Rattle.lore.proofs.Bits.{bits-length}
 use Rattle.lore.proofs.Packed.{packed-length, packed-read}
 use Rattle.lore.proofs.Words.{Bytes}
 use Rattle.theory.proofs.Frames as Frames
 use Rattle.theory.proofs.Heard.{nothing-heard, hear-ok}
-use Rattle.select.specs.Selects.{selectFrame}
 use Rattle.records.specs.Served.{bitsIn, spoken, devices}
 use Rattle.records.proofs.Requests.{bits-append}
 

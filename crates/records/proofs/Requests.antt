@@ -14,7 +14,7 @@ use borrow.Author.Tests.{le-ltb}
 use Rattle.paper.specs.Client.{bytesOf, refused, granted}
 use Rattle.paper.specs.Frame.{most, frameBytes}
 use Rattle.paper.specs.Hearing as Paper
-use Rattle.paper.specs.Hearing.{Prefix, bitsOf, counting, selectPayload}
+use Rattle.paper.specs.Hearing.{Prefix, bitsOf, counting, selectPayload, selectFrame}
 use Rattle.paper.specs.Talk.{select}
 use Rattle.paper.specs.Walk.{nobody}
 use Rattle.lore.proofs.Bits.{bits-length}
@@ -30,7 +30,7 @@ use Rattle.ids.specs.Ids.{noId, idOf, idFrom}
 use Rattle.ids.proofs.Laws.{id-of-from}
 use Rattle.wire.specs.declared.Written.the-variants as Written
 use Rattle.frame.specs.Writing as Frame
-use Rattle.select.specs.Selects.{asked, selectFrame}
+use Rattle.select.specs.Selects.{asked}
 use Rattle.walk.specs.Moves as Moves
 use Rattle.client.specs.declared.Client.{Client}
 use Rattle.asking.specs.Asking as Code

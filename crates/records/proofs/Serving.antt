@@ -13,7 +13,7 @@ use lib.Seq.{take-append-seam}
 use borrow.Author.Tests.{le-ltb}
 use Rattle.paper.specs.Client.{bytesOf, cleared, granted}
 use Rattle.paper.specs.Hearing as Paper
-use Rattle.paper.specs.Hearing.{Prefix, hear}
+use Rattle.paper.specs.Hearing.{Prefix, hear, selectFrame}
 use Rattle.paper.specs.Talk.{select}
 use Rattle.paper.specs.Walk.{Ended, done, stopped}
 use Rattle.lore.proofs.Frames.{frame-length}
@@ -32,7 +32,6 @@ use Rattle.client.specs.declared.Client.{Client}
 use Rattle.client.specs.declared.Told.{Told}
 use Rattle.asking.specs.Asking.{Asking, request, nextSeed}
 use Rattle.telling.specs.Telling.{record′}
-use Rattle.select.specs.Selects.{selectFrame}
 use Rattle.records.specs.Clients.{clientOf, Shown, refusedAs, toldAs, askedAs}
 use Rattle.records.specs.Served.{Wire, sent, round, isOnward, served, heardBy, endId}
 use Rattle.records.proofs.Requests.{payload-length, request-asked}

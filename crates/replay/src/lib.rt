@@ -1,12 +1,10 @@
 // A discovery over the records of a log: the line that opens it, then what each record makes of the client.
 use client::Client;
 use client::Outcome;
-use client::Refusal;
 use client::Says;
 use listing::Answer;
 use table::Table;
 ghost use mathlib.Core.Path.{_≡_};
-ghost use Rattle.client.specs.Numbers.{numberOf};
 ghost use Rattle.replay.specs.Replays.{outcome, code, isEnded, isGranted, isOnward, begun, ended, asked, goes, opens, takes, answer};
 
 // Line one is still to come; a Select is out; the run has ended with an answer.
@@ -23,26 +21,6 @@ pub struct Replay {
     pub found: Table,
 }
 
-// A refusal's number in document 01.
-pub fn number(r: Refusal) -> u8
-    ensures { λ n. ⌜ n ≡ numberOf r ⌝ }
-{
-    match r {
-        Refusal::Io => 1,
-        Refusal::NoDevice => 7,
-        Refusal::SeveralDevices => 8,
-        Refusal::NoSuchUid => 9,
-        Refusal::AmbiguousUid => 10,
-        Refusal::NotAddressable => 11,
-        Refusal::DuplicateUid => 12,
-        Refusal::BadPrefix => 13,
-        Refusal::LongId => 14,
-        Refusal::TableFull => 15,
-        Refusal::ShortBuffer(_) => 16,
-        Refusal::OutOfTurn => 21,
-    }
-}
-
 fn outcome(o: Outcome) -> u8
     ensures { λ n. ⌜ n ≡ outcome o ⌝ }
 {
@@ -51,6 +29,7 @@ fn outcome(o: Outcome) -> u8
         Outcome::Heard(_) => 0,
         Outcome::Attached(_) => 0,
         Outcome::Found => 0,
+        Outcome::Knows(_) => 0,
         Outcome::Unaddressed => 23,
     }
 }
@@ -63,7 +42,7 @@ pub fn code(says: Says) -> u8
         Says::Granted(_) => 0,
         Says::Onward => 0,
         Says::Over(o) => outcome(o),
-        Says::Refused(r) => number(r),
+        Says::Refused(r) => client::number(r),
     }
 }
 

@@ -10,7 +10,7 @@ use lib.Seq.{drop-drop}
 use borrow.Author.Tests.{le-leb, lt-leb}
 use borrow.Rule.Slice.PartMut.{putMid}
 use Rattle.paper.specs.Frame.{le, check}
-use Rattle.paper.specs.Hearing.{bitsOf, packed, selectPayload}
+use Rattle.paper.specs.Hearing.{bitsOf, packed, selectPayload, selectFrame}
 use Rattle.lore.proofs.Bits.{bits-length}
 use Rattle.lore.proofs.Copy.{copy-more, copy-done}
 use Rattle.lore.proofs.Packed.{packed-length}
@@ -19,7 +19,7 @@ use Rattle.frame.specs.declared.Head.{Head}
 use Rattle.frame.specs.Writing.{headOf, written}
 use Rattle.frame.proofs.Assembled.{too-short, assembled}
 use Rattle.wire.specs.declared.Written.the-variants.{Done, Short}
-use Rattle.select.specs.Selects.{asked, bytesFor, lowest, byteAt, selectFrame}
+use Rattle.select.specs.Selects.{asked, bytesFor, lowest, byteAt}
 use Rattle.select.proofs.Bytes.{packed-byte}
 
 pub whole-byte : (x left : ℕ) → x < 256 → 8 ≤ left → x ≡ lowest x left

@@ -5,8 +5,7 @@ use mathlib.Core.Bool.{Bool, false, cond}
 use mathlib.Core.List.{List, _++_}
 use lib.Dec.{leb, ltb}
 use lib.ListN.{getD, take, replicate}
-use Rattle.paper.specs.Frame.{Frame, command-Select, status-Request}
-use Rattle.paper.specs.Hearing.{Prefix, bitsOf, selectPayload}
+use Rattle.paper.specs.Hearing.{Prefix, bitsOf}
 
 -- The first so many bits of 16 bytes, zeros after them.
 abbrev pub asked : List ℕ → ℕ → Prefix
@@ -21,6 +20,3 @@ lowest x left = cond (leb 8 left) (x % 2 ^ 8) (x % 2 ^ left)
 
 unfoldable pub byteAt : List ℕ → ℕ → ℕ → ℕ
 byteAt bits count i = cond (leb 16 i) 0 (lowest (getD bits i 0) (count - 8 * i))
-
-abbrev pub selectFrame : ℕ → Prefix → Frame
-selectFrame seed bits = record { command = command-Select; status = status-Request; flags = 0; address = 0; payload = selectPayload seed bits }

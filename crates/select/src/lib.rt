@@ -5,9 +5,9 @@ ghost use mathlib.Core.Path.{_≡_};
 ghost use mathlib.Core.List.{[], _∷_, _++_};
 ghost use Prim.Native.Nat.{_+_, _≤_, _<_};
 ghost use lib.ListN.{length, drop};
-ghost use Rattle.paper.specs.Hearing.{packed, selectPayload};
+ghost use Rattle.paper.specs.Hearing.{packed, selectPayload, selectFrame};
 ghost use Rattle.frame.specs.Writing.{written};
-ghost use Rattle.select.specs.Selects.{asked, bytesFor, lowest, byteAt, selectFrame};
+ghost use Rattle.select.specs.Selects.{asked, bytesFor, lowest, byteAt};
 
 // How many bytes hold so many bits.
 fn bytes_for(count: u8) -> usize

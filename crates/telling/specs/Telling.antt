@@ -16,16 +16,19 @@ use Rattle.walk.specs.declared.Phase as Walk
 use Rattle.steps.specs.declared.Goes.{Goes}
 use Rattle.steps.specs.declared.Goes.the-variants.{On, Done, Stopped}
 use Rattle.steps.specs.Steps as Steps
+use Rattle.answering.specs.Answering.{tells}
+use Rattle.client.specs.declared.Search.{Search}
+use Rattle.client.specs.declared.Search.the-variants.{Backing, Walking}
 use Rattle.client.specs.declared.Phase.{Phase}
-use Rattle.client.specs.declared.Phase.the-variants.{Backing, Walking}
+use Rattle.client.specs.declared.Phase.the-variants.{Select}
 use Rattle.client.specs.declared.Client.{Client}
-use Rattle.client.specs.declared.Refusal.the-variants.{Io, NoDevice, SeveralDevices, NoSuchUid, AmbiguousUid, NotAddressable, DuplicateUid, LongId, TableFull, OutOfTurn}
+use Rattle.client.specs.declared.Refusal.the-variants.{Io, NoDevice, SeveralDevices, NoSuchUid, AmbiguousUid, NotAddressable, DuplicateUid, LongId, TableFull, OtherImage, OutOfTurn}
 use Rattle.client.specs.declared.Outcome.the-variants as Outcome
 use Rattle.client.specs.declared.Says.{Says}
 use Rattle.client.specs.declared.Says.the-variants.{Over, Refused}
 use Rattle.client.specs.declared.Told.{Told}
 use Rattle.client.specs.declared.Attached.{Attached}
-use Rattle.client.specs.Clients.{onTurn, onPhase, holding, cleared, refuses, over, stops, onward}
+use Rattle.client.specs.Clients.{onTurn, onPhase, onSearch, otherImage, holding, cleared, refuses, over, stops, onward}
 
 abbrev pub onGoes {ℓ} : {A : Type ℓ} → Goes → (Walk.Phase → A) → A → (ℕ → A) → A
 onGoes (On p) on done stopped = on p
@@ -43,7 +46,7 @@ met c given h x at =
     (attaches c true x at)
     (stops c (Refused LongId) at)
     (cond given (stops c (Refused NotAddressable) at) (attaches c false noId at))
-    (onward c (Backing given) (c .walk) at)
+    (onward c (Select (Backing given)) (c .walk) at)
 
 -- "then 10 with a prefix, 8 without."
 unfoldable pub backed : Client → Bool → ℕ → Told
@@ -57,26 +60,33 @@ stopOf n =
 unfoldable pub walked : Client → Goes → Walk → ℕ → Told
 walked c g w at =
     onGoes g
-    (λ p. onward c (Walking p) w at)
+    (λ p. onward c (Select (Walking p)) w at)
     (over (cleared c) (Over Outcome.Found) noId (w .found) at)
     (λ n. stops c (stopOf n) at)
 
 unfoldable pub probed : Client → Heard → Id → ℕ → Told
 probed c h x at = cond (Steps.long h) (stops c (Refused LongId) at) (over c (Over (Outcome.Heard h)) x noTable at)
 
-unfoldable pub hears : Client → Phase → Heard → Id → ℕ → Told
-hears c p h x at =
-    onPhase p
+unfoldable pub hears : Client → Search → Heard → Id → ℕ → Told
+hears c s h x at =
+    onSearch s
     (probed c h x at)
     (stops (cleared c) (Over Outcome.Quiet) at)
     (λ given. met c given h x at)
     (λ given. backed c given at)
     (λ q. walked c (Steps.step (c .walk) q h x .goes) (Steps.step (c .walk) q h x .walk) at)
 
-unfoldable pub record′ : Client → List ℕ → Told
-record′ c bytes =
+unfoldable pub answeredTo : Client → Phase → List ℕ → List ℕ → Told
+answeredTo c p image bytes =
+    onPhase p
+    (λ s. hears c s (shownHeard (hear bytes) .heard) (shownHeard (hear bytes) .id) (length bytes))
+    (λ j. tells c j image bytes)
+    (λ reset. stops c (Over Outcome.Quiet) (length bytes))
+
+unfoldable pub record′ : Client → List ℕ → List ℕ → Told
+record′ c image bytes =
     onTurn (c .turn) (refuses c OutOfTurn) (λ p. refuses c OutOfTurn)
-    (λ p. hears c p (shownHeard (hear bytes) .heard) (shownHeard (hear bytes) .id) (length bytes))
+    (λ p. cond (otherImage p (length image)) (refuses c OtherImage) (answeredTo c p image bytes))
 
 unfoldable pub linkFailed : Client → Told
 linkFailed c = onTurn (c .turn) (refuses c OutOfTurn) (λ p. refuses c OutOfTurn) (λ p. stops c (Refused Io) 0)

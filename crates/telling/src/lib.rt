@@ -4,6 +4,7 @@ use client::Outcome;
 use client::Phase;
 use client::Refusal;
 use client::Says;
+use client::Search;
 use client::Told;
 use client::Turn;
 use hearing::Heard;
@@ -13,7 +14,7 @@ use table::Table;
 use walk::Walk;
 ghost use mathlib.Core.Path.{_≡_};
 ghost use Rattle.paper.specs.Answers.{rest};
-ghost use Rattle.telling.specs.Telling.{attaches, stopOf, met, backed, walked, probed, hears, record′, linkFailed};
+ghost use Rattle.telling.specs.Telling.{attaches, stopOf, met, backed, walked, probed, hears, answeredTo, record′, linkFailed};
 
 // Attached to a pod, or to the one that has no id.
 fn attaches(c: Client, any: bool, id: Id, at: usize) -> Told
@@ -61,7 +62,7 @@ fn met(c: Client, given: bool, h: Heard, id: Id, at: usize) -> Told
         }
         Heard::Garble => {
             let w = c.walk;
-            c.onward(Phase::Backing(given), w, at)
+            c.onward(Phase::Select(Search::Backing(given)), w, at)
         }
     }
 }
@@ -88,7 +89,7 @@ fn walked(c: Client, goes: Goes, walk: Walk, at: usize) -> Told
     ensures { λ r. ⌜ r ≡ walked c goes walk at ⌝ }
 {
     match goes {
-        Goes::On(p) => c.onward(Phase::Walking(p), walk, at),
+        Goes::On(p) => c.onward(Phase::Select(Search::Walking(p)), walk, at),
         Goes::Done => {
             let found = walk.found;
             c.cleared()
@@ -108,16 +109,16 @@ fn probed(c: Client, h: Heard, id: Id, at: usize) -> Told
     c.over(Says::Over(Outcome::Heard(h)), id, Table::none(), at)
 }
 
-// What the phase makes of what it heard.
-fn hears(c: Client, phase: Phase, h: Heard, id: Id, at: usize) -> Told
-    ensures { λ r. ⌜ r ≡ hears c phase h id at ⌝ }
+// What a Select's record makes of the client.
+fn hears(c: Client, search: Search, h: Heard, id: Id, at: usize) -> Told
+    ensures { λ r. ⌜ r ≡ hears c search h id at ⌝ }
 {
-    match phase {
-        Phase::Probing => probed(c, h, id, at),
-        Phase::Parting => c.cleared().stops(Says::Over(Outcome::Quiet), at),
-        Phase::Seeking(given) => met(c, given, h, id, at),
-        Phase::Backing(given) => backed(c, given, at),
-        Phase::Walking(p) => {
+    match search {
+        Search::Probing => probed(c, h, id, at),
+        Search::Parting => c.cleared().stops(Says::Over(Outcome::Quiet), at),
+        Search::Seeking(given) => met(c, given, h, id, at),
+        Search::Backing(given) => backed(c, given, at),
+        Search::Walking(p) => {
             let w = c.walk;
             let next = steps::step(w, p, h, id);
             let goes = next.goes;
@@ -127,19 +128,35 @@ fn hears(c: Client, phase: Phase, h: Heard, id: Id, at: usize) -> Told
     }
 }
 
-// A record of what was heard after the request.
-pub fn record(c: Client, bytes: &[u8]) -> Told
-    ensures { λ r. ⌜ r ≡ record′ c (now (bytes .entry)) ⌝ }
+// What the record of a phase's request makes of the client. A request that is not awaited is never out.
+fn answered(c: Client, phase: Phase, image: &[u8], bytes: &[u8]) -> Told
+    ensures { λ r. ⌜ r ≡ answeredTo c phase (now (image .entry)) (now (bytes .entry)) ⌝ }
+{
+    match phase {
+        Phase::Select(search) => {
+            let x = hearing::hear(bytes);
+            let h = x.heard;
+            let id = x.id;
+            hears(c, search, h, id, bytes.len())
+        }
+        Phase::Demand(job) => answering::tells(c, job, image, bytes),
+        Phase::Leave(_) => c.stops(Says::Over(Outcome::Quiet), bytes.len()),
+    }
+}
+
+// A record of what was heard after the request, with the image lent.
+pub fn record(c: Client, image: &[u8], bytes: &[u8]) -> Told
+    ensures { λ r. ⌜ r ≡ record′ c (now (image .entry)) (now (bytes .entry)) ⌝ }
 {
     let t = c.turn;
     match t {
         Turn::Idle => c.refuses(Refusal::OutOfTurn),
         Turn::Ready(_) => c.refuses(Refusal::OutOfTurn),
         Turn::Waiting(phase) => {
-            let x = hearing::hear(bytes);
-            let h = x.heard;
-            let id = x.id;
-            hears(c, phase, h, id, bytes.len())
+            if client::other_image(phase, image.len()) {
+                return c.refuses(Refusal::OtherImage);
+            }
+            answered(c, phase, image, bytes)
         }
     }
 }

@@ -1,0 +1,98 @@
+// The requests with one answer, and the Reset: the frame of each, written to the front of the buffer.
+use client::Job;
+use client::Reset;
+use frame::Head;
+use image::Info;
+use wire::Written;
+ghost use mathlib.Core.Path.{_≡_};
+ghost use mathlib.Core.List.{[]};
+ghost use lib.ListN.{length};
+ghost use Rattle.paper.specs.Client.{demandFrame};
+ghost use Rattle.paper.specs.Flash.{infoRequest, eraseRequest, writeRequest, verifyRequest};
+ghost use Rattle.image.specs.Images.{paperInfo};
+ghost use Rattle.frame.specs.Writing.{written};
+ghost use Rattle.demands.specs.Demands.{headFor, flagsOf, resetOf, demandOf};
+
+// Requests have status 0.
+fn head(command: u8, flags: u8, address: u32) -> Head
+    ensures { λ r. ⌜ r ≡ headFor command flags address ⌝ }
+{
+    Head {
+        command,
+        status: 0,
+        flags,
+        address,
+    }
+}
+
+pub fn write_info(buf: &mut [u8]) -> Written
+    ensures { λ r. ⌜ record { answer = r; bytes = now (buf .exit) } ≡ written (demandFrame infoRequest []) (now (buf .entry)) ⌝ }
+{
+    let none = [0u8; 1];
+    frame::write_frame(head(0, 0, 0), &none[..0], 0, buf)
+}
+
+// The payload is the erase size.
+pub fn write_erase(info: Info, address: u32, buf: &mut [u8]) -> Written
+    ensures { λ r. ⌜ record { answer = r; bytes = now (buf .exit) } ≡ written (demandFrame (eraseRequest (paperInfo info) address) []) (now (buf .entry)) ⌝ }
+{
+    let e = info.erase_size;
+    let size = [(e % 0x100) as u8, (e / 0x100 % 0x100) as u8];
+    frame::write_frame(head(1, 0, address), &size, 0, buf)
+}
+
+// The image from the offset to the chunk's end, then FF; FLUSH on the last.
+pub fn write_write(info: Info, offset: u64, image: &[u8], buf: &mut [u8]) -> Written
+    ensures { λ r. ⌜ record { answer = r; bytes = now (buf .exit) } ≡ written (demandFrame (writeRequest (paperInfo info) (length (now (image .entry))) offset) (now (image .entry))) (now (buf .entry)) ⌝ }
+{
+    let n = image.len();
+    let size = pieces::size(info, n, offset);
+    let held = pieces::image_bytes(n, offset, size);
+    let flags = if pieces::last(info, n, offset) { 1 } else { 0 };
+    let part = pieces::part(image, offset, size);
+    frame::write_frame(head(2, flags, offset as u32), part, size - held, buf)
+}
+
+// The address is the image's length.
+pub fn write_verify(n: usize, buf: &mut [u8]) -> Written
+    ensures { λ r. ⌜ record { answer = r; bytes = now (buf .exit) } ≡ written (demandFrame (verifyRequest n) []) (now (buf .entry)) ⌝ }
+{
+    let none = [0u8; 1];
+    frame::write_frame(head(3, 0, n as u32), &none[..0], 0, buf)
+}
+
+// BOOTLOADER is 1, BAUD is 2.
+fn reset_flags(reset: Reset) -> u8
+    ensures { λ r. ⌜ r ≡ flagsOf reset ⌝ }
+{
+    let mut flags = 0;
+    if reset.bootloader {
+        flags = 1;
+    }
+    if reset.given {
+        flags += 2;
+    }
+    flags
+}
+
+pub fn write_reset(reset: Reset, buf: &mut [u8]) -> Written
+    ensures { λ r. ⌜ record { answer = r; bytes = now (buf .exit) } ≡ written (demandFrame (resetOf reset) []) (now (buf .entry)) ⌝ }
+{
+    let none = [0u8; 1];
+    let flags = reset_flags(reset);
+    let address = if reset.given { reset.baud as u32 } else { 0 };
+    frame::write_frame(head(4, flags, address), &none[..0], 0, buf)
+}
+
+// The request of a job, with the image lent.
+pub fn write_demand(job: Job, image: &[u8], buf: &mut [u8]) -> Written
+    ensures { λ r. ⌜ record { answer = r; bytes = now (buf .exit) } ≡ written (demandFrame (demandOf job (length (now (image .entry)))) (now (image .entry))) (now (buf .entry)) ⌝ }
+{
+    match job {
+        Job::Informing(_) => write_info(buf),
+        Job::Erasing(_, info, address) => write_erase(info, address, buf),
+        Job::Writing(_, info, offset, _) => write_write(info, offset, image, buf),
+        Job::Verifying(_, _) => write_verify(image.len(), buf),
+        Job::Resetting(reset) => write_reset(reset, buf),
+    }
+}
