@@ -1,0 +1,16 @@
+use Rattle.pieces.proofs.Ways.{last-is}
+use borrow.Author.Needs.{needs}
+use Rattle.pieces.proofs.last.Statement.{statement}
+use Rattle.pieces.proofs.last.Tie as tie
+
+left-requires : tie.Need-left-requires
+left-requires c κs = search needs
+
+chunk-requires : tie.Need-chunk-requires
+chunk-requires c κs = search needs
+
+returns : tie.Need-returns
+returns c = search (last-is, needs)
+
+pub last-spec : {M : Type 1} → statement M
+last-spec = tie.close (tie.spec left-requires chunk-requires returns)
