@@ -1,7 +1,7 @@
-"""What crates/examples must print, computed without any of this project's code.
+"""What crates/examples and crates/flash_example must print, computed without any of this project's code.
 
-python3 tests/vectors.py             prints it
-python3 tests/vectors.py --compare   compares it with crates/examples/stdout
+python3 tests/vectors.py             writes it to their stdout files
+python3 tests/vectors.py --compare   compares it with these files
 """
 import binascii
 import pathlib
@@ -33,9 +33,29 @@ text += shown("Write of one byte, padded", 2, 0, b"a\xff\xff\xff", "nothing")
 text += shown("reply of another status", 5, 7, b"", "garble")
 
 assert check(b"123456789") == 0x29B1
-if sys.argv[1:] == ["--compare"]:
-    stored = (root / "crates/examples/stdout").read_text()
-    if stored != text:
-        print("crates/examples/stdout is not what this script computes")
-    sys.exit(0 if stored == text else 1)
-sys.stdout.write(text)
+
+# An image of 5 bytes in a capacity of 6, erased by 4 and written by 4: it is accepted, though 8 bytes go out.
+image = b"abcde"
+padded = image + b"\xff" * (-len(image) % 4)
+capacity, erase_size, chunk = 6, 4, 4
+flash = frame(0, 0, b"").hex() + "\n"
+for at in range(0, capacity, erase_size):
+    flash += frame(1, 0, struct.pack("<H", erase_size), address=at).hex() + "\n"
+    flash += f"  done {at + erase_size} of {capacity}\n"
+for at in range(0, len(padded), chunk):
+    last = at + chunk >= len(padded)
+    flash += frame(2, 0, padded[at : at + chunk], flags=int(last), address=at).hex() + "\n"
+    flash += f"  done {at // chunk + 1} of {len(padded) // chunk}\n"
+flash += frame(3, 0, b"", address=len(image)).hex() + "\n"
+flash += "flashed: boot version 1\n"
+assert len(image) <= capacity < len(padded)
+
+wrong = 0
+for crate, text in (("examples", text), ("flash_example", flash)):
+    stored = root / "crates" / crate / "stdout"
+    if sys.argv[1:] != ["--compare"]:
+        stored.write_text(text)
+    elif stored.read_text() != text:
+        print(f"crates/{crate}/stdout is not what this script computes")
+        wrong = 1
+sys.exit(wrong)

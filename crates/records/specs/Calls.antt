@@ -1,7 +1,7 @@
 -- Any calls, in any order: what the code answers to them, and what document 01 says that they answer.
 -- Assumes nothing.
 use Prim.Native.Nat.{ℕ, _<_}
-use mathlib.Core.Bool.{cond}
+use mathlib.Core.Bool.{Bool, cond}
 use mathlib.Core.List.{List, [], _∷_}
 use mathlib.Core.Option.{Option, none, some}
 use mathlib.Core.Path.{_≡_}
@@ -12,6 +12,7 @@ use Rattle.theory.specs.Clients.{OfAny, Brief}
 use Rattle.ids.specs.Ids.{idOf, noId}
 use Rattle.table.specs.Rows.{noTable}
 use Rattle.client.specs.declared.Client.{Client}
+use Rattle.client.specs.declared.Progress.the-variants.{None}
 use Rattle.client.specs.declared.Started.{Started}
 use Rattle.client.specs.declared.Told.{Told}
 use Rattle.client.specs.Numbers.{saysOf}
@@ -20,14 +21,20 @@ use Rattle.asking.specs.Asking as Code₂
 use Rattle.telling.specs.Telling as Code₃
 use Rattle.records.specs.Served.{resting}
 
--- The starts with their arguments, a request with its buffer, a record with its bytes, a link that failed.
+-- The starts with their arguments, a request with the image lent and its buffer, a record with the image lent and its bytes, a link that
+-- failed.
 pub data Call : Type 0 where
   startSelect : Id → ℕ → Call
   startDeselect : Call
   startAttach : Option Id → Call
   startDiscover : Id → Call
-  request : List ℕ → Call
-  record′ : List ℕ → Call
+  startInfo : Call
+  startErase : Call
+  startFlash : List ℕ → Call
+  startReset : Bool → Bool → Call
+  startSetBaud : ℕ → Bool → Bool → Call
+  request : List ℕ → List ℕ → Call
+  record′ : List ℕ → List ℕ → Call
   linkFailed : Call
 
 -- A call whose bytes are bytes.
@@ -36,8 +43,13 @@ Good (startSelect bytes bits) = Bytes bytes
 Good startDeselect = Unit {0}
 Good (startAttach uid) = OfAny Bytes uid
 Good (startDiscover given) = Bytes given
-Good (request buffer) = Bytes buffer
-Good (record′ bytes) = Bytes bytes
+Good startInfo = Unit {0}
+Good startErase = Unit {0}
+Good (startFlash image) = Bytes image
+Good (startReset bootloader inBoot) = Unit {0}
+Good (startSetBaud baud bootloader inBoot) = baud < 256
+Good (request image buffer) = Bytes image × Bytes buffer
+Good (record′ image bytes) = Bytes image × Bytes bytes
 Good linkFailed = Unit {0}
 
 -- What is answered: what is said, where the unread rest begins, the buffer after a request.
@@ -50,24 +62,32 @@ pub record Reply : Type 0 where
 abbrev pub saidBy : Paper.Told → Reply × Paper.Client
 saidBy t = (record { says = t .says; rest = t .rest; buffer = [] }, t .client)
 
+abbrev pub askedOf : Paper.Asked → Reply × Paper.Client
+askedOf a = (record { says = a .says; rest = 0; buffer = a .buffer }, a .client)
+
 unfoldable pub paperCall : Paper.Client → Call → Reply × Paper.Client
 paperCall c (startSelect bytes bits) = saidBy (Paper.startSelect c bytes bits)
 paperCall c startDeselect = saidBy (Paper.startDeselect c)
 paperCall c (startAttach uid) = saidBy (Paper.startAttach c uid)
 paperCall c (startDiscover given) = saidBy (Paper.startDiscover c given)
-paperCall c (request buffer) = (record { says = Paper.request c buffer .says; rest = 0; buffer = Paper.request c buffer .buffer }, Paper.request c buffer .client)
-paperCall c (record′ bytes) = saidBy (Paper.record′ c bytes)
+paperCall c startInfo = saidBy (Paper.startInfo c)
+paperCall c startErase = saidBy (Paper.startErase c)
+paperCall c (startFlash image) = saidBy (Paper.startFlash c image)
+paperCall c (startReset bootloader inBoot) = saidBy (Paper.startReset c bootloader inBoot)
+paperCall c (startSetBaud baud bootloader inBoot) = saidBy (Paper.startSetBaud c baud bootloader inBoot)
+paperCall c (request image buffer) = askedOf (Paper.request c image buffer)
+paperCall c (record′ image bytes) = saidBy (Paper.record′ c image bytes)
 paperCall c linkFailed = saidBy (Paper.linkFailed c)
 
 -- The code's answer to a call, read as document 01's, and its client after it.
 abbrev pub startedBy : Started → Reply × Client
-startedBy s = (record { says = saysOf (s .says) noId noTable; rest = 0; buffer = [] }, s .client)
+startedBy s = (record { says = saysOf (s .says) None noId noTable; rest = 0; buffer = [] }, s .client)
 
 abbrev pub askedBy : Code₂.Asking → Reply × Client
-askedBy a = (record { says = saysOf (a .answer .says) noId noTable; rest = 0; buffer = a .bytes }, a .answer .client)
+askedBy a = (record { says = saysOf (a .answer .says) None noId noTable; rest = 0; buffer = a .bytes }, a .answer .client)
 
 abbrev pub toldBy : Told → Reply × Client
-toldBy t = (record { says = saysOf (t .says) (t .id) (t .found); rest = t .rest; buffer = [] }, t .client)
+toldBy t = (record { says = saysOf (t .says) (t .progress) (t .id) (t .found); rest = t .rest; buffer = [] }, t .client)
 
 unfoldable pub codeCall : Client → Call → Reply × Client
 codeCall c (startSelect bytes bits) = startedBy (Code.startSelect c bytes bits)
@@ -75,8 +95,13 @@ codeCall c startDeselect = startedBy (Code.startDeselect c)
 codeCall c (startAttach none) = startedBy (Code.startAttach c)
 codeCall c (startAttach (some bytes)) = startedBy (Code.startAttachTo c bytes)
 codeCall c (startDiscover given) = startedBy (Code.startDiscover c given)
-codeCall c (request buffer) = askedBy (Code₂.request c buffer)
-codeCall c (record′ bytes) = toldBy (Code₃.record′ c bytes)
+codeCall c startInfo = startedBy (Code.startInfo c)
+codeCall c startErase = startedBy (Code.startErase c)
+codeCall c (startFlash image) = startedBy (Code.startFlash c image)
+codeCall c (startReset bootloader inBoot) = startedBy (Code.startReset c bootloader inBoot)
+codeCall c (startSetBaud baud bootloader inBoot) = startedBy (Code.startSetBaud c baud bootloader inBoot)
+codeCall c (request image buffer) = askedBy (Code₂.request c image buffer)
+codeCall c (record′ image bytes) = toldBy (Code₃.record′ c image bytes)
 codeCall c linkFailed = toldBy (Code₃.linkFailed c)
 
 -- An answer, with the seed and the attached id after it.

@@ -20,6 +20,7 @@ use Rattle.table.specs.Rows.{noTable}
 use Rattle.walk.specs.Moves.{noWalk}
 use Rattle.client.specs.declared.Client.{Client}
 use Rattle.client.specs.declared.Outcome.the-variants.{Found}
+use Rattle.client.specs.declared.Progress.the-variants.{None}
 use Rattle.client.specs.declared.Says.{Says}
 use Rattle.client.specs.declared.Says.the-variants.{Granted, Onward, Over, Refused}
 use Rattle.client.specs.declared.Started.{Started}
@@ -48,7 +49,7 @@ sent a = onSays (a .answer .says) (λ n. take n (a .bytes)) [] []
 
 -- A request asked for, with a buffer lent, and the wire's record to it handed in.
 unfoldable pub round : List ℕ → Wire → ℕ → Client → Told
-round buffer wire k c = record′ (request c buffer .answer .client) (wire k (sent (request c buffer)))
+round buffer wire k c = record′ (request c [] buffer .answer .client) [] (wire k (sent (request c [] buffer)))
 
 unfoldable pub isOnward : Says → Bool
 isOnward s = onSays s (λ n. false) true false
@@ -60,7 +61,7 @@ served (suc n) buffer wire k t = cond (isOnward (t .says)) (served n buffer wire
 
 -- A start's answer, as one to a record.
 abbrev pub opening : Started → Told
-opening s = record { says = s .says; client = s .client; rest = 0; id = noId; found = noTable }
+opening s = record { says = s .says; client = s .client; rest = 0; progress = None; id = noId; found = noTable }
 
 -- A discovery under a prefix of whole bytes, within its limit.
 unfoldable pub discovered : List ℕ → Wire → Client → Id → Told × ℕ
@@ -72,7 +73,7 @@ resting seed id = record { seed = seed; attached = isThere id; id = valueOf id; 
 
 -- What document 01's discovery hears over a wire, from a client of that seed on: each Select has the next seed.
 unfoldable pub heardBy : Wire → ℕ → Paper₃.Wire
-heardBy wire seed k q = hear (wire k (bytesOf (select q) ((seed + suc k) % 256)))
+heardBy wire seed k q = hear (wire k (bytesOf (select q) ((seed + suc k) % 256) []))
 
 -- What a discovery's end says, its table, and the attached id after it: one that is done has deselected.
 abbrev pub endSays : Ended (List Id) → Paper.Says
@@ -89,7 +90,7 @@ endId id (stopped n) = id
 
 -- A driven discovery ended as document 01's did: with the same answer and ids, after as many Selects, and with nothing left running.
 pub record EndsAs (seed : ℕ) (id : Option Id) (paper : Ended (List Id) × ℕ) (code : Told × ℕ) : Type 0 where
-  pub answer : saysOf (code .0 .says) (code .0 .id) (code .0 .found) ≡ endSays (paper .0)
+  pub answer : saysOf (code .0 .says) (code .0 .progress) (code .0 .id) (code .0 .found) ≡ endSays (paper .0)
   pub found : code .0 .found ≡ endTable (paper .0)
   pub client : code .0 .client ≡ resting ((seed + paper .1) % 256) (endId id (paper .0))
   pub selects : code .1 ≡ paper .1

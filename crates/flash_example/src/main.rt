@@ -1,0 +1,110 @@
+// A flash driven to its end over a pod that answers Ok: document 01's example of an image of 5 bytes in a capacity of 6.
+// tests/vectors.py computes what this must print.
+use client::Client;
+use client::Outcome;
+use client::Progress;
+use client::Says;
+use frame::Head;
+use libc::STDOUT_FILENO;
+use wire::Written;
+
+fn print(text: &[u8]) {
+    io::write_all(STDOUT_FILENO, text);
+}
+
+fn print_hex(bytes: &[u8], n: usize) {
+    let mut i = 0;
+    while i < n {
+        if i < bytes.len() {
+            io::print_hex(STDOUT_FILENO, bytes[i] as u64, 2);
+        }
+        i += 1;
+    }
+    print(b"\n");
+}
+
+// A reply of status Ok.
+fn reply(command: u8, payload: &[u8], room: &mut [u8]) -> usize {
+    let head = Head {
+        command,
+        status: 1,
+        flags: 0,
+        address: 0,
+    };
+    let w = frame::write_frame(head, payload, 0, room);
+    match w {
+        Written::Done(n) => n,
+        Written::Short(_) => 0,
+        Written::TooLong => 0,
+    }
+}
+
+// The pod: capacity 6, erase size 4, payloads of 4 bytes, no key; and the check of what was sent to it.
+fn pod(command: u8, room: &mut [u8]) -> usize {
+    if command == 0 {
+        return reply(
+            0,
+            b"\x06\x00\x00\x00\x04\x00\x01\x00\x02\x00\x00\xff\xff\xff\xff\xff\x04\x00",
+            room,
+        );
+    }
+    if command == 3 {
+        let c = crc::crc16(0xFFFF, b"abcde");
+        let mut check = [0u8; 2];
+        wire::put16(&mut check, 0, c);
+        return reply(3, &check, room);
+    }
+    reply(command, b"", room)
+}
+
+fn print_progress(p: Progress) {
+    if let Progress::Made(done, total) = p {
+        print(b"  done ");
+        io::print_hex(STDOUT_FILENO, done, 1);
+        print(b" of ");
+        io::print_hex(STDOUT_FILENO, total, 1);
+        print(b"\n");
+    }
+}
+
+// What the pod answers, told to the client.
+fn told(c: Client, command: u8) -> Client {
+    let mut room = [0u8; 64];
+    let n = pod(command, &mut room);
+    if room.len() < n {
+        return c;
+    }
+    let t = telling::record(c, b"abcde", &room[0..n]);
+    let says = t.says;
+    let progress = t.progress;
+    print_progress(progress);
+    if let Says::Over(Outcome::Knows(info)) = says {
+        print(b"flashed: boot version ");
+        io::print_hex(STDOUT_FILENO, info.boot_version as u64, 1);
+        print(b"\n");
+    }
+    t.client
+}
+
+// One request and its answer.
+fn round(c: Client) -> Client {
+    let mut room = [0u8; 64];
+    let s = asking::request(c, b"abcde", &mut room);
+    let says = s.says;
+    let next = s.client;
+    if let Says::Granted(n) = says {
+        print_hex(&room, n);
+        return told(next, room[1]);
+    }
+    next
+}
+
+fn main() {
+    let s = starting::start_flash(Client::new(), b"abcde");
+    let mut c = s.client;
+    let mut i = 0;
+    while i < 6 {
+        c = round(c);
+        i += 1;
+    }
+}
