@@ -69,7 +69,7 @@ search-after (walking s) h = walked-after (Machine.step s h)
 step-after : (ph : Phase) → Sound ph → (a : Answer (Phases.request ph)) → Onward (After (lends ph)) (step ph a .then)
 unfolding step
 step-after (selecting s) k h = search-after s h
-step-after (demanding j) k a = told-leads (Onward (After (lends (demanding j)))) (any-end _ (λ o. tt) (λ n carries. tt)) j k (λ i w. w) (a .reply) (a .image)
+step-after (demanding j) k a = told-leads (Onward (After (lends (demanding j)))) (any-end _ tt (λ info. tt) (λ n carries. tt)) j (λ i w. (w .0 k, w .1)) (a .reply) (a .image)
 step-after (leaving bootloader baud) k a = tt
 
 -- The device information of a phase that follows keeps the Info rule, and the image lent is as long as before.

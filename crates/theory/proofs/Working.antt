@@ -11,7 +11,7 @@ use Rattle.paper.specs.Answers.{Reply, ok, device, sound, informed, spansTooFar
 use Rattle.paper.specs.Flash.{keys}
 use Rattle.paper.specs.Frame.{field, check, Info, infoOf}
 use Rattle.paper.specs.Hearing.{onSome}
-use Rattle.paper.specs.Talk.{Outcome, quiet, knows}
+use Rattle.paper.specs.Talk.{quiet, knows}
 use Rattle.theory.specs.Phases.{Purpose, tell, clear, load, Job, informing, erasing, writing, verifying, resetting, Then, ends, refuses, working, erases, judged, prepared, writes, cleared, erased, wrote, repeated, verified, accepted, declined, told}
 use Rattle.theory.specs.Clients.{lentTo}
 use Rattle.theory.proofs.Resuming.{SoundJob}
@@ -29,11 +29,11 @@ pub record Ends (Q : Then → Type 0) : Type 0 where
   pub short : Q (refuses 18 [])
   pub far : Q (refuses 19 [])
 
--- As it does where it holds of every end.
-pub any-end : (Q : Then → Type 0) → ((o : Outcome) → Q (ends o)) → ((n : ℕ) (carries : List ℕ) → Q (refuses n carries)) → Ends Q
-any-end Q e r = record {
-  quiet = e quiet;
-  knows = λ info. e (knows info);
+-- As it does where it holds of every refusal.
+pub any-end : (Q : Then → Type 0) → Q (ends quiet) → ((info : Info) → Q (ends (knows info))) → ((n : ℕ) (carries : List ℕ) → Q (refuses n carries)) → Ends Q
+any-end Q e k r = record {
+  quiet = e;
+  knows = k;
   device = λ status. r 2 (status ∷ []);
   large = λ n info. r 3 (reported n ∷ info .capacity ∷ []);
   check = λ payload image. r 4 (check image ∷ field 0 2 payload ∷ []);
@@ -44,9 +44,9 @@ any-end Q e r = record {
   far = r 19 [];
 }
 
--- A flash that goes on is of an image of the same length, and its device information keeps the Info rule.
+-- Device information that keeps the Info rule still does, and the image lent is as long as before.
 abbrev pub After : Job → Job → Type 0
-After j k = SoundJob k × (lentTo k ≡ lentTo j)
+After j k = (SoundJob j → SoundJob k) × (lentTo k ≡ lentTo j)
 
 module _ (Q : Then → Type 0) (q : Ends Q) where
   either : (b : Bool) (t u : Then) → Q t → Q u → Q (cond b t u)
@@ -74,34 +74,34 @@ module _ (Q : Then → Type 0) (q : Ends Q) where
       go true false s = q .unsound
       go false b s = q .unsound
 
-  cleared-leads : (why : Purpose) (info : Info) (address : ℕ) → sound info ≡ true → ((k : Job) → After (erasing why info address) k → Q (working k)) → Q (cleared why info)
+  cleared-leads : (why : Purpose) (info : Info) (address : ℕ) → ((k : Job) → After (erasing why info address) k → Q (working k)) → Q (cleared why info)
   unfolding cleared writes
-  cleared-leads tell info address s f = q .knows info
-  cleared-leads clear info address s f = q .knows info
-  cleared-leads (load n) info address s f = either (eqb n 0) _ _ (f (verifying n info) (s, refl)) (f (writing n info 0 0) (s, refl))
+  cleared-leads tell info address f = q .knows info
+  cleared-leads clear info address f = q .knows info
+  cleared-leads (load n) info address f = either (eqb n 0) _ _ (f (verifying n info) (λ s. s, refl)) (f (writing n info 0 0) (λ s. s, refl))
 
-  accepted-leads : (j : Job) → SoundJob j → ((k : Job) → After j k → Q (working k)) → (payload image : List ℕ) → Q (accepted j payload image .then)
+  accepted-leads : (j : Job) → ((k : Job) → After j k → Q (working k)) → (payload image : List ℕ) → Q (accepted j payload image .then)
   unfolding accepted erased wrote verified
-  accepted-leads (informing why) s f payload image = informed-leads why payload image (λ e. f (erasing why (infoOf payload) 0) (e, refl))
-  accepted-leads (erasing why info address) s f payload image =
-      either (ltb (address + info .eraseSize) (info .capacity)) _ _ (f (erasing why info (address + info .eraseSize)) (s, refl)) (cleared-leads why info address s f)
-  accepted-leads (writing n info offset retries) s f payload image =
-      either (leb (padded n - offset) (chunk (info .maxPayload))) _ _ (f (verifying n info) (s, refl)) (f (writing n info (offset + chunk (info .maxPayload)) 0) (s, refl))
-  accepted-leads (verifying n info) s f payload image =
+  accepted-leads (informing why) f payload image = informed-leads why payload image (λ e. f (erasing why (infoOf payload) 0) (λ s. e, refl))
+  accepted-leads (erasing why info address) f payload image =
+      either (ltb (address + info .eraseSize) (info .capacity)) _ _ (f (erasing why info (address + info .eraseSize)) (λ s. s, refl)) (cleared-leads why info address f)
+  accepted-leads (writing n info offset retries) f payload image =
+      either (leb (padded n - offset) (chunk (info .maxPayload))) _ _ (f (verifying n info) (λ s. s, refl)) (f (writing n info (offset + chunk (info .maxPayload)) 0) (λ s. s, refl))
+  accepted-leads (verifying n info) f payload image =
       either (ltb (length payload) 2) _ _ (q .short) (either (eqb (check image) (field 0 2 payload)) _ _ (q .knows info) (q .check payload image))
-  accepted-leads (resetting bootloader baud) s f payload image = q .quiet
+  accepted-leads (resetting bootloader baud) f payload image = q .quiet
 
-  declined-leads : (j : Job) → SoundJob j → ((k : Job) → After j k → Q (working k)) → (status : ℕ) → Q (declined j status)
+  declined-leads : (j : Job) → ((k : Job) → After j k → Q (working k)) → (status : ℕ) → Q (declined j status)
   unfolding declined repeated
-  declined-leads (informing why) s f status = q .device status
-  declined-leads (erasing why info address) s f status = q .device status
-  declined-leads (writing n info offset retries) s f status =
-      either (eqb status 3) _ _ (either (ltb retries 16) _ _ (f (writing n info offset _) (s, refl)) (q .spent)) (q .device status)
-  declined-leads (verifying n info) s f status = q .device status
-  declined-leads (resetting bootloader baud) s f status = q .device status
+  declined-leads (informing why) f status = q .device status
+  declined-leads (erasing why info address) f status = q .device status
+  declined-leads (writing n info offset retries) f status =
+      either (eqb status 3) _ _ (either (ltb retries 16) _ _ (f (writing n info offset _) (λ s. s, refl)) (q .spent)) (q .device status)
+  declined-leads (verifying n info) f status = q .device status
+  declined-leads (resetting bootloader baud) f status = q .device status
 
   -- What holds of the ends and of the jobs that may follow holds of what follows.
-  pub told-leads : (j : Job) → SoundJob j → ((k : Job) → After j k → Q (working k)) → (r : Reply) (image : List ℕ) → Q (told j r image .then)
+  pub told-leads : (j : Job) → ((k : Job) → After j k → Q (working k)) → (r : Reply) (image : List ℕ) → Q (told j r image .then)
   unfolding told
-  told-leads j s f (ok payload) image = accepted-leads j s f payload image
-  told-leads j s f (device status) image = declined-leads j s f status
+  told-leads j f (ok payload) image = accepted-leads j f payload image
+  told-leads j f (device status) image = declined-leads j f status
