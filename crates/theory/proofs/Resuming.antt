@@ -1,6 +1,6 @@
 -- Each phase stands at a place of its operation's conversation, and each step of the machine is one step of that.
 -- Assumes nothing.
-use Prim.Native.Nat.{ℕ, zero, suc, _+_, _-_, _/_, _<_, _≤_}
+use Prim.Native.Nat.{ℕ, suc, _+_, _-_, _/_, _<_, _≤_}
 use mathlib.Core.Bool.{Bool, true, false, _&&_, not, cond}
 use mathlib.Core.List.{List, [], _∷_}
 use mathlib.Core.Option.{Option, none, some}
@@ -16,13 +16,13 @@ use Rattle.paper.specs.Flash.{infoRequest, eraseRequest, writeRequest, verifyRe
 use Rattle.paper.specs.Frame.{field, check, Info, infoOf}
 use Rattle.paper.specs.Hearing.{Id, Prefix, bitsOf, onSome, Heard, nothing, one, unaddressed, garble}
 use Rattle.paper.specs.Talk as Talk
-use Rattle.paper.specs.Talk.{Demand, select, demand, Talk, return, stop, report, ask, _>>=_, _>>_, each, Outcome, quiet, found, knows}
+use Rattle.paper.specs.Talk.{Demand, select, demand, Talk, return, stop, report, ask, _>>=_, _>>_, each, Outcome, found, knows}
 use Rattle.paper.specs.Walk as Walk
 use Rattle.paper.specs.Walk.{Walk, long, done, stopped}
 use Rattle.lore.proofs.Rows.{below-cons, below-nil}
 use Rattle.theory.specs.Machine as Machine
 use Rattle.theory.specs.Machine.{going, ended}
-use Rattle.theory.specs.Phases.{Search, probing, parting, seeking, backing, walking, Purpose, tell, clear, load, Job, informing, erasing, writing, verifying, resetting, Phase, selecting, demanding, leaving, selected, demanded, request, Then, to, ends, refuses, Next, quietly, unlessLong, sought, backed, walked, hears, working, erases, judged, prepared, writes, cleared, erased, wrote, repeated, verified, accepted, declined, told, step, starting}
+use Rattle.theory.specs.Phases.{Search, probing, parting, seeking, backing, walking, Purpose, tell, clear, load, Job, informing, erasing, writing, verifying, resetting, Phase, selecting, demanding, leaving, selected, demanded, request, Then, to, ends, refuses, Next, unlessLong, sought, backed, walked, hears, working, erases, judged, prepared, writes, cleared, erased, wrote, repeated, verified, accepted, declined, told, step, starting}
 use Rattle.theory.proofs.Images.{chunk-least}
 use Rattle.theory.proofs.Refine as Refine
 
@@ -72,7 +72,8 @@ several uid = onSome uid (stop 8 []) (λ given. stop 10 given)
 abbrev pub finding : List Id → Talk Outcome
 finding ids = return (found ids)
 
--- An operation that begins with Info; what follows the last Erase; the Writes from an offset on, and Verify.
+-- An operation that begins with Info; Verify and the end; the Writes from an offset on, and these; what follows the last Erase; the Erases from
+-- an address on, and that.
 unfoldable pub whole : Purpose → Talk Outcome
 whole tell = informOnly
 whole clear = erase
