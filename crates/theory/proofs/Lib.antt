@@ -20,6 +20,7 @@ pub mod Kept
 pub mod Refine
 pub mod Fits
 pub mod Resuming
+pub mod Working
 pub mod Talking
 pub mod Ending
 pub mod Carried
