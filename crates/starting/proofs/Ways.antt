@@ -12,14 +12,18 @@ use Rattle.walk.specs.declared.Walk.{Walk}
 use Rattle.walk.specs.declared.Phase.the-variants.{Asked}
 use Rattle.walk.specs.Moves.{noWalk, begin}
 use Rattle.client.specs.declared.Phase.{Phase}
-use Rattle.client.specs.declared.Phase.the-variants.{Probing, Parting, Seeking, Walking}
+use Rattle.client.specs.declared.Phase.the-variants.{Select, Demand, Leave}
+use Rattle.client.specs.declared.Search.the-variants.{Probing, Parting, Seeking, Walking}
+use Rattle.client.specs.declared.Job.the-variants.{Informing, Resetting}
+use Rattle.client.specs.declared.Purpose.the-variants.{Tell, Clear, Load}
+use Rattle.client.specs.declared.Reset.{Reset}
 use Rattle.client.specs.declared.Turn.the-variants.{Ready}
 use Rattle.client.specs.declared.Client.{Client}
 use Rattle.client.specs.declared.Refusal.the-variants.{BadPrefix, OutOfTurn}
 use Rattle.client.specs.declared.Says.the-variants.{Onward}
 use Rattle.client.specs.declared.Started.{Started}
 use Rattle.client.specs.Clients.{begun, running, refuse}
-use Rattle.starting.specs.Starting.{starts, badPrefix, startSelect, startDeselect, startAttach, startAttachTo, startDiscover}
+use Rattle.starting.specs.Starting.{starts, demands, badPrefix, startSelect, startDeselect, startAttach, startAttachTo, startDiscover, startInfo, startErase, startFlash, resets, startReset, startSetBaud}
 
 module _ (c : Client) (b : Bool) (eb : b ≡ running (c .turn)) (r : Started) where
   pub starts-late : (p : Phase) (x : Id) (bits : ℕ) (w : Walk) → b ≡ true → r ≡ refuse c OutOfTurn → r ≡ starts c p x bits w
@@ -48,7 +52,7 @@ module _ (c : Client) (bytes : List ℕ) (r : Started) where
   unfolding startSelect
   select-few bits h k e = rw (le-ltb 16 (length bytes) h, lt-ltb (8 * length bytes) bits k) e
 
-  pub select-starts : (bits : ℕ) (x : Id) (w : Walk) → length bytes ≤ 16 → bits ≤ 8 * length bytes → x ≡ idFrom bytes → w ≡ noWalk → r ≡ starts c Probing x bits w
+  pub select-starts : (bits : ℕ) (x : Id) (w : Walk) → length bytes ≤ 16 → bits ≤ 8 * length bytes → x ≡ idFrom bytes → w ≡ noWalk → r ≡ starts c (Select Probing) x bits w
       → r ≡ startSelect c bytes bits
   unfolding startSelect
   select-starts bits x w h k ex ew e = rw (le-ltb 16 (length bytes) h, le-ltb (8 * length bytes) bits k) (rw (ex, ew) at e)
@@ -57,7 +61,7 @@ module _ (c : Client) (bytes : List ℕ) (r : Started) where
   unfolding startAttachTo
   attach-over h e = rw (lt-ltb 16 (length bytes) h) e
 
-  pub attach-starts : (x : Id) (w : Walk) → length bytes ≤ 16 → x ≡ idFrom bytes → w ≡ noWalk → r ≡ starts c (Seeking true) x 0 w → r ≡ startAttachTo c bytes
+  pub attach-starts : (x : Id) (w : Walk) → length bytes ≤ 16 → x ≡ idFrom bytes → w ≡ noWalk → r ≡ starts c (Select (Seeking true)) x 0 w → r ≡ startAttachTo c bytes
   unfolding startAttachTo
   attach-starts x w h ex ew e = rw (le-ltb 16 (length bytes) h) (rw (ex, ew) at e)
 
@@ -65,15 +69,49 @@ module _ (c : Client) (bytes : List ℕ) (r : Started) where
   unfolding startDiscover
   discover-over h e = rw (lt-ltb 16 (length bytes) h) e
 
-  pub discover-starts : (x n : Id) (w : Walk) → length bytes ≤ 16 → x ≡ idFrom bytes → w ≡ begin x → n ≡ noId → r ≡ starts c (Walking Asked) n 0 w → r ≡ startDiscover c bytes
+  pub discover-starts : (x n : Id) (w : Walk) → length bytes ≤ 16 → x ≡ idFrom bytes → w ≡ begin x → n ≡ noId → r ≡ starts c (Select (Walking Asked)) n 0 w → r ≡ startDiscover c bytes
   unfolding startDiscover
   discover-starts x n w h ex ew en e = rw (le-ltb 16 (length bytes) h, ← ex, ← ew) (rw en at e)
 
 module _ (c : Client) (r : Started) (x : Id) (w : Walk) (ex : x ≡ noId) (ew : w ≡ noWalk) where
-  pub deselect-starts : r ≡ starts c Parting x 0 w → r ≡ startDeselect c
+  pub deselect-starts : r ≡ starts c (Select Parting) x 0 w → r ≡ startDeselect c
   unfolding startDeselect
   deselect-starts e = rw (ex, ew) at e
 
-  pub attach-any : r ≡ starts c (Seeking false) x 0 w → r ≡ startAttach c
+  pub attach-any : r ≡ starts c (Select (Seeking false)) x 0 w → r ≡ startAttach c
   unfolding startAttach
   attach-any e = rw (ex, ew) at e
+
+  pub demands-starts : (p : Phase) → r ≡ starts c p x 0 w → r ≡ demands c p
+  unfolding demands
+  demands-starts p e = rw (ex, ew) at e
+
+module _ (c : Client) (r : Started) where
+  pub info-starts : r ≡ demands c (Demand (Informing Tell)) → r ≡ startInfo c
+  unfolding startInfo
+  info-starts e = e
+
+  pub erase-starts : r ≡ demands c (Demand (Informing Clear)) → r ≡ startErase c
+  unfolding startErase
+  erase-starts e = e
+
+  pub flash-starts : (image : List ℕ) → r ≡ demands c (Demand (Informing (Load (length image)))) → r ≡ startFlash c image
+  unfolding startFlash
+  flash-starts image e = e
+
+  pub resets-awaited : (reset : Reset) (inBoot : Bool) → inBoot ≡ true → r ≡ demands c (Demand (Resetting reset)) → r ≡ resets c reset inBoot
+  unfolding resets
+  resets-awaited reset inBoot h e = rw h e
+
+  pub resets-left : (reset : Reset) (inBoot : Bool) → inBoot ≡ false → r ≡ demands c (Leave reset) → r ≡ resets c reset inBoot
+  unfolding resets
+  resets-left reset inBoot h e = rw h e
+
+  pub reset-starts : (bootloader inBoot : Bool) → r ≡ resets c (record { bootloader = bootloader; given = false; baud = 0 }) inBoot → r ≡ startReset c bootloader inBoot
+  unfolding startReset
+  reset-starts bootloader inBoot e = e
+
+  pub baud-starts : (baud : ℕ) (bootloader inBoot : Bool) → r ≡ resets c (record { bootloader = bootloader; given = true; baud = baud }) inBoot
+      → r ≡ startSetBaud c baud bootloader inBoot
+  unfolding startSetBaud
+  baud-starts baud bootloader inBoot e = e
