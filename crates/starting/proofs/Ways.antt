@@ -12,18 +12,15 @@ use Rattle.walk.specs.declared.Walk.{Walk}
 use Rattle.walk.specs.declared.Phase.the-variants.{Asked}
 use Rattle.walk.specs.Moves.{noWalk, begin}
 use Rattle.client.specs.declared.Phase.{Phase}
-use Rattle.client.specs.declared.Phase.the-variants.{Select, Demand, Leave}
+use Rattle.client.specs.declared.Phase.the-variants.{Select}
 use Rattle.client.specs.declared.Search.the-variants.{Probing, Parting, Seeking, Walking}
-use Rattle.client.specs.declared.Job.the-variants.{Informing, Resetting}
-use Rattle.client.specs.declared.Purpose.the-variants.{Tell, Clear, Load}
-use Rattle.client.specs.declared.Reset.{Reset}
 use Rattle.client.specs.declared.Turn.the-variants.{Ready}
 use Rattle.client.specs.declared.Client.{Client}
 use Rattle.client.specs.declared.Refusal.the-variants.{BadPrefix, OutOfTurn}
 use Rattle.client.specs.declared.Says.the-variants.{Onward}
 use Rattle.client.specs.declared.Started.{Started}
 use Rattle.client.specs.Clients.{begun, running, refuse}
-use Rattle.starting.specs.Starting.{starts, demands, badPrefix, startSelect, startDeselect, startAttach, startAttachTo, startDiscover, startInfo, startErase, startFlash, resets, startReset, startSetBaud}
+use Rattle.starting.specs.Starting.{starts, demands, badPrefix, startSelect, startDeselect, startAttach, startAttachTo, startDiscover}
 
 module _ (c : Client) (b : Bool) (eb : b ≡ running (c .turn)) (r : Started) where
   pub starts-late : (p : Phase) (x : Id) (bits : ℕ) (w : Walk) → b ≡ true → r ≡ refuse c OutOfTurn → r ≡ starts c p x bits w
@@ -85,33 +82,3 @@ module _ (c : Client) (r : Started) (x : Id) (w : Walk) (ex : x ≡ noId) (ew : 
   pub demands-starts : (p : Phase) → r ≡ starts c p x 0 w → r ≡ demands c p
   unfolding demands
   demands-starts p e = rw (ex, ew) at e
-
-module _ (c : Client) (r : Started) where
-  pub info-starts : r ≡ demands c (Demand (Informing Tell)) → r ≡ startInfo c
-  unfolding startInfo
-  info-starts e = e
-
-  pub erase-starts : r ≡ demands c (Demand (Informing Clear)) → r ≡ startErase c
-  unfolding startErase
-  erase-starts e = e
-
-  pub flash-starts : (image : List ℕ) → r ≡ demands c (Demand (Informing (Load (length image)))) → r ≡ startFlash c image
-  unfolding startFlash
-  flash-starts image e = e
-
-  pub resets-awaited : (reset : Reset) (inBoot : Bool) → inBoot ≡ true → r ≡ demands c (Demand (Resetting reset)) → r ≡ resets c reset inBoot
-  unfolding resets
-  resets-awaited reset inBoot h e = rw h e
-
-  pub resets-left : (reset : Reset) (inBoot : Bool) → inBoot ≡ false → r ≡ demands c (Leave reset) → r ≡ resets c reset inBoot
-  unfolding resets
-  resets-left reset inBoot h e = rw h e
-
-  pub reset-starts : (bootloader inBoot : Bool) → r ≡ resets c (record { bootloader = bootloader; given = false; baud = 0 }) inBoot → r ≡ startReset c bootloader inBoot
-  unfolding startReset
-  reset-starts bootloader inBoot e = e
-
-  pub baud-starts : (baud : ℕ) (bootloader inBoot : Bool) → r ≡ resets c (record { bootloader = bootloader; given = true; baud = baud }) inBoot
-      → r ≡ startSetBaud c baud bootloader inBoot
-  unfolding startSetBaud
-  baud-starts baud bootloader inBoot e = e
