@@ -50,7 +50,12 @@ pub fn write_write(info: Info, offset: u64, image: &[u8], buf: &mut [u8]) -> Wri
     let held = pieces::image_bytes(n, offset, size);
     let flags = if pieces::last(info, n, offset) { 1 } else { 0 };
     let part = pieces::part(image, offset, size);
-    frame::write_frame(head(2, flags, offset as u32), part, size - held, buf)
+    frame::write_frame(
+        head(2, flags, (offset % 0x1_0000_0000) as u32),
+        part,
+        size - held,
+        buf,
+    )
 }
 
 // The address is the image's length.
@@ -58,7 +63,7 @@ pub fn write_verify(n: usize, buf: &mut [u8]) -> Written
     ensures { λ r. ⌜ record { answer = r; bytes = now (buf .exit) } ≡ written (demandFrame (verifyRequest n) []) (now (buf .entry)) ⌝ }
 {
     let none = [0u8; 1];
-    frame::write_frame(head(3, 0, n as u32), &none[..0], 0, buf)
+    frame::write_frame(head(3, 0, (n % 0x1_0000_0000) as u32), &none[..0], 0, buf)
 }
 
 // BOOTLOADER is 1, BAUD is 2.

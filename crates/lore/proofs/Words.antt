@@ -2,9 +2,9 @@
 -- Assumes nothing.
 use Prim.Native.Nat.{ℕ, zero, suc, _+_, _*_, _/_, _%_, _^_, _<_, _≤_}
 use mathlib.Core.List.{List, [], _∷_}
-use mathlib.Core.Path.{_≡_, refl, _∙_, ap, ap₂}
+use mathlib.Core.Path.{_≡_, refl, sym, _∙_, ap, ap₂}
 use native.Mathlib.Omega.{arith}
-use native.Mathlib.Nat.{pow-suc}
+use native.Mathlib.Nat.{pow-suc, pow-succ', mul-assoc, mod-add-div}
 use native.Mathlib.Numerals.{add-one}
 use lib.ListN.{length, getD, drop-of-length-le, List·getD-eq-default}
 use lib.Seq.{drop-cons, take-nil}
@@ -16,6 +16,23 @@ pub le-length : (k x : ℕ) → length (le k x) ≡ k
 unfolding le
 le-length zero x = refl
 le-length (suc k) x = ap suc (le-length k (x / 256))
+
+-- What lies above k bytes is not written.
+le-above : (k x q : ℕ) → le k (x + 256 ^ k * q) ≡ le k x
+unfolding le
+le-above zero x q = refl
+le-above (suc k) x q =
+    ap (λ (m : ℕ). le (suc k) (x + m)) (ap (λ (p : ℕ). p * q) (pow-succ' 256 k) ∙ mul-assoc 256 (256 ^ k) q)
+    ∙ ap₂ _∷_ (low (256 ^ k * q)) (ap (le k) (high (256 ^ k * q)) ∙ le-above k (x / 256) q)
+  where
+    low : (m : ℕ) → (x + 256 * m) % 256 ≡ x % 256
+    low m = omega arith
+
+    high : (m : ℕ) → (x + 256 * m) / 256 ≡ x / 256 + m
+    high m = omega arith
+
+pub le-cut : (k x : ℕ) → le k (x % 256 ^ k) ≡ le k x
+le-cut k x = sym (le-above k (x % 256 ^ k) (x / 256 ^ k)) ∙ ap (le k) (mod-add-div x (256 ^ k))
 
 pub number-le : (k x : ℕ) → x < 256 ^ k → number (le k x) ≡ x
 unfolding le number

@@ -30,8 +30,8 @@ enum-told-4 c = search needs
 nobody-requires-2 : tie.Need-nobody-requires-2
 nobody-requires-2 c κs = search needs
 
-enum-known-phase : tie.Need-enum-known-phase
-enum-known-phase c = search needs
+enum-known-search : tie.Need-enum-known-search
+enum-known-search c = search needs
 
 asks-requires : tie.Need-asks-requires
 asks-requires c κs = search needs
@@ -64,7 +64,7 @@ asks-spec =
     mul-t10
     enum-told-4
     nobody-requires-2
-    enum-known-phase
+    enum-known-search
     asks-requires
     returns
     returns-2

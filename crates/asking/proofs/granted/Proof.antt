@@ -6,12 +6,6 @@ use Rattle.asking.proofs.granted.Tie as tie
 enum-known-w : tie.Need-enum-known-w
 enum-known-w c = search needs
 
-turned-requires : tie.Need-turned-requires
-turned-requires c κs = search needs
-
-next-seed-requires : tie.Need-next-seed-requires
-next-seed-requires c κs = search needs
-
 enum-known-w-2 : tie.Need-enum-known-w-2
 enum-known-w-2 c = search needs
 
@@ -38,8 +32,6 @@ granted-spec =
     tie.close
     (tie.spec
     enum-known-w
-    turned-requires
-    next-seed-requires
     enum-known-w-2
     refuse-requires
     enum-told

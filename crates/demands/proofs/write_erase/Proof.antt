@@ -1,0 +1,37 @@
+use Rattle.demands.proofs.Ways.{sent-erase}
+use borrow.Author.Needs.{needs}
+use Rattle.demands.proofs.write_erase.Statement.{statement}
+use Rattle.demands.proofs.write_erase.Tie as tie
+
+cast-t7 : tie.Need-cast-t7
+cast-t7 c = search needs
+
+cast-t10 : tie.Need-cast-t10
+cast-t10 c = search needs
+
+head-requires : tie.Need-head-requires
+head-requires c κs = search needs
+
+slice-aggregate-write-frame : tie.Need-slice-aggregate-write-frame
+slice-aggregate-write-frame c = search needs
+
+write-frame-requires : tie.Need-write-frame-requires
+write-frame-requires c κs = search needs
+
+same-length : tie.Need-same-length
+same-length c = search needs
+
+returns : tie.Need-returns
+returns c = search (sent-erase, needs)
+
+pub write-erase-spec : {M : Type 1} → statement M
+write-erase-spec =
+    tie.close
+    (tie.spec
+    cast-t7
+    cast-t10
+    head-requires
+    slice-aggregate-write-frame
+    write-frame-requires
+    same-length
+    returns)

@@ -1,0 +1,33 @@
+use Rattle.demands.proofs.Ways.{sent}
+use borrow.Author.Needs.{needs}
+use Rattle.demands.proofs.write_info.Statement.{statement}
+use Rattle.demands.proofs.write_info.Tie as tie
+
+head-requires : tie.Need-head-requires
+head-requires c κs = search needs
+
+array-share-prefix-none : tie.Need-array-share-prefix-none
+array-share-prefix-none c = search needs
+
+slice-aggregate-write-frame : tie.Need-slice-aggregate-write-frame
+slice-aggregate-write-frame c = search needs
+
+write-frame-requires : tie.Need-write-frame-requires
+write-frame-requires c κs = search needs
+
+same-length : tie.Need-same-length
+same-length c = search needs
+
+returns : tie.Need-returns
+returns c = search (sent, needs)
+
+pub write-info-spec : {M : Type 1} → statement M
+write-info-spec =
+    tie.close
+    (tie.spec
+    head-requires
+    array-share-prefix-none
+    slice-aggregate-write-frame
+    write-frame-requires
+    same-length
+    returns)

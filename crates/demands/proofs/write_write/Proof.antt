@@ -1,0 +1,51 @@
+use mathlib.Core.Logic.{⊎-elim}
+use Rattle.lore.proofs.Choice.{ways}
+use Rattle.demands.proofs.Ways.{held-within, sent-write}
+use borrow.Author.Needs.{needs}
+use Rattle.demands.proofs.write_write.Statement.{statement}
+use Rattle.demands.proofs.write_write.Tie as tie
+
+size-requires : tie.Need-size-requires
+size-requires c κs = search needs
+
+image-bytes-requires : tie.Need-image-bytes-requires
+image-bytes-requires c κs = search needs
+
+last-requires : tie.Need-last-requires
+last-requires c κs = search needs
+
+part-requires : tie.Need-part-requires
+part-requires c κs = search needs
+
+cast-head : tie.Need-cast-head
+cast-head c = search needs
+
+head-requires : tie.Need-head-requires
+head-requires c κs = search needs
+
+sub-write-frame : tie.Need-sub-write-frame
+sub-write-frame c = search (held-within, needs)
+
+write-frame-requires : tie.Need-write-frame-requires
+write-frame-requires c κs = search needs
+
+same-length : tie.Need-same-length
+same-length c = search needs
+
+returns : tie.Need-returns
+returns c = ⊎-elim (λ w. search (sent-write, ways, needs)) (λ w. search (sent-write, ways, needs)) (c .before .before .before .before .before .before .if1 .came)
+
+pub write-write-spec : {M : Type 1} → statement M
+write-write-spec =
+    tie.close
+    (tie.spec
+    size-requires
+    image-bytes-requires
+    last-requires
+    part-requires
+    cast-head
+    head-requires
+    sub-write-frame
+    write-frame-requires
+    same-length
+    returns)

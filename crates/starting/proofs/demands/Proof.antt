@@ -1,0 +1,19 @@
+use Rattle.starting.proofs.Ways.{demands-starts}
+use borrow.Author.Needs.{needs}
+use Rattle.starting.proofs.demands.Statement.{statement}
+use Rattle.starting.proofs.demands.Tie as tie
+
+none-requires : tie.Need-none-requires
+none-requires c κs = search needs
+
+no-walk-requires : tie.Need-no-walk-requires
+no-walk-requires c κs = search needs
+
+starts-requires : tie.Need-starts-requires
+starts-requires c κs = search needs
+
+returns : tie.Need-returns
+returns c = search (demands-starts, needs)
+
+pub demands-spec : {M : Type 1} → statement M
+demands-spec = tie.close (tie.spec none-requires no-walk-requires starts-requires returns)

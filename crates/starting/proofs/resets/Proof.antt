@@ -1,0 +1,22 @@
+use Rattle.lore.proofs.Choice.{ways}
+use Rattle.starting.specs.Starting.{resets}
+use borrow.Author.Needs.{needs}
+use Rattle.starting.proofs.resets.Statement.{statement}
+use Rattle.starting.proofs.resets.Tie as tie
+
+demands-requires : tie.Need-demands-requires
+demands-requires c κs = search needs
+
+returns : tie.Need-returns
+unfolding resets
+returns c = search (ways, needs)
+
+demands-requires-2 : tie.Need-demands-requires-2
+demands-requires-2 c κs = search needs
+
+returns-2 : tie.Need-returns-2
+unfolding resets
+returns-2 c = search (ways, needs)
+
+pub resets-spec : {M : Type 1} → statement M
+resets-spec = tie.close (tie.spec demands-requires returns demands-requires-2 returns-2)

@@ -1,0 +1,14 @@
+use Rattle.starting.specs.Starting.{startErase}
+use borrow.Author.Needs.{needs}
+use Rattle.starting.proofs.start_erase.Statement.{statement}
+use Rattle.starting.proofs.start_erase.Tie as tie
+
+demands-requires : tie.Need-demands-requires
+demands-requires c κs = search needs
+
+returns : tie.Need-returns
+unfolding startErase
+returns c = search needs
+
+pub start-erase-spec : {M : Type 1} → statement M
+start-erase-spec = tie.close (tie.spec demands-requires returns)

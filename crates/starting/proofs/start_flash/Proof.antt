@@ -1,0 +1,14 @@
+use Rattle.starting.specs.Starting.{startFlash}
+use borrow.Author.Needs.{needs}
+use Rattle.starting.proofs.start_flash.Statement.{statement}
+use Rattle.starting.proofs.start_flash.Tie as tie
+
+demands-requires : tie.Need-demands-requires
+demands-requires c κs = search needs
+
+returns : tie.Need-returns
+unfolding startFlash
+returns c = search needs
+
+pub start-flash-spec : {M : Type 1} → statement M
+start-flash-spec = tie.close (tie.spec demands-requires returns)

@@ -1,0 +1,14 @@
+use Rattle.starting.specs.Starting.{startInfo}
+use borrow.Author.Needs.{needs}
+use Rattle.starting.proofs.start_info.Statement.{statement}
+use Rattle.starting.proofs.start_info.Tie as tie
+
+demands-requires : tie.Need-demands-requires
+demands-requires c κs = search needs
+
+returns : tie.Need-returns
+unfolding startInfo
+returns c = search needs
+
+pub start-info-spec : {M : Type 1} → statement M
+start-info-spec = tie.close (tie.spec demands-requires returns)

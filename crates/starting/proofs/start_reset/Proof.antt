@@ -1,0 +1,14 @@
+use Rattle.starting.specs.Starting.{startReset}
+use borrow.Author.Needs.{needs}
+use Rattle.starting.proofs.start_reset.Statement.{statement}
+use Rattle.starting.proofs.start_reset.Tie as tie
+
+resets-requires : tie.Need-resets-requires
+resets-requires c κs = search needs
+
+returns : tie.Need-returns
+unfolding startReset
+returns c = search needs
+
+pub start-reset-spec : {M : Type 1} → statement M
+start-reset-spec = tie.close (tie.spec resets-requires returns)

@@ -1,0 +1,14 @@
+use Rattle.starting.specs.Starting.{startSetBaud}
+use borrow.Author.Needs.{needs}
+use Rattle.starting.proofs.start_set_baud.Statement.{statement}
+use Rattle.starting.proofs.start_set_baud.Tie as tie
+
+resets-requires : tie.Need-resets-requires
+resets-requires c κs = search needs
+
+returns : tie.Need-returns
+unfolding startSetBaud
+returns c = search needs
+
+pub start-set-baud-spec : {M : Type 1} → statement M
+start-set-baud-spec = tie.close (tie.spec resets-requires returns)
