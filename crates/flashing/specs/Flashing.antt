@@ -17,6 +17,7 @@ use Rattle.image.specs.Images.{paperInfo, shownInfo, shownKey, eraseAfter}
 use Rattle.pieces.specs.Pieces.{isLast, chunksTo, chunks}
 use Rattle.client.specs.declared.Job.{Job}
 use Rattle.client.specs.declared.Job.the-variants.{Erasing, Writing, Verifying}
+use Rattle.client.specs.declared.Outcome.{Outcome}
 use Rattle.client.specs.declared.Outcome.the-variants.{Quiet, Knows}
 use Rattle.client.specs.declared.Progress.the-variants.{None, Made}
 use Rattle.client.specs.declared.Purpose.{Purpose}

@@ -8,8 +8,6 @@ use image::Erase;
 use image::Info;
 use image::Informed;
 ghost use mathlib.Core.Path.{_≡_};
-ghost use lib.ListN.{length};
-ghost use Rattle.paper.specs.Frame.{check};
 ghost use Rattle.flashing.specs.Flashing.{quietly, refusing, erases, judged, prepared, informed, writes, cleared, erased, wrote, repeated, verified, accepted, declined};
 
 // The operation goes on with another job, has ended, or is refused.

@@ -3,10 +3,11 @@
 use Prim.Native.Nat.{ℕ}
 use mathlib.Core.Bool.{Bool, true, false}
 use mathlib.Core.List.{List}
-use mathlib.Core.Path.{_≡_, _∙_, ap}
+use mathlib.Core.Path.{_≡_, sym, _∙_}
 use lib.ListN.{length}
 use borrow.Author.Tests.{eq-eqb, ne-eqb}
 use Rattle.paper.specs.Hearing.{hear}
+use Rattle.lore.proofs.Choice.{cond-yes, cond-no}
 use Rattle.ids.specs.declared.Id.{Id}
 use Rattle.ids.specs.Ids.{noId}
 use Rattle.hearing.specs.declared.Heard.{Heard}
@@ -21,18 +22,23 @@ use Rattle.walk.specs.declared.Phase as Walk
 use Rattle.steps.specs.declared.Goes.{Goes}
 use Rattle.steps.specs.declared.Goes.the-variants.{On, Done, Stopped}
 use Rattle.steps.specs.Steps as Steps
+use Rattle.answering.specs.Answering.{tells}
 use Rattle.client.specs.declared.Phase.{Phase}
-use Rattle.client.specs.declared.Phase.the-variants.{Probing, Parting, Seeking, Backing, Walking}
+use Rattle.client.specs.declared.Phase.the-variants.{Select, Demand, Leave}
+use Rattle.client.specs.declared.Search.{Search}
+use Rattle.client.specs.declared.Search.the-variants.{Probing, Parting, Seeking, Backing, Walking}
+use Rattle.client.specs.declared.Job.{Job}
+use Rattle.client.specs.declared.Reset.{Reset}
 use Rattle.client.specs.declared.Turn.the-variants.{Idle, Ready, Waiting}
 use Rattle.client.specs.declared.Client.{Client}
-use Rattle.client.specs.declared.Refusal.the-variants.{Io, NoDevice, SeveralDevices, NoSuchUid, AmbiguousUid, NotAddressable, DuplicateUid, LongId, TableFull, OutOfTurn}
+use Rattle.client.specs.declared.Refusal.the-variants.{Io, NoDevice, SeveralDevices, NoSuchUid, AmbiguousUid, NotAddressable, DuplicateUid, LongId, TableFull, OtherImage, OutOfTurn}
 use Rattle.client.specs.declared.Outcome.the-variants as Outcome
 use Rattle.client.specs.declared.Says.{Says}
 use Rattle.client.specs.declared.Says.the-variants.{Over, Refused}
 use Rattle.client.specs.declared.Told.{Told}
-use Rattle.client.specs.Clients.{holding, cleared, refuses, over, stops, onward}
+use Rattle.client.specs.Clients.{otherImage, holding, cleared, refuses, over, stops, onward}
 use Rattle.client.proofs.Ways.{at-idle, at-ready, at-waiting}
-use Rattle.telling.specs.Telling.{attaches, met, backed, stopOf, walked, probed, hears, record′, linkFailed}
+use Rattle.telling.specs.Telling.{attaches, met, backed, stopOf, walked, probed, hears, answeredTo, record′, linkFailed}
 
 pub attaches-is : (c d : Client) (any : Bool) (x : Id) (t : Table) (at : ℕ) (r : Told) → d ≡ holding c any x → t ≡ noTable → r ≡ over d (Over (Outcome.Attached any)) x t at
     → r ≡ attaches c any x at
@@ -64,7 +70,7 @@ module _ (c : Client) (given : Bool) (h : Heard) (x : Id) (at : ℕ) (r : Told) 
   unfolding met
   met-unaddressed n e g en f = rw (e, g) (rw en at f)
 
-  pub met-garble : h ≡ Garble → r ≡ onward c (Backing given) (c .walk) at → r ≡ met c given h x at
+  pub met-garble : h ≡ Garble → r ≡ onward c (Select (Backing given)) (c .walk) at → r ≡ met c given h x at
   unfolding met
   met-garble e f = rw e f
 
@@ -95,7 +101,7 @@ module _ (n : ℕ) where
   stop-23 a b e = rw (ne-eqb n 12 a, ne-eqb n 14 b, ne-eqb n 15 e)
 
 module _ (c : Client) (g : Goes) (w : Walk) (at : ℕ) (r : Told) where
-  pub walked-on : (p : Walk.Phase) → g ≡ On p → r ≡ onward c (Walking p) w at → r ≡ walked c g w at
+  pub walked-on : (p : Walk.Phase) → g ≡ On p → r ≡ onward c (Select (Walking p)) w at → r ≡ walked c g w at
   unfolding walked
   walked-on p e f = rw e f
 
@@ -116,41 +122,58 @@ module _ (c : Client) (h : Heard) (x : Id) (at : ℕ) (r : Told) (b : Bool) (eb 
   unfolding probed
   probed-heard t e et f = rw (← eb, e) (rw et at f)
 
-module _ (c : Client) (p : Phase) (h : Heard) (x : Id) (at : ℕ) (r : Told) where
-  pub hears-probing : p ≡ Probing → r ≡ probed c h x at → r ≡ hears c p h x at
+module _ (c : Client) (s : Search) (h : Heard) (x : Id) (at : ℕ) (r : Told) where
+  pub hears-probing : s ≡ Probing → r ≡ probed c h x at → r ≡ hears c s h x at
   unfolding hears
   hears-probing e f = rw e f
 
-  pub hears-parting : (d : Client) → p ≡ Parting → d ≡ cleared c → r ≡ stops d (Over Outcome.Quiet) at → r ≡ hears c p h x at
+  pub hears-parting : (d : Client) → s ≡ Parting → d ≡ cleared c → r ≡ stops d (Over Outcome.Quiet) at → r ≡ hears c s h x at
   unfolding hears
   hears-parting d e ed f = rw e (rw ed at f)
 
-  pub hears-seeking : (given : Bool) → p ≡ Seeking given → r ≡ met c given h x at → r ≡ hears c p h x at
+  pub hears-seeking : (given : Bool) → s ≡ Seeking given → r ≡ met c given h x at → r ≡ hears c s h x at
   unfolding hears
   hears-seeking given e f = rw e f
 
-  pub hears-backing : (given : Bool) → p ≡ Backing given → r ≡ backed c given at → r ≡ hears c p h x at
+  pub hears-backing : (given : Bool) → s ≡ Backing given → r ≡ backed c given at → r ≡ hears c s h x at
   unfolding hears
   hears-backing given e f = rw e f
 
-  pub hears-walking : (q : Walk.Phase) (n : Next) → p ≡ Walking q → n ≡ Steps.step (c .walk) q h x → r ≡ walked c (n .goes) (n .walk) at → r ≡ hears c p h x at
+  pub hears-walking : (q : Walk.Phase) (n : Next) → s ≡ Walking q → n ≡ Steps.step (c .walk) q h x → r ≡ walked c (n .goes) (n .walk) at → r ≡ hears c s h x at
   unfolding hears
   hears-walking q n e en f = rw (e, ← en) f
 
+module _ (c : Client) (p : Phase) (image bytes : List ℕ) (r : Told) where
+  pub answered-select : (s : Search) (x : Hearing) → p ≡ Select s → x ≡ shownHeard (hear bytes) → r ≡ hears c s (x .heard) (x .id) (length bytes) → r ≡ answeredTo c p image bytes
+  unfolding answeredTo
+  answered-select s x e ex f = rw (e, ← ex) f
+
+  pub answered-demand : (j : Job) → p ≡ Demand j → r ≡ tells c j image bytes → r ≡ answeredTo c p image bytes
+  unfolding answeredTo
+  answered-demand j e f = rw e f
+
+  pub answered-leave : (reset : Reset) → p ≡ Leave reset → r ≡ stops c (Over Outcome.Quiet) (length bytes) → r ≡ answeredTo c p image bytes
+  unfolding answeredTo
+  answered-leave reset e f = rw e f
+
 module _ (c : Client) (r : Told) where
-  module _ (bytes : List ℕ) where
-    pub record-idle : c .turn ≡ Idle → r ≡ refuses c OutOfTurn → r ≡ record′ c bytes
+  module _ (image bytes : List ℕ) where
+    pub record-idle : c .turn ≡ Idle → r ≡ refuses c OutOfTurn → r ≡ record′ c image bytes
     unfolding record′
     record-idle e f = f ∙ at-idle (c .turn) _ _ _ e
 
-    pub record-ready : (p : Phase) → c .turn ≡ Ready p → r ≡ refuses c OutOfTurn → r ≡ record′ c bytes
+    pub record-ready : (p : Phase) → c .turn ≡ Ready p → r ≡ refuses c OutOfTurn → r ≡ record′ c image bytes
     unfolding record′
     record-ready p e f = f ∙ at-ready (c .turn) _ _ _ p e
 
-    pub record-heard : (p : Phase) (x : Hearing) → c .turn ≡ Waiting p → x ≡ shownHeard (hear bytes) → r ≡ hears c p (x .heard) (x .id) (length bytes) → r ≡ record′ c bytes
-    unfolding record′
-    record-heard p x e ex f =
-        f ∙ ap (λ (y : Hearing). hears c p (y .heard) (y .id) (length bytes)) ex ∙ at-waiting (c .turn) _ _ _ p e
+    module _ (p : Phase) (b : Bool) (e : c .turn ≡ Waiting p) (eb : b ≡ otherImage p (length image)) where
+      pub record-other : b ≡ true → r ≡ refuses c OtherImage → r ≡ record′ c image bytes
+      unfolding record′
+      record-other h f = cond-yes (otherImage p (length image)) _ _ r (sym eb ∙ h) f ∙ at-waiting (c .turn) _ _ _ p e
+
+      pub record-heard : b ≡ false → r ≡ answeredTo c p image bytes → r ≡ record′ c image bytes
+      unfolding record′
+      record-heard h f = cond-no (otherImage p (length image)) _ _ r (sym eb ∙ h) f ∙ at-waiting (c .turn) _ _ _ p e
 
   pub failed-idle : c .turn ≡ Idle → r ≡ refuses c OutOfTurn → r ≡ linkFailed c
   unfolding linkFailed

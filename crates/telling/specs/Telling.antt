@@ -27,7 +27,6 @@ use Rattle.client.specs.declared.Outcome.the-variants as Outcome
 use Rattle.client.specs.declared.Says.{Says}
 use Rattle.client.specs.declared.Says.the-variants.{Over, Refused}
 use Rattle.client.specs.declared.Told.{Told}
-use Rattle.client.specs.declared.Attached.{Attached}
 use Rattle.client.specs.Clients.{onTurn, onPhase, onSearch, otherImage, holding, cleared, refuses, over, stops, onward}
 
 abbrev pub onGoes {ℓ} : {A : Type ℓ} → Goes → (Walk.Phase → A) → A → (ℕ → A) → A

@@ -18,20 +18,20 @@ cleared-requires c κs = search needs
 stops-requires : tie.Need-stops-requires
 stops-requires c κs = search needs
 
-enum-known-phase : tie.Need-enum-known-phase
-enum-known-phase c = search needs
+enum-known-search : tie.Need-enum-known-search
+enum-known-search c = search needs
 
 met-requires : tie.Need-met-requires
 met-requires c κs = search needs
 
-enum-known-phase-2 : tie.Need-enum-known-phase-2
-enum-known-phase-2 c = search needs
+enum-known-search-2 : tie.Need-enum-known-search-2
+enum-known-search-2 c = search needs
 
 backed-requires : tie.Need-backed-requires
 backed-requires c κs = search needs
 
-enum-known-phase-3 : tie.Need-enum-known-phase-3
-enum-known-phase-3 c = search needs
+enum-known-search-3 : tie.Need-enum-known-search-3
+enum-known-search-3 c = search needs
 
 step-requires : tie.Need-step-requires
 step-requires c κs = search needs
@@ -63,11 +63,11 @@ hears-spec =
     enum-told-2
     cleared-requires
     stops-requires
-    enum-known-phase
+    enum-known-search
     met-requires
-    enum-known-phase-2
+    enum-known-search-2
     backed-requires
-    enum-known-phase-3
+    enum-known-search-3
     step-requires
     walked-requires
     returns

@@ -1,4 +1,4 @@
-use Rattle.telling.proofs.Ways.{record-idle, record-ready, record-heard}
+use Rattle.telling.proofs.Ways.{record-other, record-idle, record-ready, record-heard}
 use borrow.Author.Needs.{needs}
 use Rattle.telling.proofs.record.Statement.{statement}
 use Rattle.telling.proofs.record.Tie as tie
@@ -18,20 +18,26 @@ refuses-requires-2 c κs = search needs
 enum-known-t : tie.Need-enum-known-t
 enum-known-t c = search needs
 
-hear-requires : tie.Need-hear-requires
-hear-requires c κs = search needs
+other-image-requires : tie.Need-other-image-requires
+other-image-requires c κs = search needs
 
-hears-requires : tie.Need-hears-requires
-hears-requires c κs = search needs
+refuses-requires-3 : tie.Need-refuses-requires-3
+refuses-requires-3 c κs = search needs
 
 returns : tie.Need-returns
-returns c = search (record-idle, needs)
+returns c = search (record-other, needs)
+
+answered-requires : tie.Need-answered-requires
+answered-requires c κs = search needs
 
 returns-2 : tie.Need-returns-2
-returns-2 c = search (record-ready, needs)
+returns-2 c = search (record-idle, needs)
 
 returns-3 : tie.Need-returns-3
-returns-3 c = search (record-heard, needs)
+returns-3 c = search (record-ready, needs)
+
+returns-4 : tie.Need-returns-4
+returns-4 c = search (record-heard, needs)
 
 pub record-spec : {M : Type 1} → statement M
 record-spec =
@@ -42,8 +48,10 @@ record-spec =
     enum-told-2
     refuses-requires-2
     enum-known-t
-    hear-requires
-    hears-requires
+    other-image-requires
+    refuses-requires-3
     returns
+    answered-requires
     returns-2
-    returns-3)
+    returns-3
+    returns-4)
