@@ -8,4 +8,5 @@ pub mod Bits
 pub mod Hex
 pub mod Frames
 pub mod Readings
+pub mod Answered
 pub mod Packed
