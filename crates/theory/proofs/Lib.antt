@@ -27,3 +27,5 @@ pub mod Keeping
 pub mod Holding
 pub mod Condition3
 pub mod Examples
+pub mod Conversations
+pub mod FlashOrder
