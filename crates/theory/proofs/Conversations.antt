@@ -6,6 +6,7 @@ use mathlib.Core.List.{List, [], _∷_}
 use mathlib.Core.Option.{Option, none, some}
 use mathlib.Core.Path.{_≡_, refl}
 use Rattle.paper.specs.Answers.{Reply, ok, device}
+use Rattle.paper.specs.Count.{All}
 use Rattle.paper.specs.Hearing.{onSome}
 use Rattle.paper.specs.Talk.{Demand, Ask, demand, Answer, Talk, return, stop, report, ask, _>>=_, _>>_, each}
 use Rattle.paper.specs.Flash.{accepted, transact, unless}
@@ -86,3 +87,23 @@ module _ (R : Past → Ask → Type 0) where
   all-asked Q P z f g [] (refused c carries) h = z
   all-asked Q P z f g (x ∷ past) (returned a) h = g past x (h .0 .0)
   all-asked Q P z f g (x ∷ past) (refused c carries) h = g past x (h .0 .0)
+
+  pub each-asked : {A : Type 0} (Q : Past → A → Type 0) (P : Ask → Type 0) → ((past : Past) (q : Ask) → R past q → P q)
+      → (past : Past) (s : Stand A) → Kept R past × Stands R Q past s → All P (everything (past, s))
+  each-asked {A} Q P f past s h = go s (h .1)
+    where
+      before : (past : Past) → Kept R past → All P (asks past)
+      before [] k = tt
+      before (x ∷ past) k = (f past (x .asked) (k .0), before past (k .1))
+
+      go : (s : Stand A) → Stands R Q past s → All P (everything (past, s))
+      go (returned a) i = before past (h .0)
+      go (refused c carries) i = before past (h .0)
+      go (pending q) i = (f past q i, before past (h .0))
+
+pub bind-assoc : {A B C : Type 0} (m : Talk A) (f : A → Talk B) (g : B → Talk C) → m >>= f >>= g ≡ m >>= (λ a. f a >>= g)
+unfolding _>>=_
+bind-assoc (return a) f g = refl
+bind-assoc (stop c v) f g = refl
+bind-assoc (report a b m) f g = λ i. report a b (bind-assoc m f g i)
+bind-assoc (ask q m) f g = λ i. ask q (λ x. bind-assoc (m x) f g i)

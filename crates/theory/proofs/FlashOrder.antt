@@ -24,7 +24,7 @@ use Rattle.theory.proofs.Images.{chunk-least}
 abbrev met : Demand → Reply → List ℕ → Exchange
 met d r image = record { asked = demand d; answer = record { reply = r; image = image } }
 
-told-still : (x : Exchange) (past : Past) (i : Info × List ℕ) → told past ≡ some i → told (x ∷ past) ≡ some i
+pub told-still : (x : Exchange) (past : Past) (i : Info × List ℕ) → told past ≡ some i → told (x ∷ past) ≡ some i
 unfolding told
 told-still x past i e = rw e
 
@@ -35,15 +35,18 @@ planned-is past i e = rw e
 front-part : (all xs ys : List ℕ) → xs ++ ys ≡ all → FrontOf all xs
 front-part all xs ys e = sym (take-append-seam xs ys) ∙ ap (take (length xs)) e
 
-sound-payload : (info : Info) → sound info ≡ true → 4 ≤ info .maxPayload
+pub sound-parts : (info : Info) → sound info ≡ true → (0 < info .eraseSize) × (4 ≤ info .maxPayload)
 unfolding sound
-sound-payload info h = go (ltb 0 (info .eraseSize)) (ltb 0 (info .capacity)) (leb 4 (info .maxPayload)) refl h
+sound-parts info h = go (ltb 0 (info .eraseSize)) (ltb 0 (info .capacity)) (leb 4 (info .maxPayload)) refl refl h
   where
-    go : (a b c : Bool) → leb 4 (info .maxPayload) ≡ c → (a && (b && c)) ≡ true → 4 ≤ info .maxPayload
-    go true true true e h = leb-true 4 (info .maxPayload) e
-    go true true false e h = absurd (false≢true h)
-    go true false c e h = absurd (false≢true h)
-    go false b c e h = absurd (false≢true h)
+    go : (a b c : Bool) → ltb 0 (info .eraseSize) ≡ a → leb 4 (info .maxPayload) ≡ c → (a && (b && c)) ≡ true → (0 < info .eraseSize) × (4 ≤ info .maxPayload)
+    go true true true d e h = (ltb-true 0 (info .eraseSize) d, leb-true 4 (info .maxPayload) e)
+    go true true false d e h = absurd (false≢true h)
+    go true false c d e h = absurd (false≢true h)
+    go false b c d e h = absurd (false≢true h)
+
+pub chunk-positive : (info : Info) → sound info ≡ true → 4 ≤ chunk (info .maxPayload)
+chunk-positive info h = chunk-least (info .maxPayload) (sound-parts info h .1)
 
 pub informed-sound : (payload : List ℕ) (info : Info) → informed payload ≡ some info → sound info ≡ true
 unfolding informed
@@ -348,7 +351,7 @@ module _ (n : ℕ) where
         record {
           offset = 0;
           passed = record { image = image; tells = h .tells; fits = fits; suits = suits; spans = spans };
-          positive = omega (arith, chunk-least (info .maxPayload) (sound-payload info s));
+          positive = omega (arith, chunk-positive info s);
           cleared = sym (append-nil (erased past)) ∙ h .so-far;
           same = h .same;
           rest = refl;

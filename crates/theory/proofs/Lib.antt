@@ -29,3 +29,6 @@ pub mod Condition3
 pub mod Examples
 pub mod Conversations
 pub mod FlashOrder
+pub mod FlashBound
+pub mod FlashBytes
+pub mod FlashVerify

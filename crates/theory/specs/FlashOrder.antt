@@ -1,6 +1,6 @@
 -- The order of an operation, over any replies: what may be asked after what has been asked and answered.
 -- Assumes nothing.
-use Prim.Native.Nat.{ℕ, _+_, _≤_}
+use Prim.Native.Nat.{ℕ, _+_, _*_, _≤_}
 use mathlib.Core.Bool.{Bool, true, false, _&&_, cond}
 use mathlib.Core.List.{List, [], _∷_, _++_, map}
 use mathlib.Core.Option.{Option, none, some}
@@ -9,7 +9,7 @@ use lib.Dec.{eqb}
 use lib.ListN.{length, take}
 use Rattle.paper.specs.Frame.{field, check, Info, command-Info, command-Erase, command-Write, command-Verify}
 use Rattle.paper.specs.Hearing.{onSome}
-use Rattle.paper.specs.Answers.{Reply, ok, device, informed, tooLarge, incompatible, spansTooFar, eraseAddresses, padded}
+use Rattle.paper.specs.Answers.{Reply, ok, device, informed, steps, tooLarge, incompatible, spansTooFar, eraseAddresses, chunk, padded}
 use Rattle.paper.specs.Talk.{Payload, these, piece, Demand, Ask, select, demand, leave, Answered, Answer, Talk, return, stop, report, ask, Outcome, knows}
 use Rattle.paper.specs.Flash.{writeRequest, verifyRequest}
 use Rattle.paper.specs.Client.{reading}
@@ -203,3 +203,24 @@ pub record Flashed (n : ℕ) (past : Past) (o : Outcome) : Type 0 where
   pub all : written past ≡ padded n
   pub verified : Verified n past
   pub result : o ≡ knows (may .info)
+
+-- No request is out.
+abbrev pub Ended : {A : Type 0} → Stand A → Type 0
+Ended (returned a) = Unit {0}
+Ended (refused c carries) = Unit {0}
+Ended (pending q) = ⊥
+
+-- After these events at most k requests have been asked, the one that is out included; and k events are enough to end.
+pub record Bounded {A : Type 0} (k : ℕ) (es : List Event) (r : Past × Stand A) : Type 0 where
+  pub few : length (everything r) ≤ k
+  pub ends : k ≤ length es → Ended (r .1)
+
+-- One request before the information is known, and so many after it.
+unfoldable pub most : (Info → ℕ) → Option (Info × List ℕ) → ℕ
+most b i = onSome i 1 (λ i. 1 + b (i .0))
+
+unfoldable pub erasesMost : Info → ℕ
+erasesMost info = steps (info .eraseSize) (info .capacity)
+
+unfoldable pub flashMost : ℕ → Info → ℕ
+flashMost n info = erasesMost info + (17 * steps (chunk (info .maxPayload)) (padded n) + 1)
