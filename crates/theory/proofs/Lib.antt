@@ -32,3 +32,4 @@ pub mod FlashOrder
 pub mod FlashBound
 pub mod FlashBytes
 pub mod FlashVerify
+pub mod Rests
