@@ -10,7 +10,7 @@ use Rattle.paper.specs.Count.{All}
 use Rattle.paper.specs.Hearing.{onSome}
 use Rattle.paper.specs.Talk.{Demand, Ask, demand, Answer, Talk, return, stop, report, ask, _>>=_, _>>_, each}
 use Rattle.paper.specs.Flash.{accepted, transact, unless}
-use Rattle.theory.specs.FlashOrder.{Exchange, Past, Event, Stand, returned, refused, pending, readEvent, play, asks, everything, Kept, Stands}
+use Rattle.theory.specs.FlashOrder.{Exchange, met, Past, Event, Stand, returned, refused, pending, readEvent, play, asks, everything, Kept, Stands}
 
 -- Whatever is answered: each request is as R says of the past and of it, and a value returned is as Q says.
 abbrev pub Always : {A : Type 0} → (Past → Ask → Type 0) → (Past → A → Type 0) → Past → Talk A → Type 0
@@ -51,12 +51,12 @@ module _ (R : Past → Ask → Type 0) where
   -- Only Ok goes on.
   pub always-transact : {B : Type 0} (S : Past → B → Type 0) (past : Past) (d : Demand) (f : List ℕ × List ℕ → Talk B)
       → R past (demand d)
-      → ((payload image : List ℕ) → Always R S (record { asked = demand d; answer = record { reply = ok payload; image = image } } ∷ past) (f (payload, image)))
+      → ((payload image : List ℕ) → Always R S (met d (ok payload) image ∷ past) (f (payload, image)))
       → Always R S past (transact d >>= f)
   unfolding transact accepted _>>=_
   always-transact S past d f r g = (r, λ a. go (a .reply) (a .image))
     where
-      go : (r : Reply) (image : List ℕ) → Always R S (record { asked = demand d; answer = record { reply = r; image = image } } ∷ past) (accepted r image >>= f)
+      go : (r : Reply) (image : List ℕ) → Always R S (met d r image ∷ past) (accepted r image >>= f)
       go (ok payload) image = g payload image
       go (device status) image = tt
 
@@ -81,25 +81,25 @@ module _ (R : Past → Ask → Type 0) where
   -- What follows of all that was asked, the request that is out included.
   pub all-asked : {A : Type 0} (Q : Past → A → Type 0) (P : Past → List Ask → Type 0) → P [] []
       → ((past : Past) (q : Ask) → R past q → P past (q ∷ asks past)) → ((past : Past) (x : Exchange) → R past (x .asked) → P (x ∷ past) (asks (x ∷ past)))
-      → (past : Past) (s : Stand A) → Kept R past × Stands R Q past s → P past (everything (past, s))
-  all-asked Q P z f g past (pending q) h = f past q (h .1)
-  all-asked Q P z f g [] (returned a) h = z
-  all-asked Q P z f g [] (refused c carries) h = z
-  all-asked Q P z f g (x ∷ past) (returned a) h = g past x (h .0 .0)
-  all-asked Q P z f g (x ∷ past) (refused c carries) h = g past x (h .0 .0)
+      → (r : Past × Stand A) → Kept R (r .0) × Stands R Q (r .0) (r .1) → P (r .0) (everything r)
+  all-asked Q P z f g (past, pending q) h = f past q (h .1)
+  all-asked Q P z f g ([], returned a) h = z
+  all-asked Q P z f g ([], refused c carries) h = z
+  all-asked Q P z f g (x ∷ past, returned a) h = g past x (h .0 .0)
+  all-asked Q P z f g (x ∷ past, refused c carries) h = g past x (h .0 .0)
 
   pub each-asked : {A : Type 0} (Q : Past → A → Type 0) (P : Ask → Type 0) → ((past : Past) (q : Ask) → R past q → P q)
-      → (past : Past) (s : Stand A) → Kept R past × Stands R Q past s → All P (everything (past, s))
-  each-asked {A} Q P f past s h = go s (h .1)
+      → (r : Past × Stand A) → Kept R (r .0) × Stands R Q (r .0) (r .1) → All P (everything r)
+  each-asked {A} Q P f (past, s) (k, h) = go s h
     where
       before : (past : Past) → Kept R past → All P (asks past)
       before [] k = tt
       before (x ∷ past) k = (f past (x .asked) (k .0), before past (k .1))
 
       go : (s : Stand A) → Stands R Q past s → All P (everything (past, s))
-      go (returned a) i = before past (h .0)
-      go (refused c carries) i = before past (h .0)
-      go (pending q) i = (f past q i, before past (h .0))
+      go (returned a) h = before past k
+      go (refused c carries) h = before past k
+      go (pending q) h = (f past q h, before past k)
 
 pub bind-assoc : {A B C : Type 0} (m : Talk A) (f : A → Talk B) (g : B → Talk C) → m >>= f >>= g ≡ m >>= (λ a. f a >>= g)
 unfolding _>>=_

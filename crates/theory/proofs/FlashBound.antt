@@ -15,7 +15,7 @@ use Rattle.paper.specs.Hearing.{onSome}
 use Rattle.paper.specs.Answers.{Reply, ok, device, sound, informed, steps, spansTooFar, apart, below, eraseAddresses, tooLarge, reported, incompatible, chunk, padded}
 use Rattle.paper.specs.Talk.{Demand, demand, Answered, Answer, Talk, return, stop, report, ask, _>>=_, _>>_, each}
 use Rattle.paper.specs.Flash.{accepted, transact, unless, infoRequest, keys, inform, eraseOne, eraseAll, repeated, persist, writeWithin, writeOne, offsets, writeAll, verify, known, informOnly, erase, prepare, flash, reset}
-use Rattle.theory.specs.FlashOrder.{Exchange, Past, Event, Stand, refused, readEvent, play, everything, toldBy, toldIn, told, Ended, Bounded, most, erasesMost, flashMost}
+use Rattle.theory.specs.FlashOrder.{Exchange, met, Past, Event, Stand, refused, readEvent, play, everything, toldBy, toldIn, told, Ended, Bounded, most, erasesMost, flashMost}
 use Rattle.theory.proofs.Conversations.{bind-assoc}
 use Rattle.theory.proofs.FlashOrder.{told-still, sound-parts, chunk-positive, informed-sound}
 use Rattle.theory.proofs.Images.{padded-multiple}
@@ -128,11 +128,11 @@ module _ {A : Type 0} (g : Info × List ℕ → Talk A) where
           rw (told-play i (g i) es (x ∷ []) t) (record { few = omega (arith, w .0); ends = λ l. w .1 (omega arith) })
 
       informs : (payload image : List ℕ) (o : Option Info) → informed payload ≡ o
-          → Fine (play (onSome o (stop 5 []) (λ info. return (info, image)) >>= g) es (record { asked = demand infoRequest; answer = record { reply = ok payload; image = image } } ∷ []))
+          → Fine (play (onSome o (stop 5 []) (λ info. return (info, image)) >>= g) es (met infoRequest (ok payload) image ∷ []))
       informs payload image none q = rw q (record { few = omega arith; ends = λ _. tt })
       informs payload image (some info) q = known-fine _ (info, image) (rw q)
 
-      answers : (r : Reply) (image : List ℕ) → Fine (play (after (record { reply = r; image = image })) es (record { asked = demand infoRequest; answer = record { reply = r; image = image } } ∷ []))
+      answers : (r : Reply) (image : List ℕ) → Fine (play (after (record { reply = r; image = image })) es (met infoRequest r image ∷ []))
       answers (ok payload) image = informs payload image (informed payload) refl
       answers (device status) image = record { few = omega arith; ends = λ _. tt }
 
@@ -228,13 +228,14 @@ erases-most info h s =
       le-mul-of-pos-right (steps (info .eraseSize) (info .capacity)) (sound-parts info h .0),
     )
 
-writes-most : (info : Info) (n : ℕ) → sound info ≡ true → steps (chunk (info .maxPayload)) (padded n) ≤ padded n / 4
+steps-most : (c p q : ℕ) → 4 ≤ c → p ≤ 4 * q → steps c p ≤ q
 unfolding steps
-writes-most info n h =
-    let c : 4 ≤ chunk (info .maxPayload) = chunk-positive info h in
-    let less : (padded n + (chunk (info .maxPayload) - 1)) / chunk (info .maxPayload) < padded n / 4 + 1 =
-    div-lt-iff-lt-mul {k = chunk (info .maxPayload)} {x = padded n + (chunk (info .maxPayload) - 1)} {y = padded n / 4 + 1} (omega arith) .1 (omega (arith, padded-multiple n, mul-le-mul-left (padded n / 4) c)) in
+steps-most c p q h l =
+    let less : (p + (c - 1)) / c < q + 1 = div-lt-iff-lt-mul {k = c} {x = p + (c - 1)} {y = q + 1} (omega arith) .1 (omega (arith, mul-le-mul-left q h)) in
     omega arith
+
+writes-most : (info : Info) (n : ℕ) → sound info ≡ true → steps (chunk (info .maxPayload)) (padded n) ≤ padded n / 4
+writes-most info n h = steps-most (chunk (info .maxPayload)) (padded n) (padded n / 4) (chunk-positive info h) (omega (arith, padded-multiple n))
 
 pub erase-ends : (es : List Event) → Bounded (suc 0xFFFFFFFF) es (play erase es [])
 unfolding erase

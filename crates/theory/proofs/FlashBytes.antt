@@ -9,10 +9,10 @@ use Rattle.lore.proofs.Lists.{drop-replicate, take-replicate, take-append, drop
 use Rattle.paper.specs.Frame.{Info, most, command-Write}
 use Rattle.paper.specs.Answers.{padding, padded}
 use Rattle.paper.specs.Count.{All}
-use Rattle.paper.specs.Talk.{piece, Ask, select, demand, leave}
+use Rattle.paper.specs.Talk.{piece, Demand, Ask, select, demand, leave}
 use Rattle.paper.specs.Flash.{writeSize, writeRequest, flash}
 use Rattle.paper.specs.Client.{payloadOf}
-use Rattle.theory.specs.FlashOrder.{Past, Event, play, everything, carried, written, Ordered, Allowed, Flashed}
+use Rattle.theory.specs.FlashOrder.{Past, Event, play, everything, carried, written, InOrder, toInform, toErase, toWrite, toVerify, Ordered, Allowed, Flashed}
 use Rattle.theory.proofs.FlashOrder.{write-size, flash-in-order}
 use Rattle.theory.proofs.Conversations.{each-asked}
 use Rattle.theory.proofs.Images.{chunk-most}
@@ -64,13 +64,19 @@ CarriesIn image (select p) = Unit {0}
 CarriesIn image (demand d) = d .command ≡ command-Write → Carries image (d .address) (carried (d .payload)) (payloadOf (d .payload) image)
 CarriesIn image (leave d) = Unit {0}
 
-carries-in : (image : List ℕ) (past : Past) (q : Ask) → Ordered (length image) past q → CarriesIn image q
+carries-demand : (image : List ℕ) (past : Past) (d : Demand) → InOrder (length image) past d → CarriesIn image (demand d)
 unfolding carried
+carries-demand image past d (toInform _ e) w = absurd (let z : _≡_ {A = ℕ} 0 2 = cc in omega arith)
+carries-demand image past d (toErase _ e) w = absurd (let z : _≡_ {A = ℕ} 1 2 = ap (λ (d : Demand). d .command) (sym e) ∙ w in omega arith)
+carries-demand image past d (toWrite may e) w = rw e (write-carries (may .info) image (written past))
+carries-demand image past d (toVerify _ _ e) w = absurd (let z : _≡_ {A = ℕ} 3 2 = cc in omega arith)
+
+carries-in : (image : List ℕ) (past : Past) (q : Ask) → Ordered (length image) past q → CarriesIn image q
 carries-in image past (select p) h = tt
-carries-in image past (demand d) h = λ w. rw (h .toWrite w .1) (write-carries (h .toWrite w .0 .info) image (written past))
+carries-in image past (demand d) h = carries-demand image past d h
 carries-in image past (leave d) h = tt
 
 pub flash-carries : (image : List ℕ) (es : List Event) → All (CarriesIn image) (everything (play (flash (length image)) es []))
 flash-carries image es =
     each-asked (Allowed (length image)) (Flashed (length image)) (CarriesIn image) (λ past q h. carries-in image past q (h .ordered))
-    (play (flash (length image)) es [] .0) (play (flash (length image)) es [] .1) (flash-in-order (length image) es)
+    (play (flash (length image)) es []) (flash-in-order (length image) es)

@@ -16,13 +16,9 @@ use Rattle.paper.specs.Hearing.{onSome}
 use Rattle.paper.specs.Answers.{Reply, ok, device, sound, informed, spansTooFar, eraseAddresses, tooLarge, incompatible, chunk, padded, below}
 use Rattle.paper.specs.Talk.{Demand, Ask, demand, return, stop, Outcome, knows}
 use Rattle.paper.specs.Flash.{infoRequest, eraseRequest, writeSize, writeRequest, verifyRequest, inform, eraseOne, eraseAll, prepare, repeated, persist, writeWithin, writeOne, offsets, writeAll, verify, erase, flash, known}
-use Rattle.theory.specs.FlashOrder.{Exchange, Past, Event, play, asks, everything, toldBy, toldIn, told, isOk, carried, wroteIn, written, erasedIn, erased, eraseIn, erases, writeIn, writesAt, planned, FrontOf, Passed, MayWrite, Fronts, Front, Allowed, Kept, Stands, Flashed}
+use Rattle.theory.specs.FlashOrder.{Exchange, met, Past, Event, play, asks, everything, toldBy, toldIn, told, isOk, carried, wroteIn, written, erasedIn, erased, eraseIn, erases, writeIn, writesAt, planned, FrontOf, Passed, MayWrite, toInform, toErase, toWrite, toVerify, Fronts, Front, Allowed, Kept, Stands, Flashed}
 use Rattle.theory.proofs.Conversations.{Always, always-bind, always-each, always-unless, always-test, always-transact, play-kept, all-asked}
 use Rattle.theory.proofs.Images.{chunk-least}
-
--- A request with one answer, answered.
-abbrev met : Demand → Reply → List ℕ → Exchange
-met d r image = record { asked = demand d; answer = record { reply = r; image = image } }
 
 pub told-still : (x : Exchange) (past : Past) (i : Info × List ℕ) → told past ≡ some i → told (x ∷ past) ≡ some i
 unfolding told
@@ -209,7 +205,7 @@ module _ (n : ℕ) where
     unfolding writesAt writeIn
     here-few t past h a =
         let f = at-first (suc t) past h in
-        counted x a (writesAt a (asks past)) (λ e. let s : writesAt a (asks past) ≡ writesAt (h .offset) (asks past) = ap (λ (b : ℕ). writesAt b (asks past)) (sym e ∙ f .same) in omega (arith, h .here)) (h .few a)
+        counted x a (writesAt a (asks past)) (λ e. omega (arith, h .here, ap (λ (b : ℕ). writesAt b (asks past)) (sym e ∙ f .same))) (h .few a)
 
     may-write : (t : ℕ) (past : Past) → Writing info (x ∷ xs) (suc t) past → Allowed n past (demand req)
     unfolding erases eraseIn
@@ -217,12 +213,7 @@ module _ (n : ℕ) where
         let f = at-first (suc t) past h in
         let at : x ≡ written past = omega (arith, f .same, f .inside, h .total) in
         record {
-          ordered =
-              record {
-                toErase = λ e. absurd (omega arith);
-                toWrite = λ _. (record { info = info; passed = h .passed; cleared = h .cleared }, ap (writeRequest info n) at);
-                toVerify = λ e. absurd (omega arith);
-              };
+          ordered = toWrite (record { info = info; passed = h .passed; cleared = h .cleared }) (ap (writeRequest info n) at);
           front = cleared-front past info (h .passed) (h .cleared) (h .same);
           few = here-few t past h;
         }
@@ -294,7 +285,7 @@ module _ (n : ℕ) where
   verify-always info past h =
       always-transact (Allowed n) Done past (verifyRequest n) _
       (record {
-        ordered = record { toErase = λ e. absurd (omega arith); toWrite = λ e. absurd (omega arith); toVerify = λ _. (may, total) };
+        ordered = toVerify may total refl;
         front = cleared-front past info (h .passed) (h .cleared) (h .same);
         few = λ a. omega (arith, h .few a);
       })
@@ -321,7 +312,7 @@ module _ (n : ℕ) where
   unfolding erases eraseIn writesAt writeIn
   info-allowed =
       record {
-        ordered = record { toErase = λ e. absurd (omega arith); toWrite = λ e. absurd (omega arith); toVerify = λ e. absurd (omega arith) };
+        ordered = toInform refl refl;
         front = refl;
         few = λ a. omega arith;
       }
@@ -335,12 +326,7 @@ module _ (n : ℕ) where
     unfolding erases eraseIn writesAt writeIn
     erase-allowed spans x xs past h =
         record {
-          ordered =
-              record {
-                toErase = λ _. record { info = info; passed = record { image = image; tells = h .tells; fits = fits; suits = suits; spans = spans } };
-                toWrite = λ e. absurd (omega arith);
-                toVerify = λ e. absurd (omega arith);
-              };
+          ordered = toErase (record { info = info; passed = record { image = image; tells = h .tells; fits = fits; suits = suits; spans = spans } }) refl;
           front = erasing-front info image x xs past h;
           few = λ a. omega (arith, h .none a);
         }
@@ -401,13 +387,13 @@ front-still past x h = go (told past) h
 pub flash-erases-front : (n : ℕ) (es : List Event) → Fronts (play (flash n) es [] .0) (everything (play (flash n) es []))
 unfolding erases
 flash-erases-front n es =
-    all-asked (Allowed n) (Flashed n) Fronts refl (λ past q h. h .front) (λ past x h. front-still past x (h .front)) (play (flash n) es [] .0) (play (flash n) es [] .1) (flash-in-order n es)
+    all-asked (Allowed n) (Flashed n) Fronts refl (λ past q h. h .front) (λ past x h. front-still past x (h .front)) (play (flash n) es []) (flash-in-order n es)
 
 -- At most 17 Writes have one address.
 pub flash-writes-few : (n : ℕ) (es : List Event) (a : ℕ) → writesAt a (everything (play (flash n) es [])) ≤ 17
 unfolding writesAt
 flash-writes-few n es a =
-    all-asked (Allowed n) (Flashed n) (λ past qs. writesAt a qs ≤ 17) (omega arith) (λ past q h. h .few a) (λ past x h. h .few a) (play (flash n) es [] .0) (play (flash n) es [] .1) (flash-in-order n es)
+    all-asked (Allowed n) (Flashed n) (λ past qs. writesAt a qs ≤ 17) (omega arith) (λ past q h. h .few a) (λ past x h. h .few a) (play (flash n) es []) (flash-in-order n es)
 
 module _ (es : List Event) where
   abbrev Any : Past → Outcome → Type 0
@@ -422,4 +408,4 @@ module _ (es : List Event) where
   pub erase-erases-front : Fronts (play erase es [] .0) (everything (play erase es []))
   unfolding erases
   erase-erases-front =
-      all-asked Front Any Fronts refl (λ past q h. h) front-still (play erase es [] .0) (play erase es [] .1) (play-kept Front Any erase es [] erase-always tt)
+      all-asked Front Any Fronts refl (λ past q h. h) front-still (play erase es []) (play-kept Front Any erase es [] erase-always tt)

@@ -7,17 +7,20 @@ use mathlib.Core.Option.{Option, none, some}
 use mathlib.Core.Path.{_≡_}
 use lib.Dec.{eqb}
 use lib.ListN.{length, take}
-use Rattle.paper.specs.Frame.{field, check, Info, command-Info, command-Erase, command-Write, command-Verify}
+use Rattle.paper.specs.Frame.{field, check, Info, command-Info, command-Erase, command-Write}
 use Rattle.paper.specs.Hearing.{onSome}
 use Rattle.paper.specs.Answers.{Reply, ok, device, informed, steps, tooLarge, incompatible, spansTooFar, eraseAddresses, chunk, padded}
 use Rattle.paper.specs.Talk.{Payload, these, piece, Demand, Ask, select, demand, leave, Answered, Answer, Talk, return, stop, report, ask, Outcome, knows}
-use Rattle.paper.specs.Flash.{writeRequest, verifyRequest}
+use Rattle.paper.specs.Flash.{infoRequest, eraseRequest, writeRequest, verifyRequest}
 use Rattle.paper.specs.Client.{reading}
 
 -- A request and its answer.
 pub record Exchange : Type 0 where
   pub asked : Ask
   pub answer : Answer asked
+
+abbrev pub met : Demand → Reply → List ℕ → Exchange
+met d r image = record { asked = demand d; answer = record { reply = r; image = image } }
 
 -- What has been asked and answered, the latest first.
 abbrev pub Past : Type 0
@@ -144,11 +147,12 @@ pub record MayWrite (n : ℕ) (past : Past) : Type 0 where
   pub passed : Passed n past info
   pub cleared : erased past ≡ eraseAddresses info
 
--- What a flash of an image of n bytes may demand: the next Write is the one that follows on the bytes that were taken.
-pub record InOrder (n : ℕ) (past : Past) (d : Demand) : Type 0 where
-  pub toErase : d .command ≡ command-Erase → MayErase n past
-  pub toWrite : d .command ≡ command-Write → (may : MayWrite n past) × (d ≡ writeRequest (may .info) n (written past))
-  pub toVerify : d .command ≡ command-Verify → MayWrite n past × (written past ≡ padded n)
+-- What a flash of an image of n bytes may demand: the Info, first of all; an Erase; the Write that follows on the bytes taken; the Verify.
+pub data InOrder (n : ℕ) (past : Past) (d : Demand) : Type 0 where
+  toInform : past ≡ [] → d ≡ infoRequest → InOrder n past d
+  toErase : (may : MayErase n past) → d ≡ eraseRequest (may .info) (d .address) → InOrder n past d
+  toWrite : (may : MayWrite n past) → d ≡ writeRequest (may .info) n (written past) → InOrder n past d
+  toVerify : MayWrite n past → written past ≡ padded n → d ≡ verifyRequest n → InOrder n past d
 
 abbrev pub Ordered : ℕ → Past → Ask → Type 0
 Ordered n past (select p) = ⊥
