@@ -19,6 +19,7 @@ pub mod Most
 pub mod Kept
 pub mod Refine
 pub mod Fits
+pub mod Conversations
 pub mod Resuming
 pub mod Working
 pub mod Talking
@@ -28,3 +29,8 @@ pub mod Keeping
 pub mod Holding
 pub mod Condition3
 pub mod Examples
+pub mod FlashOrder
+pub mod FlashBound
+pub mod FlashBytes
+pub mod FlashVerify
+pub mod Rests

@@ -24,14 +24,8 @@ use Rattle.theory.specs.Machine as Machine
 use Rattle.theory.specs.Machine.{going, ended}
 use Rattle.theory.specs.Phases.{Search, probing, parting, seeking, backing, walking, Purpose, tell, clear, load, Job, informing, erasing, writing, verifying, resetting, Phase, selecting, demanding, leaving, selected, demanded, request, Then, to, ends, refuses, Next, unlessLong, sought, backed, walked, hears, working, erases, judged, prepared, writes, cleared, erased, wrote, repeated, verified, accepted, declined, told, step, starting}
 use Rattle.theory.proofs.Images.{chunk-least}
+use Rattle.theory.proofs.Conversations.{bind-assoc}
 use Rattle.theory.proofs.Refine as Refine
-
-pub bind-assoc : {A B C : Type 0} (m : Talk A) (f : A → Talk B) (g : B → Talk C) → m >>= f >>= g ≡ m >>= (λ a. f a >>= g)
-unfolding _>>=_
-bind-assoc (return a) f g = refl
-bind-assoc (stop c v) f g = refl
-bind-assoc (report a b m) f g = λ i. report a b (bind-assoc m f g i)
-bind-assoc (ask q m) f g = λ i. ask q (λ x. bind-assoc (m x) f g i)
 
 -- The device information of a job keeps the Info rule.
 abbrev pub SoundJob : Job → Type 0
