@@ -91,7 +91,7 @@ module _ (b : ℕ) (bs : List ℕ) (ih : Right bs) (n : ℕ) (v : Replay) (buf :
 
   takes-settled : settled (takes v acc .stage) ≡ true
   unfolding takes
-  takes-settled = goes-settled (record′ (v .client) acc .says) (record′ (v .client) acc .client) (v .selects) (record′ (v .client) acc .found)
+  takes-settled = goes-settled (record′ (v .client) [] acc .says) (record′ (v .client) [] acc .client) (v .selects) (record′ (v .client) [] acc .found)
 
   taken-is : talk (takes v acc) (joined cap [] (lines bs)) ≡ talk v (next acc (joined cap [] (lines bs)))
   unfolding talk

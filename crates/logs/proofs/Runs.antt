@@ -81,7 +81,7 @@ handed-settled s k (Refused r) e = rw e
 pub goes-settled : (x : Says) (c : Client) (k : ℕ) (t : Table) → settled (goes x c k t .stage) ≡ true
 unfolding goes settled
 goes-settled (Granted n) c k t = refl
-goes-settled Onward c k t = handed-settled (request c room .answer) k (request c room .answer .says) refl
+goes-settled Onward c k t = handed-settled (request c [] room .answer) k (request c [] room .answer .says) refl
 goes-settled (Over o) c k t = refl
 goes-settled (Refused r) c k t = refl
 

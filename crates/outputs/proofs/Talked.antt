@@ -31,6 +31,7 @@ use Rattle.table.specs.Rows.{noTable}
 use Rattle.client.specs.declared.Client.{Client}
 use Rattle.client.specs.declared.Outcome.{Outcome}
 use Rattle.client.specs.declared.Outcome.the-variants as Outcome
+use Rattle.client.specs.declared.Progress.{Progress}
 use Rattle.client.specs.declared.Says.{Says}
 use Rattle.client.specs.declared.Says.the-variants.{Granted, Onward, Over, Refused}
 use Rattle.client.specs.declared.Told.{Told}
@@ -83,7 +84,7 @@ module _ (seed : ℕ) (id : Option Id) (s : State) (f : Fits (record { seed = se
   abbrev next-seed : ℕ
   next-seed = seedAfter (select q) seed
 
-  small : length (bytesOf (select q) next-seed) ≤ 31
+  small : length (bytesOf (select q) next-seed []) ≤ 31
   unfolding Phases.request
   small = select-length q next-seed (Walk₂.request-fits s (f .turn))
 
@@ -91,13 +92,13 @@ module _ (seed : ℕ) (id : Option Id) (s : State) (f : Fits (record { seed = se
   unfolding room
   wide = length-replicate {A = ℕ} 64 0
 
-  grants : Machine.request c room .says ≡ Paper.granted (length (bytesOf (select q) next-seed))
+  grants : Machine.request c room .says ≡ Paper.granted (length (bytesOf (select q) next-seed []))
   unfolding Machine.request Machine.grant
-  grants = rw (le-ltb (length room) (length (bytesOf (select q) next-seed)) (omega (arith, small, wide)))
+  grants = rw (le-ltb (length room) (length (bytesOf (select q) next-seed [])) (omega (arith, small, wide)))
 
   leaves : Machine.request c room .client ≡ record { seed = next-seed; id = id; turn = waiting (walking s) }
   unfolding Machine.request Machine.grant
-  leaves = rw (le-ltb (length room) (length (bytesOf (select q) next-seed)) (omega (arith, small, wide)))
+  leaves = rw (le-ltb (length room) (length (bytesOf (select q) next-seed [])) (omega (arith, small, wide)))
 
   asked-out : (j : ℕ) → asked (clientOf c) j ≡ running (clientOf (record { seed = next-seed; id = id; turn = waiting (walking s) })) j
   unfolding handed
@@ -114,16 +115,17 @@ module _ (seed : ℕ) (id : Option Id) (s : State) (f : Fits (record { seed = se
       rw (asked-out j) (out next-seed id s ((j + 1) % 65536) k (record { seed = byte; id = f .id; turn = f .turn }) (counted j k e))
 
 -- A refusal ends the run with its number.
-number-ends : (says : Says) (x : Code.Id) (t : Table) (n : ℕ) → saysOf says x t ≡ refused n [] → (c : Client) (k : ℕ) → goes says c k t ≡ Replays.ended c k t n
+number-ends : (says : Says) (p : Progress) (x : Code.Id) (t : Table) (n : ℕ) → saysOf says p x t ≡ refused n [] → (c : Client) (k : ℕ) → goes says c k t ≡ Replays.ended c k t n
 unfolding saysOf goes endOf
-number-ends (Granted m) x t n e c k = absurd (let z : _≡_ {A = ℕ} 0 1 = cc in omega arith)
-number-ends Onward x t n e c k = absurd (let z : _≡_ {A = ℕ} 0 1 = cc in omega arith)
-number-ends (Over Outcome.Quiet) x t n e c k = absurd (let z : _≡_ {A = ℕ} 0 1 = cc in omega arith)
-number-ends (Over (Outcome.Heard h)) x t n e c k = absurd (let z : _≡_ {A = ℕ} 0 1 = cc in omega arith)
-number-ends (Over (Outcome.Attached any)) x t n e c k = absurd (let z : _≡_ {A = ℕ} 0 1 = cc in omega arith)
-number-ends (Over Outcome.Found) x t n e c k = absurd (let z : _≡_ {A = ℕ} 0 1 = cc in omega arith)
-number-ends (Over Outcome.Unaddressed) x t n e c k = ap (Replays.ended c k t) (cc)
-number-ends (Refused r) x t n e c k = ap (Replays.ended c k t) number
+number-ends (Granted m) p x t n e c k = absurd (let z : _≡_ {A = ℕ} 0 1 = cc in omega arith)
+number-ends Onward p x t n e c k = absurd (let z : _≡_ {A = ℕ} 0 1 = cc in omega arith)
+number-ends (Over Outcome.Quiet) p x t n e c k = absurd (let z : _≡_ {A = ℕ} 0 1 = cc in omega arith)
+number-ends (Over (Outcome.Heard h)) p x t n e c k = absurd (let z : _≡_ {A = ℕ} 0 1 = cc in omega arith)
+number-ends (Over (Outcome.Attached any)) p x t n e c k = absurd (let z : _≡_ {A = ℕ} 0 1 = cc in omega arith)
+number-ends (Over Outcome.Found) p x t n e c k = absurd (let z : _≡_ {A = ℕ} 0 1 = cc in omega arith)
+number-ends (Over (Outcome.Knows info)) p x t n e c k = absurd (let z : _≡_ {A = ℕ} 0 1 = cc in omega arith)
+number-ends (Over Outcome.Unaddressed) p x t n e c k = ap (Replays.ended c k t) (cc)
+number-ends (Refused r) p x t n e c k = ap (Replays.ended c k t) number
   where
     number : numberOf r ≡ n
     number = cc
@@ -158,7 +160,7 @@ module _ (seed : ℕ) (id : Option Id) (s : State) (f : Fits (record { seed = se
   onto-stands (going t) ft u fc = asked-stands seed kept t fc j (suc k) e
   onto-stands (ended (done ids)) ft u fc = over′ (toldAs (settled (ended (done ids))) .client) (done ids) j (suc k) e ft
   onto-stands (ended (stopped n)) ft u fc =
-      rw (number-ends (refusedAs n [] .says) (refusedAs n [] .id) (refusedAs n [] .found) n u (toldAs (settled (ended (stopped n))) .client) j, refused-table n [])
+      rw (number-ends (refusedAs n [] .says) _ (refusedAs n [] .id) (refusedAs n [] .found) n u (toldAs (settled (ended (stopped n))) .client) j, refused-table n [])
       (over′ (toldAs (settled (ended (stopped n))) .client) (stopped n) j (suc k) e tt)
 
   took : Stands (takes (record { client = clientOf w; stage = Running; selects = j; found = noTable }) bytes) (Walking.step s (hear bytes)) (suc k)

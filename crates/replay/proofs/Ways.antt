@@ -48,7 +48,7 @@ module _ (v : Replay) where
   at-end k e = rw e
 
 -- The next Select.
-module _ (c : Client) (k : ℕ) (s : Started) (bytes : List ℕ) (t : Table) (e : record { answer = s; bytes = bytes } ≡ request c (replicate 64 0)) (et : t ≡ noTable) where
+module _ (c : Client) (k : ℕ) (s : Started) (bytes : List ℕ) (t : Table) (e : record { answer = s; bytes = bytes } ≡ request c [] (replicate 64 0)) (et : t ≡ noTable) where
   same : handed s k ≡ asked c k
   unfolding room
   same = ap (λ (a : Asking). handed (a .answer) k) e
@@ -89,6 +89,6 @@ module _ (v r : Replay) where
   opened [] s t n h es et e = absurd (n refl)
   opened (b ∷ bs) s t n h es et e = e ∙ rw (eq-eqb b 1 h, es ∙ ap (startDiscover (v .client)) (part-all 1 (b ∷ bs)), et)
 
-pub took : (v r : Replay) (bytes : List ℕ) (t : Told) → t ≡ record′ (v .client) bytes → r ≡ goes (t .says) (t .client) (v .selects) (t .found) → r ≡ takes v bytes
+pub took : (v r : Replay) (bytes : List ℕ) (t : Told) → t ≡ record′ (v .client) [] bytes → r ≡ goes (t .says) (t .client) (v .selects) (t .found) → r ≡ takes v bytes
 unfolding takes
 took v r bytes t et e = e ∙ rw et

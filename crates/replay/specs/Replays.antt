@@ -2,7 +2,7 @@
 -- Assumes nothing.
 use Prim.Native.Nat.{ℕ, _+_, _%_}
 use mathlib.Core.Bool.{Bool, true, false, cond}
-use mathlib.Core.List.{List}
+use mathlib.Core.List.{List, []}
 use lib.ListN.{replicate}
 use Rattle.paper.specs.Hearing.{onSome}
 use Rattle.paper.specs.Log.{prefixIn}
@@ -43,6 +43,7 @@ outcome Outcome.Quiet = 0
 outcome (Outcome.Heard h) = 0
 outcome (Outcome.Attached any) = 0
 outcome Outcome.Found = 0
+outcome (Outcome.Knows info) = 0
 outcome Outcome.Unaddressed = 23
 
 abbrev pub code : Says → ℕ
@@ -78,7 +79,7 @@ unfoldable pub room : List ℕ
 room = replicate 64 0
 
 abbrev pub asked : Client → ℕ → Replay
-asked c k = handed (request c room .answer) k
+asked c k = handed (request c [] room .answer) k
 
 unfoldable pub goes : Says → Client → ℕ → Table → Replay
 goes says c k found = cond (isOnward says) (asked c k) (ended c k found (code says))
@@ -91,7 +92,7 @@ opens v line =
 
 unfoldable pub takes : Replay → List ℕ → Replay
 takes v bytes =
-    goes (record′ (v .client) bytes .says) (record′ (v .client) bytes .client) (v .selects) (record′ (v .client) bytes .found)
+    goes (record′ (v .client) [] bytes .says) (record′ (v .client) [] bytes .client) (v .selects) (record′ (v .client) [] bytes .found)
 
 -- "a first line missing": 22; "a record without its empty line gives 1".
 unfoldable pub answer : Replay → Answer

@@ -106,8 +106,9 @@ fn is_onward(says: Says) -> bool
 fn asked(client: Client, selects: u16) -> Replay
     ensures { λ r. ⌜ r ≡ asked client selects ⌝ }
 {
+    let none = [0u8; 1];
     let mut room = [0u8; 64];
-    let s = asking::request(client, &mut room);
+    let s = asking::request(client, &none[..0], &mut room);
     let says = s.says;
     let next = s.client;
     let found = Table::none();
@@ -164,7 +165,8 @@ impl Replay {
         ensures { λ r. ⌜ r ≡ takes self (now (bytes .entry)) ⌝ }
     {
         let client = self.client;
-        let t = telling::record(client, bytes);
+        let none = [0u8; 1];
+        let t = telling::record(client, &none[..0], bytes);
         let says = t.says;
         let next = t.client;
         let found = t.found;

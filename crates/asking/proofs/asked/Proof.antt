@@ -1,3 +1,5 @@
+-- `asking::asked` meets its contract.
+-- Assumes nothing.
 use Rattle.asking.proofs.Ways.{asked-select, asked-demand, asked-leave}
 use borrow.Author.Needs.{needs}
 use Rattle.asking.proofs.asked.Statement.{statement}

@@ -1,3 +1,5 @@
+-- `asking::asks` meets its contract.
+-- Assumes nothing.
 use Rattle.asking.proofs.Ways.{asks-probing, asks-parting, asks-seeking, asks-backing, asks-walking}
 use borrow.Author.Needs.{needs}
 use Rattle.asking.proofs.asks.Statement.{statement}

@@ -1,3 +1,5 @@
+-- `asking::granted` meets its contract.
+-- Assumes nothing.
 use Rattle.asking.proofs.Ways.{granted-done, granted-short, granted-never}
 use borrow.Author.Needs.{needs}
 use Rattle.asking.proofs.granted.Statement.{statement}

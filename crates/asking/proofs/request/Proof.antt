@@ -1,3 +1,5 @@
+-- `asking::request` meets its contract.
+-- Assumes nothing.
 use Rattle.asking.proofs.Ways.{request-other, request-idle, request-made, request-out}
 use borrow.Author.Needs.{needs}
 use Rattle.asking.proofs.request.Statement.{statement}

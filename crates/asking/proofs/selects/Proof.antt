@@ -1,3 +1,5 @@
+-- `asking::selects` meets its contract.
+-- Assumes nothing.
 use Rattle.asking.proofs.Ways.{selects-made}
 use borrow.Author.Needs.{needs}
 use Rattle.asking.proofs.selects.Statement.{statement}

@@ -1,3 +1,5 @@
+-- `demands::reset_flags` meets its contract.
+-- Assumes nothing.
 use mathlib.Core.Logic.{⊎-elim}
 use native.Mathlib.Omega.{arith}
 use Rattle.lore.proofs.Choice.{ways}

@@ -1,3 +1,5 @@
+-- `demands::write_demand` meets its contract.
+-- Assumes nothing.
 use Rattle.demands.proofs.Ways.{demand-info, demand-erase, demand-write, demand-verify, demand-reset}
 use borrow.Author.Needs.{needs}
 use Rattle.demands.proofs.write_demand.Statement.{statement}

@@ -1,3 +1,5 @@
+-- `demands::write_erase` meets its contract.
+-- Assumes nothing.
 use Rattle.demands.proofs.Ways.{sent-erase}
 use borrow.Author.Needs.{needs}
 use Rattle.demands.proofs.write_erase.Statement.{statement}

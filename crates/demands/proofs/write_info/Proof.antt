@@ -1,3 +1,5 @@
+-- `demands::write_info` meets its contract.
+-- Assumes nothing.
 use Rattle.demands.proofs.Ways.{sent}
 use borrow.Author.Needs.{needs}
 use Rattle.demands.proofs.write_info.Statement.{statement}

@@ -1,3 +1,5 @@
+-- `demands::write_verify` meets its contract.
+-- Assumes nothing.
 use Rattle.demands.proofs.Ways.{sent-verify}
 use borrow.Author.Needs.{needs}
 use Rattle.demands.proofs.write_verify.Statement.{statement}

@@ -5,8 +5,14 @@ use borrow.Author.Needs.{needs}
 use Rattle.replay.proofs.asked.Statement.{statement}
 use Rattle.replay.proofs.asked.Tie as tie
 
+array-share-prefix-none : tie.Need-array-share-prefix-none
+array-share-prefix-none c = search needs
+
 slice-aggregate-request : tie.Need-slice-aggregate-request
 slice-aggregate-request c = search needs
+
+slice-aggregate-request-2 : tie.Need-slice-aggregate-request-2
+slice-aggregate-request-2 c = search needs
 
 request-requires : tie.Need-request-requires
 request-requires c κs = search needs
@@ -36,7 +42,9 @@ pub asked-spec : {M : Type 1} → statement M
 asked-spec =
     tie.close
     (tie.spec
+    array-share-prefix-none
     slice-aggregate-request
+    slice-aggregate-request-2
     request-requires
     none-requires
     is-granted-requires

@@ -1,3 +1,5 @@
+-- `starting::bad_prefix` meets its contract.
+-- Assumes nothing.
 use Rattle.starting.proofs.Ways.{bad-late, bad-bad}
 use borrow.Author.Needs.{needs}
 use Rattle.starting.proofs.bad_prefix.Statement.{statement}

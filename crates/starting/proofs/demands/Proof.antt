@@ -1,3 +1,5 @@
+-- `starting::demands` meets its contract.
+-- Assumes nothing.
 use Rattle.starting.proofs.Ways.{demands-starts}
 use borrow.Author.Needs.{needs}
 use Rattle.starting.proofs.demands.Statement.{statement}

@@ -1,3 +1,5 @@
+-- `starting::resets` meets its contract.
+-- Assumes nothing.
 use Rattle.lore.proofs.Choice.{ways}
 use Rattle.starting.specs.Starting.{resets}
 use borrow.Author.Needs.{needs}

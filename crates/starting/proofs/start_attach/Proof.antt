@@ -1,3 +1,5 @@
+-- `starting::start_attach` meets its contract.
+-- Assumes nothing.
 use Rattle.starting.proofs.Ways.{attach-any}
 use borrow.Author.Needs.{needs}
 use Rattle.starting.proofs.start_attach.Statement.{statement}

@@ -1,3 +1,5 @@
+-- `starting::start_attach_to` meets its contract.
+-- Assumes nothing.
 use Rattle.starting.proofs.Ways.{attach-over, attach-starts}
 use borrow.Author.Needs.{needs}
 use Rattle.starting.proofs.start_attach_to.Statement.{statement}

@@ -1,3 +1,5 @@
+-- `starting::start_deselect` meets its contract.
+-- Assumes nothing.
 use Rattle.starting.proofs.Ways.{deselect-starts}
 use borrow.Author.Needs.{needs}
 use Rattle.starting.proofs.start_deselect.Statement.{statement}

@@ -1,3 +1,5 @@
+-- `starting::start_discover` meets its contract.
+-- Assumes nothing.
 use Rattle.starting.proofs.Ways.{discover-over, discover-starts}
 use borrow.Author.Needs.{needs}
 use Rattle.starting.proofs.start_discover.Statement.{statement}

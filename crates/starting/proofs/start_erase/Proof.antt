@@ -1,3 +1,5 @@
+-- `starting::start_erase` meets its contract.
+-- Assumes nothing.
 use Rattle.starting.specs.Starting.{startErase}
 use borrow.Author.Needs.{needs}
 use Rattle.starting.proofs.start_erase.Statement.{statement}

@@ -1,3 +1,5 @@
+-- `starting::start_flash` meets its contract.
+-- Assumes nothing.
 use Rattle.starting.specs.Starting.{startFlash}
 use borrow.Author.Needs.{needs}
 use Rattle.starting.proofs.start_flash.Statement.{statement}

@@ -1,3 +1,5 @@
+-- `starting::start_info` meets its contract.
+-- Assumes nothing.
 use Rattle.starting.specs.Starting.{startInfo}
 use borrow.Author.Needs.{needs}
 use Rattle.starting.proofs.start_info.Statement.{statement}

@@ -1,3 +1,5 @@
+-- `starting::start_reset` meets its contract.
+-- Assumes nothing.
 use Rattle.starting.specs.Starting.{startReset}
 use borrow.Author.Needs.{needs}
 use Rattle.starting.proofs.start_reset.Statement.{statement}

@@ -1,3 +1,5 @@
+-- `starting::start_select` meets its contract.
+-- Assumes nothing.
 use Rattle.starting.proofs.Ways.{select-over, select-few, select-starts}
 use borrow.Author.Needs.{needs}
 use Rattle.starting.proofs.start_select.Statement.{statement}

@@ -1,3 +1,5 @@
+-- `starting::start_set_baud` meets its contract.
+-- Assumes nothing.
 use Rattle.starting.specs.Starting.{startSetBaud}
 use borrow.Author.Needs.{needs}
 use Rattle.starting.proofs.start_set_baud.Statement.{statement}

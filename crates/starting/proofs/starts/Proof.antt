@@ -1,3 +1,5 @@
+-- `starting::starts` meets its contract.
+-- Assumes nothing.
 use Rattle.starting.proofs.Ways.{starts-late, starts-now}
 use borrow.Author.Needs.{needs}
 use Rattle.starting.proofs.starts.Statement.{statement}

@@ -5,6 +5,12 @@ use borrow.Author.Needs.{needs}
 use Rattle.replay.proofs.Replay.takes.Statement.{statement}
 use Rattle.replay.proofs.Replay.takes.Tie as tie
 
+array-share-prefix-none : tie.Need-array-share-prefix-none
+array-share-prefix-none c = search needs
+
+slice-aggregate-record : tie.Need-slice-aggregate-record
+slice-aggregate-record c = search needs
+
 record-requires : tie.Need-record-requires
 record-requires c κs = search needs
 
@@ -15,4 +21,6 @@ returns : tie.Need-returns
 returns c = search (took, needs)
 
 pub takes-spec : {M : Type 1} → statement M
-takes-spec = tie.close (tie.spec record-requires goes-requires returns)
+takes-spec =
+    tie.close
+    (tie.spec array-share-prefix-none slice-aggregate-record record-requires goes-requires returns)
