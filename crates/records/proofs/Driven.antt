@@ -9,16 +9,16 @@ use native.Mathlib.Omega.{arith}
 use lib.ListN.{length, drop}
 use borrow.Author.Tests.{le-ltb, eq-eqb}
 use Rattle.paper.specs.Answers.{answer}
-use Rattle.paper.specs.Client.{idAfter, otherLength, demandFrame, bytesOf, replied, endOf, over}
+use Rattle.paper.specs.Client.{otherLength, demandFrame, bytesOf, replied, endOf, over}
 use Rattle.paper.specs.Client as Paper
 use Rattle.paper.specs.Count.{All}
 use Rattle.paper.specs.Flash.{informOnly, erase, flash, reset}
 use Rattle.paper.specs.Hearing.{Id, onSome}
-use Rattle.paper.specs.Talk.{demand, Answered, Talk, report, Outcome, quiet, attached, found, knows}
+use Rattle.paper.specs.Talk.{demand, Answered, Talk, Outcome, quiet, attached, found, knows}
 use Rattle.paper.specs.Talk as Paper₂
 use Rattle.lore.proofs.Frames.{frame-length}
 use Rattle.theory.specs.FlashOrder.{Past, Event, heard, failed, refused, pending, readEvent, play}
-use Rattle.theory.specs.Phases.{tell, clear, load, Job, informing, resetting, Phase, selecting, demanding, leaving, demanded, Then, to, ends, refuses, Next, working, told, step}
+use Rattle.theory.specs.Phases.{tell, clear, load, Job, informing, resetting, Phase, selecting, demanding, leaving, demanded, Then, to, ends, refuses, working, told, step}
 use Rattle.theory.specs.Clients as Machine
 use Rattle.theory.specs.Clients.{Brief, Turn, idle, ready, waiting, lentTo, settle, fails, handedOut, grant}
 use Rattle.theory.proofs.Resuming.{SoundJob, whole, resumeJob, resume, thereafter, reporting, resumed, job-step}
@@ -104,13 +104,13 @@ module _ (buffer : List ℕ) (room : 1036 ≤ length buffer) (seed : ℕ) (byte 
     passes : (image : List ℕ) → OfLength n image → otherLength (lentTo j) image ≡ false
     passes image o = rw l (lent-passes n image o)
 
-    grants : (image lent : List ℕ) → OfLength n image → length (bytes image) ≤ length lent
-        → request (recordOf seed id (ready (demanding j))) image lent
-        ≡ record { answer = record { says = Granted (length (bytes image)); client = recordOf seed id (waiting (demanding j)) }; bytes = bytes image ++ drop (length (bytes image)) lent }
+    grants : (image buf : List ℕ) → OfLength n image → length (bytes image) ≤ length buf
+        → request (recordOf seed id (ready (demanding j))) image buf
+        ≡ record { answer = record { says = Granted (length (bytes image)); client = recordOf seed id (waiting (demanding j)) }; bytes = bytes image ++ drop (length (bytes image)) buf }
     unfolding Machine.request grant handedOut
-    grants image lent o h =
-        request-asked (turning (ready (demanding j))) (record { seed = byte; id = brief; turn = s }) image lent
-        ∙ rw (passes image o, le-ltb (length lent) (length (bytes image)) h)
+    grants image buf o h =
+        request-asked (turning (ready (demanding j))) (record { seed = byte; id = brief; turn = s }) image buf
+        ∙ rw (passes image o, le-ltb (length buf) (length (bytes image)) h)
 
     small : (image : List ℕ) → OfLength n image → length (bytes image) ≤ 1036
     unfolding bytesOf
@@ -127,7 +127,7 @@ module _ (buffer : List ℕ) (room : 1036 ≤ length buffer) (seed : ℕ) (byte 
         asks : StandsAs n seed id (stood t p (working j) at) (pending (demand (demanded j)))
         asks = record {
           says = refl;
-          grants = λ image lent o h. record { says = ap (λ (a : Asking). a .answer .says) (grants image lent o h); after = ap (λ (a : Asking). a .bytes) (grants image lent o h) };
+          grants = λ image buf o h. record { says = ap (λ (a : Asking). a .answer .says) (grants image buf o h); after = ap (λ (a : Asking). a .bytes) (grants image buf o h) };
         }
 
     -- What is told then.

@@ -55,16 +55,17 @@ other-sim (leaving bootloader baud) image = refl
 pub same-length : (n : ℕ) (image : List ℕ) → otherLength (some n) image ≡ false → n ≡ length image
 same-length n image e = eqb-true n (length image) (not-false (eqb n (length image)) e)
 
+-- A client with a job's request out: the machine's, and its record.
+abbrev out : ℕ → Option Id → Job → Machine.Client
+out seed id j = record { seed = seed; id = id; turn = waiting (demanding j) }
+
+abbrev code : ℕ → Option Id → Job → Client
+code seed id j = recordOf seed id (waiting (demanding j))
+
 module _ (seed : ℕ) (id : Option Id) (j : Job) (at : ℕ) where
-  abbrev out : Machine.Client
-  out = record { seed = seed; id = id; turn = waiting (demanding j) }
-
-  abbrev code : Client
-  code = recordOf seed id (waiting (demanding j))
-
   -- What the code goes on with is what the machine does, whatever progress is made with it.
   abbrev Shows : Code.Then → Then → Type 0
-  Shows t u = (p : Option (ℕ × ℕ)) → goes code (record { progress = progressIn p; then = t }) at ≡ toldAs (settle out p u at)
+  Shows t u = (p : Option (ℕ × ℕ)) → goes (code seed id j) (record { progress = progressIn p; then = t }) at ≡ toldAs (settle (out seed id j) p u at)
 
   either : (b : Bool) (t v : Code.Then) (u w : Then) → Shows t u → Shows v w → Shows (cond b t v) (cond b u w)
   either true t v u w e f = e
@@ -120,7 +121,7 @@ module _ (seed : ℕ) (id : Option Id) (j : Job) (at : ℕ) where
 
   -- The same, with the progress that is made.
   abbrev ShowsNext : Code₂.Next → Next → Type 0
-  ShowsNext m n = goes code m at ≡ toldAs (settle out (n .progress) (n .then) at)
+  ShowsNext m n = goes (code seed id j) m at ≡ toldAs (settle (out seed id j) (n .progress) (n .then) at)
 
   erased-shown : (why : Purpose) (info : Info) (address : ℕ) → sound info ≡ true → ShowsNext (Code₃.erased (purposeIn why) (codeInfo info) address) (Phases.erased why info address)
   unfolding Code₃.erased Phases.erased
@@ -153,7 +154,7 @@ module _ (seed : ℕ) (id : Option Id) (at : ℕ) where
   accepted-shown (erasing why info address) s payload image e = erased-shown seed id (erasing why info address) at why info address s
   accepted-shown (writing n info offset retries) s payload image e =
       wrote-shown seed id (writing n info offset retries) at info offset image
-      ∙ ap (λ (m : ℕ). toldAs (settle (out seed id (writing n info offset retries) at) (Phases.wrote m info offset .progress) (Phases.wrote m info offset .then) at)) (sym (same-length n image e))
+      ∙ ap (λ (m : ℕ). toldAs (settle (out seed id (writing n info offset retries)) (Phases.wrote m info offset .progress) (Phases.wrote m info offset .then) at)) (sym (same-length n image e))
   accepted-shown (verifying n info) s payload image e = verified-shown seed id (verifying n info) at info payload image none
   accepted-shown (resetting bootloader baud) s payload image e = refl
 
@@ -173,20 +174,21 @@ module _ (seed : ℕ) (id : Option Id) (at : ℕ) where
   declined-shown (verifying n info) status = refl
   declined-shown (resetting bootloader baud) status = refl
 
--- The record that answers a job's request, or none in it.
+-- A record, by the answer that is found in it.
+abbrev pub answering : ℕ → Option Id → Job → List ℕ → List ℕ → Paper.Answer → Machine.Told
+answering seed id j image bytes a =
+    onSome (replied a image) (fails (out seed id j) (endOf a (length bytes)))
+    (λ x. settle (out seed id j) (Phases.told j (x .reply) (x .image) .progress) (Phases.told j (x .reply) (x .image) .then) (endOf a (length bytes)))
+
 pub job-told : (seed : ℕ) (id : Option Id) (j : Job) → SoundJob j → (image bytes : List ℕ) → otherLength (lentTo j) image ≡ false
-    → tells (recordOf seed id (waiting (demanding j))) (jobIn j) image bytes
-    ≡ toldAs (onSome (replied (answer bytes) image) (fails (record { seed = seed; id = id; turn = waiting (demanding j) }) (endOf (answer bytes) (length bytes)))
-    (λ a. settle (record { seed = seed; id = id; turn = waiting (demanding j) }) (Phases.told j (a .reply) (a .image) .progress) (Phases.told j (a .reply) (a .image) .then) (endOf (answer bytes) (length bytes))))
+    → tells (code seed id j) (jobIn j) image bytes ≡ toldAs (answering seed id j image bytes (answer bytes))
 unfolding tells Phases.told over Clients.idle refusedAs
 job-told seed id j s image bytes e = go (answer bytes)
   where
     go : (a : Paper.Answer)
-        → onAnswer a (stops (recordOf seed id (waiting (demanding j))) (Says.Refused Refusal.Io) (length bytes))
-        (λ payload end. goes (recordOf seed id (waiting (demanding j))) (Code₃.accepted (jobIn j) payload image) end)
-        (λ status end. goes (recordOf seed id (waiting (demanding j))) (Code₃.declined (jobIn j) status) end)
-        ≡ toldAs (onSome (replied a image) (fails (record { seed = seed; id = id; turn = waiting (demanding j) }) (endOf a (length bytes)))
-        (λ a₂. settle (record { seed = seed; id = id; turn = waiting (demanding j) }) (Phases.told j (a₂ .reply) (a₂ .image) .progress) (Phases.told j (a₂ .reply) (a₂ .image) .then) (endOf a (length bytes))))
+        → onAnswer a (stops (code seed id j) (Says.Refused Refusal.Io) (length bytes)) (λ payload end. goes (code seed id j) (Code₃.accepted (jobIn j) payload image) end)
+        (λ status end. goes (code seed id j) (Code₃.declined (jobIn j) status) end)
+        ≡ toldAs (answering seed id j image bytes a)
     go lost = refl
     go (answered (ok payload) end) = accepted-shown seed id end j s payload image e
     go (answered (device status) end) = declined-shown seed id end j status
