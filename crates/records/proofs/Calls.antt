@@ -2,52 +2,59 @@
 -- Assumes nothing.
 use Prim.Native.Nat.{ℕ, _*_}
 use mathlib.Core.Bool.{Bool, true, false, _&&_, cond}
-use mathlib.Core.List.{List, [], _∷_, _++_}
+use mathlib.Core.List.{List, [], _∷_}
 use mathlib.Core.Option.{Option, none, some}
 use mathlib.Core.Path.{_≡_, refl, sym, _∙_, ap, ap₂}
 use native.Mathlib.Omega.{arith}
 use lib.Dec.{leb, ltb}
-use lib.ListN.{length, drop}
+use lib.ListN.{length}
 use Rattle.paper.specs.Client as Paper
-use Rattle.paper.specs.Client.{Says, refused, granted, short, bytesOf, seedAfter}
+use Rattle.paper.specs.Client.{Says, short, otherLength, bytesOf, seedAfter, reading, place, cleared}
 use Rattle.paper.specs.Count.{All}
-use Rattle.paper.specs.Hearing.{Id, bitsOf, hear}
-use Rattle.paper.specs.Talk.{select}
+use Rattle.paper.specs.Hearing.{Id, bitsOf, onSome}
+use Rattle.paper.specs.Talk.{Answer}
 use Rattle.lore.proofs.Words.{Bytes}
 use Rattle.theory.specs.Phases as Phases
-use Rattle.theory.specs.Phases.{Phase, probing, parting, seeking, walking, Then, to, ends, refuses, step, starting}
+use Rattle.theory.specs.Phases.{probing, parting, seeking, walking, tell, clear, load, informing, Phase, selecting, demanding, Then, to, ends, refuses, step, starting}
 use Rattle.theory.specs.Clients as Machine
-use Rattle.theory.specs.Clients.{Brief, Turn, idle, ready, waiting, turned, settle, grant}
-use Rattle.theory.proofs.Keeping.{FitsTurn, Fits, fresh-fits, startSelect-fits, startDeselect-fits, startAttach-fits, startDiscover-fits, request-fits, record-fits, linkFailed-fits}
+use Rattle.theory.specs.Clients.{Brief, Turn, idle, ready, waiting, turned, lends, settle, unchanged, fails, resets, grant}
+use Rattle.theory.proofs.Keeping.{FitsTurn, Fits, turn-sound, fresh-fits, startSelect-fits, startDeselect-fits, startAttach-fits, startDiscover-fits, startInfo-fits, startErase-fits, startFlash-fits, startReset-fits, startSetBaud-fits, request-fits, record-fits, linkFailed-fits}
 use Rattle.theory.proofs.Carried.{heard-bytes}
-use Rattle.theory.proofs.Holding.{Holds, fresh-holds, startSelect-holds, startDeselect-holds, startAttach-holds, startDiscover-holds, request-holds, record-holds, linkFailed-holds}
-use Rattle.theory.proofs.Talking.{paperOf, fresh-sim, startSelect-sim, startDeselect-sim, startAttach-sim, startDiscover-sim, request-sim, record-sim, linkFailed-sim}
+use Rattle.theory.proofs.Holding.{Holds, fresh-holds, startSelect-holds, startDeselect-holds, startAttach-holds, startDiscover-holds, startInfo-holds, startErase-holds, startFlash-holds, startReset-holds, startSetBaud-holds, request-holds, record-holds, linkFailed-holds}
+use Rattle.theory.proofs.Talking.{paperOf, fresh-sim, startSelect-sim, startDeselect-sim, startAttach-sim, startDiscover-sim, startInfo-sim, startErase-sim, startFlash-sim, startReset-sim, startSetBaud-sim, request-sim, record-sim, linkFailed-sim}
 use Rattle.ids.specs.Ids.{noId}
 use Rattle.ids.proofs.Laws.{id-of-from}
 use Rattle.walk.specs.Moves.{noWalk}
 use Rattle.client.specs.declared.Client.{Client}
-use Rattle.client.specs.declared.Told.{Told}
 use Rattle.client.specs.declared.Turn.the-variants.{Idle}
 use Rattle.client.specs.Clients as Code₂
-use Rattle.client.specs.Numbers.{numberOf, carriedBy, saysOf}
+use Rattle.client.specs.Numbers.{numberOf, carriedBy, progressOf, saysOf}
 use Rattle.records.specs.Clients.{clientOf, refusedAs, startedAs, toldAs, askedAs}
-use Rattle.records.specs.Calls.{Call, startSelect, startDeselect, startAttach, startDiscover, request, record′, linkFailed, Good, Reply, saidBy, paperCall, startedBy, askedBy, toldBy, codeCall, attachedTo, paperAnswer, codeAnswer, paperAnswers, codeAnswers, reached, Rests}
-use Rattle.records.proofs.Readable.{Readable, ReadableThen, io-read, turn-read, phase-read}
+use Rattle.records.specs.Calls.{Call, startSelect, startDeselect, startAttach, startDiscover, startInfo, startErase, startFlash, startReset, startSetBaud, request, record′, linkFailed, Good, Reply, saidBy, askedOf, paperCall, startedBy, askedBy, toldBy, codeCall, attachedTo, paperAnswer, codeAnswer, paperAnswers, codeAnswers, reached, Rests}
+use Rattle.records.proofs.Readable.{Readable, ReadableThen, io-read, image-read, turn-read, onward-read, phase-read}
 use Rattle.records.proofs.Requests.{request-asked}
-use Rattle.records.proofs.Starts.{select-started, deselect-started, attach-started, attach-to-started, discover-started}
+use Rattle.records.proofs.Starts.{select-started, deselect-started, attach-started, attach-to-started, discover-started, info-started, erase-started, flash-started, reset-started, baud-started}
 use Rattle.records.proofs.Tells.{record-told, failed-told}
 
 -- The machine's answer to a call, and its client after it.
 abbrev settledBy : Machine.Told → Reply × Machine.Client
 settledBy t = (record { says = t .says; rest = t .rest; buffer = [] }, t .client)
 
+abbrev handedBy : Machine.Asked → Reply × Machine.Client
+handedBy a = (record { says = a .says; rest = 0; buffer = a .buffer }, a .client)
+
 machineCall : Machine.Client → Call → Reply × Machine.Client
 machineCall c (startSelect bytes bits) = settledBy (Machine.startSelect c bytes bits)
 machineCall c startDeselect = settledBy (Machine.startDeselect c)
 machineCall c (startAttach uid) = settledBy (Machine.startAttach c uid)
 machineCall c (startDiscover given) = settledBy (Machine.startDiscover c given)
-machineCall c (request buffer) = (record { says = Machine.request c buffer .says; rest = 0; buffer = Machine.request c buffer .buffer }, Machine.request c buffer .client)
-machineCall c (record′ bytes) = settledBy (Machine.record′ c bytes)
+machineCall c startInfo = settledBy (Machine.startInfo c)
+machineCall c startErase = settledBy (Machine.startErase c)
+machineCall c (startFlash image) = settledBy (Machine.startFlash c image)
+machineCall c (startReset bootloader inBoot) = settledBy (Machine.startReset c bootloader inBoot)
+machineCall c (startSetBaud baud bootloader inBoot) = settledBy (Machine.startSetBaud c baud bootloader inBoot)
+machineCall c (request image buffer) = handedBy (Machine.request c image buffer)
+machineCall c (record′ image bytes) = settledBy (Machine.record′ c image bytes)
 machineCall c linkFailed = settledBy (Machine.linkFailed c)
 
 abbrev inPaper : Reply × Machine.Client → Reply × Paper.Client
@@ -56,19 +63,24 @@ inPaper r = (r .0, paperOf (r .1))
 abbrev inCode : Reply × Machine.Client → Reply × Client
 inCode r = (r .0, clientOf (r .1))
 
-paper-call : (c : Machine.Client) (call : Call) → paperCall (paperOf c) call ≡ inPaper (machineCall c call)
+paper-call : (c : Machine.Client) → Fits c → (call : Call) → paperCall (paperOf c) call ≡ inPaper (machineCall c call)
 unfolding paperCall machineCall
-paper-call c (startSelect bytes bits) = ap saidBy (startSelect-sim c bytes bits)
-paper-call c startDeselect = ap saidBy (startDeselect-sim c)
-paper-call c (startAttach uid) = ap saidBy (startAttach-sim c uid)
-paper-call c (startDiscover given) = ap saidBy (startDiscover-sim c given)
-paper-call c (request buffer) = ap (λ (a : Paper.Asked). (record { says = a .says; rest = 0; buffer = a .buffer }, a .client)) (request-sim c buffer)
-paper-call c (record′ bytes) = ap saidBy (record-sim c bytes)
-paper-call c linkFailed = ap saidBy (linkFailed-sim c)
+paper-call c f (startSelect bytes bits) = ap saidBy (startSelect-sim c bytes bits)
+paper-call c f startDeselect = ap saidBy (startDeselect-sim c)
+paper-call c f (startAttach uid) = ap saidBy (startAttach-sim c uid)
+paper-call c f (startDiscover given) = ap saidBy (startDiscover-sim c given)
+paper-call c f startInfo = ap saidBy (startInfo-sim c)
+paper-call c f startErase = ap saidBy (startErase-sim c)
+paper-call c f (startFlash image) = ap saidBy (startFlash-sim c image)
+paper-call c f (startReset bootloader inBoot) = ap saidBy (startReset-sim c bootloader inBoot)
+paper-call c f (startSetBaud baud bootloader inBoot) = ap saidBy (startSetBaud-sim c baud bootloader inBoot)
+paper-call c f (request image buffer) = ap askedOf (request-sim c image buffer)
+paper-call c f (record′ image bytes) = ap saidBy (record-sim c (turn-sound (c .turn) (f .turn)) image bytes)
+paper-call c f linkFailed = ap saidBy (linkFailed-sim c)
 
 -- The starts' answers, read.
 started-read : (c : Machine.Client) (good : Bool) (ph : Phase) → startedBy (startedAs (Machine.start c good ph)) ≡ inCode (settledBy (Machine.start c good ph))
-unfolding Machine.start settle refusedAs saysOf numberOf carriedBy
+unfolding Machine.start settle refusedAs saysOf numberOf carriedBy progressOf
 started-read c good ph = go (c .turn) good
   where
     go : (t : Turn) (b : Bool) → startedBy (startedAs (Machine.start (turned c t) b ph)) ≡ inCode (settledBy (Machine.start (turned c t) b ph))
@@ -77,43 +89,51 @@ started-read c good ph = go (c .turn) good
     go (ready p) b = refl
     go (waiting p) b = refl
 
-asked-read : (c : Machine.Client) (buffer : List ℕ) → askedBy (askedAs (Machine.request c buffer)) ≡ inCode (machineCall c (request buffer))
-unfolding Machine.request machineCall grant refusedAs saysOf numberOf carriedBy
-asked-read c buffer = go (c .turn)
+-- A request's answer, read.
+asked-read : (c : Machine.Client) (image buffer : List ℕ) → askedBy (askedAs (Machine.request c image buffer)) ≡ inCode (handedBy (Machine.request c image buffer))
+unfolding Machine.request grant refusedAs saysOf numberOf carriedBy
+asked-read c image buffer = go (c .turn)
   where
-    fits : (ph : Phase) (bytes : List ℕ) (seed : ℕ) (b : Bool) → Machine.Asked
-    fits ph bytes seed b =
-        cond b (record { says = refused 16 (length bytes ∷ []); client = turned c (ready ph); buffer = buffer })
-        (record { says = granted (length bytes); client = record { seed = seed; id = c .id; turn = waiting ph }; buffer = bytes ++ drop (length bytes) buffer })
+    Read : Machine.Asked → Type 0
+    Read a = askedBy (askedAs a) ≡ inCode (handedBy a)
 
-    room : (ph : Phase) (bytes : List ℕ) (seed : ℕ) (b : Bool)
-        → askedBy (askedAs (fits ph bytes seed b)) ≡ (record { says = fits ph bytes seed b .says; rest = 0; buffer = fits ph bytes seed b .buffer }, clientOf (fits ph bytes seed b .client))
-    room ph bytes seed true = refl
-    room ph bytes seed false = refl
+    either : (b : Bool) (x y : Machine.Asked) → Read x → Read y → Read (cond b x y)
+    either true x y v w = v
+    either false x y v w = w
 
-    go : (t : Turn) → askedBy (askedAs (Machine.request (turned c t) buffer)) ≡ inCode (machineCall (turned c t) (request buffer))
+    go : (t : Turn) → Read (Machine.request (turned c t) image buffer)
     go idle = refl
-    go (ready ph) = room ph (bytesOf (select (Phases.request ph)) (seedAfter (select (Phases.request ph)) (c .seed))) (seedAfter (select (Phases.request ph)) (c .seed)) (ltb (length buffer) (length (bytesOf (select (Phases.request ph)) (seedAfter (select (Phases.request ph)) (c .seed)))))
+    go (ready ph) = either (otherLength (lends ph) image) _ _ refl (either (ltb (length buffer) (length bytes)) _ _ refl refl)
+      where
+        bytes : List ℕ
+        bytes = bytesOf (Phases.request ph) (seedAfter (Phases.request ph) (c .seed)) image
     go (waiting ph) = refl
 
 -- An answer that is read as it was said.
 said : (t : Machine.Told) → Readable (t .says) → toldBy (toldAs t) ≡ inCode (settledBy t)
 said t r = ap (λ (s : Says). (record { says = s; rest = t .rest; buffer = [] }, clientOf (t .client))) r
 
-settle-read : (c : Machine.Client) (t : Then) (at : ℕ) → ReadableThen t → Readable (settle c t at .says)
-unfolding settle saysOf
-settle-read c (to ph) at r = refl
-settle-read c (ends o) at r = r
-settle-read c (refuses n carries) at r = r
+settle-read : (c : Machine.Client) (p : Option (ℕ × ℕ)) (t : Then) (at : ℕ) → ReadableThen p t → Readable (settle c p t at .says)
+unfolding settle
+settle-read c p (to ph) at r = onward-read p
+settle-read c p (ends o) at r = r
+settle-read c p (refuses n carries) at r = r
 
-record-read : (c : Machine.Client) → Fits c → (bytes : List ℕ) → Readable (Machine.record′ c bytes .says)
+record-read : (c : Machine.Client) → Fits c → (image bytes : List ℕ) → Readable (Machine.record′ c image bytes .says)
 unfolding Machine.record′
-record-read c f bytes = go (c .turn) (f .turn)
+record-read c f image bytes = go (c .turn) (f .turn)
   where
-    go : (t : Turn) → FitsTurn t → Readable (Machine.record′ (turned c t) bytes .says)
+    go : (t : Turn) → FitsTurn t → Readable (Machine.record′ (turned c t) image bytes .says)
     go idle w = turn-read
     go (ready ph) w = turn-read
-    go (waiting ph) w = settle-read _ (step ph (hear bytes)) (length bytes) (phase-read ph w (hear bytes))
+    go (waiting ph) w = lent (otherLength (lends ph) image) (reading (Phases.request ph) image bytes)
+      where
+        lent : (b : Bool) (o : Option (Answer (Phases.request ph)))
+            → Readable (cond b (unchanged (turned c (waiting ph)) 20 []) (onSome o (fails (turned c (waiting ph)) (place (Phases.request ph) bytes))
+            (λ a. settle (record { seed = c .seed; id = cleared (Phases.request ph) (c .id); turn = waiting ph }) (step ph a .progress) (step ph a .then) (place (Phases.request ph) bytes))) .says)
+        lent true o = image-read
+        lent false none = io-read
+        lent false (some a) = settle-read _ (step ph a .progress) (step ph a .then) (place (Phases.request ph) bytes) (phase-read ph w a)
 
 failed-read : (c : Machine.Client) → Readable (Machine.linkFailed c .says)
 unfolding Machine.linkFailed
@@ -125,14 +145,19 @@ failed-read c = go (c .turn)
     go (waiting ph) = io-read
 
 code-call : (c : Machine.Client) → Fits c → (call : Call) → Good call → codeCall (clientOf c) call ≡ inCode (machineCall c call)
-unfolding codeCall machineCall Machine.startSelect Machine.startDeselect Machine.startAttach Machine.startDiscover
-code-call c f (startSelect bytes bits) g = ap startedBy (select-started c bytes bits) ∙ started-read c (short bytes && (leb bits 128 && leb bits (8 * length bytes))) (probing bytes bits)
-code-call c f startDeselect g = ap startedBy (deselect-started c) ∙ started-read c true parting
-code-call c f (startAttach none) g = ap startedBy (attach-started c) ∙ started-read c true (seeking none)
-code-call c f (startAttach (some given)) g = ap startedBy (attach-to-started c given) ∙ started-read c (short given) (seeking (some given))
-code-call c f (startDiscover given) g = ap startedBy (discover-started c given g) ∙ started-read c (short given) (walking (starting (bitsOf given)))
-code-call c f (request buffer) g = ap askedBy (request-asked c f buffer) ∙ asked-read c buffer
-code-call c f (record′ bytes) g = ap toldBy (record-told c f bytes) ∙ said (Machine.record′ c bytes) (record-read c f bytes)
+unfolding codeCall machineCall Machine.startSelect Machine.startDeselect Machine.startAttach Machine.startDiscover Machine.startInfo Machine.startErase Machine.startFlash Machine.startReset Machine.startSetBaud
+code-call c f (startSelect bytes bits) g = ap startedBy (select-started c bytes bits) ∙ started-read c (short bytes && (leb bits 128 && leb bits (8 * length bytes))) (selecting (probing bytes bits))
+code-call c f startDeselect g = ap startedBy (deselect-started c) ∙ started-read c true (selecting parting)
+code-call c f (startAttach none) g = ap startedBy (attach-started c) ∙ started-read c true (selecting (seeking none))
+code-call c f (startAttach (some given)) g = ap startedBy (attach-to-started c given) ∙ started-read c (short given) (selecting (seeking (some given)))
+code-call c f (startDiscover given) g = ap startedBy (discover-started c given g) ∙ started-read c (short given) (selecting (walking (starting (bitsOf given))))
+code-call c f startInfo g = ap startedBy (info-started c) ∙ started-read c true (demanding (informing tell))
+code-call c f startErase g = ap startedBy (erase-started c) ∙ started-read c true (demanding (informing clear))
+code-call c f (startFlash image) g = ap startedBy (flash-started c image) ∙ started-read c true (demanding (informing (load (length image))))
+code-call c f (startReset bootloader inBoot) g = ap startedBy (reset-started c bootloader inBoot) ∙ started-read c true (resets bootloader none inBoot)
+code-call c f (startSetBaud baud bootloader inBoot) g = ap startedBy (baud-started c baud bootloader inBoot) ∙ started-read c true (resets bootloader (some baud) inBoot)
+code-call c f (request image buffer) g = ap askedBy (request-asked c f image buffer) ∙ asked-read c image buffer
+code-call c f (record′ image bytes) g = ap toldBy (record-told c f image bytes) ∙ said (Machine.record′ c image bytes) (record-read c f image bytes)
 code-call c f linkFailed g = ap toldBy (failed-told c) ∙ said (Machine.linkFailed c) (failed-read c)
 
 call-fits : (c : Machine.Client) → Fits c → (call : Call) → Fits ((machineCall c call) .1)
@@ -141,8 +166,13 @@ call-fits c f (startSelect bytes bits) = startSelect-fits c f bytes bits
 call-fits c f startDeselect = startDeselect-fits c f
 call-fits c f (startAttach uid) = startAttach-fits c f uid
 call-fits c f (startDiscover given) = startDiscover-fits c f given
-call-fits c f (request buffer) = request-fits c f buffer
-call-fits c f (record′ bytes) = record-fits c f bytes
+call-fits c f startInfo = startInfo-fits c f
+call-fits c f startErase = startErase-fits c f
+call-fits c f (startFlash image) = startFlash-fits c f image
+call-fits c f (startReset bootloader inBoot) = startReset-fits c f bootloader inBoot
+call-fits c f (startSetBaud baud bootloader inBoot) = startSetBaud-fits c f baud bootloader inBoot
+call-fits c f (request image buffer) = request-fits c f image buffer
+call-fits c f (record′ image bytes) = record-fits c f image bytes
 call-fits c f linkFailed = linkFailed-fits c f
 
 call-bytes : (c : Machine.Client) → Holds Bytes c → (call : Call) → Good call → Holds Bytes ((machineCall c call) .1)
@@ -151,8 +181,13 @@ call-bytes c b (startSelect bytes bits) g = startSelect-holds Bytes c b bytes bi
 call-bytes c b startDeselect g = startDeselect-holds Bytes c b
 call-bytes c b (startAttach uid) g = startAttach-holds Bytes c b uid g
 call-bytes c b (startDiscover given) g = startDiscover-holds Bytes c b given
-call-bytes c b (request buffer) g = request-holds Bytes c b buffer
-call-bytes c b (record′ bytes) g = record-holds Bytes c b bytes (heard-bytes bytes g)
+call-bytes c b startInfo g = startInfo-holds Bytes c b
+call-bytes c b startErase g = startErase-holds Bytes c b
+call-bytes c b (startFlash image) g = startFlash-holds Bytes c b image
+call-bytes c b (startReset bootloader inBoot) g = startReset-holds Bytes c b bootloader inBoot
+call-bytes c b (startSetBaud baud bootloader inBoot) g = startSetBaud-holds Bytes c b baud bootloader inBoot
+call-bytes c b (request image buffer) g = request-holds Bytes c b image buffer
+call-bytes c b (record′ image bytes) g = record-holds Bytes c b image bytes (heard-bytes bytes (g .1))
 call-bytes c b linkFailed g = linkFailed-holds Bytes c b
 
 attached-back : (c : Machine.Client) → Fits c → attachedTo (clientOf c) ≡ c .id
@@ -185,7 +220,7 @@ agrees c f [] g = refl
 agrees c f (call ∷ calls) g =
     ap (λ (r : Reply × Client). codeAnswer r ∷ codeAnswers (r .1) calls) (code-call c f call (g .0))
     ∙ ap₂ _∷_ answer (agrees ((machineCall c call) .1) (call-fits c f call) calls (g .1))
-    ∙ sym (ap (λ (r : Reply × Paper.Client). paperAnswer r ∷ paperAnswers (r .1) calls) (paper-call c call))
+    ∙ sym (ap (λ (r : Reply × Paper.Client). paperAnswer r ∷ paperAnswers (r .1) calls) (paper-call c f call))
   where
     after : Machine.Client
     after = (machineCall c call) .1

@@ -21,7 +21,7 @@ use Rattle.records.specs.Served.{bitsIn, spoken, devices}
 use Rattle.records.proofs.Requests.{bits-append}
 
 -- The bits that were asked for are those that the bytes hold.
-bits-in : (q : Prefix) (seed : ℕ) → bitsIn (bytesOf (select q) seed) ≡ q
+bits-in : (q : Prefix) (seed : ℕ) → bitsIn (bytesOf (select q) seed []) ≡ q
 unfolding bitsIn bytesOf frameBytes frameBody frameHead selectPayload le
 bits-in q seed =
     ap (take (length q)) (bits-append (packed n q) tail)
@@ -57,6 +57,6 @@ matching-all P q (x ∷ xs) h = go (matches q x) (matching-all P q xs (h .1))
     go false r = r
 
 -- Any ids of at most 16 bytes.
-pub devices-honest : (S : List Id) → All (λ x. (length x ≤ 16) × Bytes x) S → (k n : ℕ) (q : Prefix) → hear (devices S k (bytesOf (select q) n)) ≡ heardOf (matching q S)
+pub devices-honest : (S : List Id) → All (λ x. (length x ≤ 16) × Bytes x) S → (k n : ℕ) (q : Prefix) → hear (devices S k (bytesOf (select q) n [])) ≡ heardOf (matching q S)
 unfolding devices
 devices-honest S h k n q = rw (bits-in q n) (spoken-heard (matching q S) (matching-all _ q S h))

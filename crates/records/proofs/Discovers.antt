@@ -20,7 +20,6 @@ use Rattle.lore.proofs.Bits.{bits-length}
 use Rattle.theory.specs.Machine as Walk
 use Rattle.theory.specs.Machine.{State, Next, going, ended, drive}
 use Rattle.theory.specs.Own.{Sorted}
-use Rattle.theory.specs.Phases.{to}
 use Rattle.theory.specs.Clients as Machine
 use Rattle.theory.specs.Clients.{Brief, idle, settle}
 use Rattle.theory.proofs.Condition3 as Machine₂
@@ -33,6 +32,7 @@ use Rattle.theory.proofs.Sorting.{sort-all, sort-length}
 use Rattle.ids.specs.declared.Id as Code
 use Rattle.table.specs.declared.Table.{Table}
 use Rattle.client.specs.declared.Outcome.the-variants.{Found}
+use Rattle.client.specs.declared.Progress.{Progress}
 use Rattle.client.specs.declared.Says.{Says}
 use Rattle.client.specs.declared.Says.the-variants.{Over}
 use Rattle.client.specs.declared.Told.{Told}
@@ -71,9 +71,9 @@ sort-sorted (x ∷ xs) h = ap (insert x) (sort-sorted xs (h .1)) ∙ first xs (h
 all-short : (L : ℕ) {ids : List Id} → Pods L ids → All Short ids
 all-short L {ids} p = all-weaken (λ x. length x ≡ L) Short ids (λ x e. omega (arith, p .short)) (p .sized)
 
-not-found : (x : Code.Id) (t : Table) (n : ℕ) → saysOf (Over Found) x t ≡ refused n [] → ⊥
+not-found : (p : Progress) (x : Code.Id) (t : Table) (n : ℕ) → saysOf (Over Found) p x t ≡ refused n [] → ⊥
 unfolding saysOf endOf
-not-found x t n e = let z : _≡_ {A = ℕ} 0 1 = cc in omega arith
+not-found p x t n e = let z : _≡_ {A = ℕ} 0 1 = cc in omega arith
 
 start-stops : (pre : Prefix) → Stops (Walk.start pre)
 unfolding Walk.start
@@ -84,13 +84,13 @@ told-ends : (seed : ℕ) (id : Option Id) (k : ℕ) (e : Ended (List Id)) (at : 
     → (code : Told × ℕ) → code .0 ≡ stood seed id k (ended e) at → code .1 ≡ k → EndsAs seed id (e, k) code
 unfolding settle idAfter
 told-ends seed id k e at f u code t c = record {
-  answer = ap (λ (x : Told). saysOf (x .says) (x .id) (x .found)) t ∙ read e f u;
+  answer = ap (λ (x : Told). saysOf (x .says) (x .progress) (x .id) (x .found)) t ∙ read e f u;
   found = ap (λ (x : Told). x .found) t ∙ table e;
   client = ap (λ (x : Told). x .client) t ∙ left e;
   selects = c;
 }
   where
-    read : (e : Ended (List Id)) → FitsNext (ended e) → Stops (ended e) → saysOf (stood seed id k (ended e) at .says) (stood seed id k (ended e) at .id) (stood seed id k (ended e) at .found) ≡ endSays e
+    read : (e : Ended (List Id)) → FitsNext (ended e) → Stops (ended e) → saysOf (stood seed id k (ended e) at .says) (stood seed id k (ended e) at .progress) (stood seed id k (ended e) at .id) (stood seed id k (ended e) at .found) ≡ endSays e
     read (done ids) f u = walked-read (ended (done ids)) f u
     read (stopped n) f u = u
 
@@ -155,7 +155,7 @@ module _ (buffer : List ℕ) (room : 31 ≤ length buffer) (wire : Wire) (seed :
   )
 
   -- On the wire of some devices: exactly the ids that match, sorted, after exactly document 01's count of Selects, and those are few.
-  pub finds : (S : List Id) (L : ℕ) → ((k n : ℕ) (q : Prefix) → hear (wire k (bytesOf (select q) n)) ≡ heardOf (matching q S)) → Pods L (matching (bitsOf given) S)
+  pub finds : (S : List Id) (L : ℕ) → ((k n : ℕ) (q : Prefix) → hear (wire k (bytesOf (select q) n [])) ≡ heardOf (matching q S)) → Pods L (matching (bitsOf given) S)
       → Finds seed (sort (matching (bitsOf given) S)) (selects S L (bitsOf given)) code × (selects S L (bitsOf given) ≤ 2 + count S (bitsOf given) * (8 * L - length (bitsOf given) + 2))
   unfolding heardBy ended-as settle idAfter
   finds S L honest pods =
@@ -177,8 +177,8 @@ module _ (buffer : List ℕ) (room : 31 ≤ length buffer) (wire : Wire) (seed :
   unfolding ended-as
   lists says = go (paper .0) refl
     where
-      over-found : saysOf (Over Found) (code .0 .id) (code .0 .found) ≡ endSays (paper .0)
-      over-found = ap (λ (s : Says). saysOf s (code .0 .id) (code .0 .found)) (sym says) ∙ ends-as .answer
+      over-found : saysOf (Over Found) (code .0 .progress) (code .0 .id) (code .0 .found) ≡ endSays (paper .0)
+      over-found = ap (λ (s : Says). saysOf s (code .0 .progress) (code .0 .id) (code .0 .found)) (sym says) ∙ ends-as .answer
 
       go : (e : Ended (List Id)) → paper .0 ≡ e → Lists (bitsOf given) code
       go (done ids) e =
@@ -194,4 +194,4 @@ module _ (buffer : List ℕ) (room : 31 ≤ length buffer) (wire : Wire) (seed :
             short = l .apart .short;
             matched = l .matched;
           }
-      go (stopped n) e = absurd (not-found (code .0 .id) (code .0 .found) n (over-found ∙ ap endSays e))
+      go (stopped n) e = absurd (not-found (code .0 .progress) (code .0 .id) (code .0 .found) n (over-found ∙ ap endSays e))

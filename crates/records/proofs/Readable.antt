@@ -6,32 +6,37 @@ use mathlib.Core.List.{List, [], _∷_, map}
 use mathlib.Core.Option.{Option, none, some}
 use mathlib.Core.Path.{_≡_, refl, _∙_, ap, ap₂}
 use lib.ListN.{length}
-use Rattle.paper.specs.Client.{Says, refused, over}
+use Rattle.paper.specs.Answers.{key}
+use Rattle.paper.specs.Client.{Says, refused, onward, over}
 use Rattle.paper.specs.Count.{All}
 use Rattle.paper.specs.Hearing as Paper
-use Rattle.paper.specs.Hearing.{nothing, one, unaddressed, garble}
-use Rattle.paper.specs.Talk.{Outcome, quiet, heard, attached, found}
+use Rattle.paper.specs.Flash.{keys}
+use Rattle.paper.specs.Frame.{Info}
+use Rattle.paper.specs.Hearing.{nothing, one, unaddressed, garble, onSome}
+use Rattle.paper.specs.Talk.{Answer, Outcome, quiet, heard, attached, found, knows}
 use Rattle.paper.specs.Walk.{long, done, stopped}
 use Rattle.theory.specs.Machine as Walk
 use Rattle.theory.specs.Machine.{State, asked, mine, other, leaving, going, ended}
 use Rattle.theory.specs.Clients.{Brief}
-use Rattle.theory.specs.Phases.{Phase, probing, parting, seeking, backing, walking, Then, to, ends, refuses, unlessLong, sought, walked, step}
+use Rattle.theory.specs.Phases as Phases
+use Rattle.theory.specs.Phases.{Search, probing, parting, seeking, backing, walking, Phase, selecting, demanding, leaving, Then, to, ends, refuses, unlessLong, sought, walked, hears, step}
 use Rattle.theory.proofs.Ending.{Undone, Staying, step-undone}
 use Rattle.theory.proofs.Fits.{Short, FitsNext, step-fits}
-use Rattle.theory.proofs.Keeping.{FitsPhase, FitsOutcome}
+use Rattle.theory.proofs.Keeping.{FitsSearch, FitsPhase, FitsOutcome}
+use Rattle.theory.proofs.Working.{Ends, told-leads}
 use Rattle.ids.specs.Ids.{idOf}
 use Rattle.ids.proofs.Laws.{id-of-from}
 use Rattle.hearing.specs.declared.Hearing.{Hearing}
 use Rattle.table.specs.declared.Entry.{Entry}
 use Rattle.table.specs.Rows.{rows}
-use Rattle.client.specs.Numbers.{numberOf, carriedBy, idsOf, heardFrom, endOf, saysOf}
+use Rattle.client.specs.Numbers.{numberOf, carriedBy, idsOf, heardFrom, progressOf, endOf, saysOf}
 use Rattle.records.specs.Picture.{rowOf, tableOf}
-use Rattle.records.specs.Clients.{Shown, refusedAs, shownSays}
+use Rattle.records.specs.Clients.{Shown, progressIn, refusedAs, shownSays}
 use Rattle.records.proofs.Sim.{short-of, told}
 use Rattle.records.proofs.Tables.{table-rows, table-count}
 
 abbrev pub readBack : Shown → Says
-readBack s = saysOf (s .says) (s .id) (s .found)
+readBack s = saysOf (s .says) (s .progress) (s .id) (s .found)
 
 -- An answer that is read as it was said.
 abbrev pub Readable : Says → Type 0
@@ -53,6 +58,10 @@ ids-back ids few s =
 pub io-read : Readable (refused 1 [])
 unfolding refusedAs saysOf endOf numberOf carriedBy
 io-read = refl
+
+unsound-read : Readable (refused 5 [])
+unfolding refusedAs saysOf endOf numberOf carriedBy
+unsound-read = refl
 
 none-read : Readable (refused 7 [])
 unfolding refusedAs saysOf endOf numberOf carriedBy
@@ -78,6 +87,22 @@ full-read : Readable (refused 15 [])
 unfolding refusedAs saysOf endOf numberOf carriedBy
 full-read = refl
 
+spent-read : Readable (refused 17 [])
+unfolding refusedAs saysOf endOf numberOf carriedBy
+spent-read = refl
+
+brief-read : Readable (refused 18 [])
+unfolding refusedAs saysOf endOf numberOf carriedBy
+brief-read = refl
+
+far-read : Readable (refused 19 [])
+unfolding refusedAs saysOf endOf numberOf carriedBy
+far-read = refl
+
+pub image-read : Readable (refused 20 [])
+unfolding refusedAs saysOf endOf numberOf carriedBy
+image-read = refl
+
 pub turn-read : Readable (refused 21 [])
 unfolding refusedAs saysOf endOf numberOf carriedBy
 turn-read = refl
@@ -85,6 +110,27 @@ turn-read = refl
 unaddressed-read : Readable (refused 23 [])
 unfolding refusedAs saysOf endOf numberOf carriedBy
 unaddressed-read = refl
+
+-- Those that carry numbers.
+device-read : (status : ℕ) → Readable (refused 2 (status ∷ []))
+unfolding refusedAs saysOf numberOf carriedBy
+device-read status = refl
+
+large-read : (size capacity : ℕ) → Readable (refused 3 (size ∷ capacity ∷ []))
+unfolding refusedAs saysOf numberOf carriedBy
+large-read size capacity = refl
+
+check-read : (expected actual : ℕ) → Readable (refused 4 (expected ∷ actual ∷ []))
+unfolding refusedAs saysOf numberOf carriedBy
+check-read expected actual = refl
+
+keys-read : (info : Info) (image : List ℕ) → Readable (refused 6 (keys info image))
+unfolding refusedAs saysOf numberOf carriedBy
+keys-read info image = go (key image)
+  where
+    go : (o : Option ℕ) → Readable (refused 6 (info .compat ∷ onSome o [] (λ k. k ∷ [])))
+    go none = refl
+    go (some k) = refl
 
 -- Those that carry a prefix.
 missing-read : (x : Paper.Id) → Short x → Readable (refused 9 x)
@@ -95,10 +141,28 @@ ambiguous-read : (x : Paper.Id) → Short x → Readable (refused 10 x)
 unfolding refusedAs saysOf numberOf carriedBy
 ambiguous-read x s = ap (refused 10) (id-of-from x s)
 
+-- The progress.
+progress-back : (p : Option (ℕ × ℕ)) → progressOf (progressIn p) ≡ p
+unfolding progressOf
+progress-back none = refl
+progress-back (some p) = refl
+
+pub onward-read : (p : Option (ℕ × ℕ)) → Readable (onward p)
+unfolding saysOf
+onward-read p = ap onward (progress-back p)
+
 -- The outcomes.
+quiet-read : (p : Option (ℕ × ℕ)) → Readable (over p quiet)
+unfolding saysOf endOf
+quiet-read p = ap (λ (q : Option (ℕ × ℕ)). over q quiet) (progress-back p)
+
+knows-read : (info : Info) (p : Option (ℕ × ℕ)) → Readable (over p (knows info))
+unfolding saysOf endOf
+knows-read info p = ap (λ (q : Option (ℕ × ℕ)). over q (knows info)) (progress-back p)
+
 outcome-read : (o : Outcome) → FitsOutcome o → Readable (over none o)
-unfolding saysOf endOf heardFrom
-outcome-read quiet f = refl
+unfolding saysOf endOf heardFrom progressOf
+outcome-read quiet f = quiet-read none
 outcome-read (heard nothing) f = refl
 outcome-read (heard (one x)) f =
     ap (λ (r : Hearing). over none (heard (heardFrom (r .heard) (r .id)))) (told x f) ∙ ap (λ (y : Paper.Id). over none (heard (one y))) (id-of-from x (short-of x f))
@@ -107,20 +171,22 @@ outcome-read (heard garble) f = refl
 outcome-read (attached none) f = refl
 outcome-read (attached (some x)) f = ap (λ (y : Paper.Id). over none (attached (some y))) (id-of-from x f)
 outcome-read (found ids) f = ap (λ (l : List Paper.Id). over none (found l)) (ids-back ids (f .0) (f .1))
+outcome-read (knows info) f = knows-read info none
 
-abbrev pub ReadableThen : Then → Type 0
-ReadableThen (to ph) = Unit {0}
-ReadableThen (ends o) = Readable (over none o)
-ReadableThen (refuses n carries) = Readable (refused n carries)
+-- What follows, with the progress made.
+abbrev pub ReadableThen : Option (ℕ × ℕ) → Then → Type 0
+ReadableThen p (to ph) = Unit {0}
+ReadableThen p (ends o) = Readable (over p o)
+ReadableThen p (refuses n carries) = Readable (refused n carries)
 
-unless-read : (h : Paper.Heard) (t : Then) → (long h ≡ false → ReadableThen t) → ReadableThen (unlessLong h t)
+unless-read : (h : Paper.Heard) (t : Then) → (long h ≡ false → ReadableThen none t) → ReadableThen none (unlessLong h t)
 unless-read h t f = go (long h) refl
   where
-    go : (b : Bool) → long h ≡ b → ReadableThen (cond b (refuses 14 []) t)
+    go : (b : Bool) → long h ≡ b → ReadableThen none (cond b (refuses 14 []) t)
     go true e = long-read
     go false e = f e
 
-sought-read : (uid : Option Paper.Id) → Brief uid → (h : Paper.Heard) → long h ≡ false → ReadableThen (sought uid h)
+sought-read : (uid : Option Paper.Id) → Brief uid → (h : Paper.Heard) → long h ≡ false → ReadableThen none (sought uid h)
 unfolding sought
 sought-read none b nothing e = none-read
 sought-read (some x) b nothing e = missing-read x b
@@ -140,7 +206,7 @@ undone-stops (going s) u = tt
 undone-stops (ended (done ids)) u = tt
 undone-stops (ended (stopped n)) u = u
 
-pub walked-read : (n : Walk.Next) → FitsNext n → Stops n → ReadableThen (walked n)
+pub walked-read : (n : Walk.Next) → FitsNext n → Stops n → ReadableThen none (walked n)
 walked-read (going s) f u = tt
 walked-read (ended (done ids)) f u = outcome-read (found ids) f
 walked-read (ended (stopped c)) f u = u
@@ -161,12 +227,43 @@ step-stops s h = go (s .phase)
     go (other x good) = asks (other x good) tt
     go leaving = tt
 
--- Whatever is heard in a phase that fits.
-pub phase-read : (ph : Phase) → FitsPhase ph → (h : Paper.Heard) → ReadableThen (step ph h)
+search-read : (s : Search) → FitsSearch s → (h : Paper.Heard) → ReadableThen none (hears s h)
+unfolding hears
+search-read (probing bytes bits) f h = unless-read h (ends (heard h)) (λ e. outcome-read (heard h) e)
+search-read parting f h = outcome-read quiet tt
+search-read (seeking uid) f h = unless-read h (sought uid h) (sought-read uid f h)
+search-read (backing none) f h = several-read
+search-read (backing (some x)) f h = ambiguous-read x f
+search-read (walking s) f h = walked-read (Walk.step s h) (step-fits s h f) (step-stops s h)
+
+-- What a job leads to: P of the phase that follows, or an end that is read as it was said, whatever progress is made with it.
+abbrev pub Reads : (Phase → Type 0) → Then → Type 0
+Reads P (to ph) = P ph
+Reads P (ends o) = (p : Option (ℕ × ℕ)) → Readable (over p o)
+Reads P (refuses n carries) = Readable (refused n carries)
+
+pub job-ends : (P : Phase → Type 0) → Ends (Reads P)
+job-ends P = record {
+  quiet = quiet-read;
+  knows = knows-read;
+  device = device-read;
+  large = λ n info. large-read _ (info .capacity);
+  check = λ payload image. check-read _ _;
+  unsound = unsound-read;
+  incompatible = keys-read;
+  spent = spent-read;
+  short = brief-read;
+  far = far-read;
+}
+
+-- Whatever a phase that fits is answered.
+pub phase-read : (ph : Phase) → FitsPhase ph → (a : Answer (Phases.request ph)) → ReadableThen (step ph a .progress) (step ph a .then)
 unfolding step
-phase-read (probing bytes bits) f h = unless-read h (ends (heard h)) (λ e. outcome-read (heard h) e)
-phase-read parting f h = outcome-read quiet tt
-phase-read (seeking uid) f h = unless-read h (sought uid h) (sought-read uid f h)
-phase-read (backing none) f h = several-read
-phase-read (backing (some x)) f h = ambiguous-read x f
-phase-read (walking s) f h = walked-read (Walk.step s h) (step-fits s h f) (step-stops s h)
+phase-read (selecting s) f h = search-read s f h
+phase-read (demanding j) f a = go (step (demanding j) a .then) (told-leads _ (job-ends (λ k. Unit {0})) j (λ k w. tt) (a .reply) (a .image))
+  where
+    go : (t : Then) → Reads (λ k. Unit {0}) t → ReadableThen (step (demanding j) a .progress) t
+    go (to ph) r = tt
+    go (ends o) r = r (step (demanding j) a .progress)
+    go (refuses n carries) r = r
+phase-read (leaving bootloader baud) f a = quiet-read none

@@ -11,33 +11,38 @@ use lib.Dec.{ltb}
 use lib.ListN.{length, take, drop, replicate, length-take}
 use lib.Seq.{take-append-le, take-all}
 use borrow.Author.Tests.{le-ltb}
-use Rattle.paper.specs.Client.{bytesOf, refused, granted}
-use Rattle.paper.specs.Frame.{most, frameBytes}
+use Rattle.paper.specs.Client.{otherLength, seedAfter, payloadOf, demandFrame, bytesOf, granted}
+use Rattle.paper.specs.Flash.{resetRequest}
+use Rattle.paper.specs.Frame.{le, most, Frame, frameBytes}
 use Rattle.paper.specs.Hearing as Paper
 use Rattle.paper.specs.Hearing.{Prefix, bitsOf, counting, selectPayload, selectFrame}
-use Rattle.paper.specs.Talk.{select}
+use Rattle.paper.specs.Talk.{Demand}
 use Rattle.paper.specs.Walk.{nobody}
 use Rattle.lore.proofs.Bits.{bits-length}
 use Rattle.lore.proofs.Packed.{packed-length}
 use Rattle.theory.specs.Phases as Phases
-use Rattle.theory.specs.Phases.{Phase, probing, parting, seeking, backing, walking}
+use Rattle.theory.specs.Phases.{Search, probing, parting, seeking, backing, walking, Job, informing, erasing, writing, verifying, resetting, Phase, selecting, demanding, leaving, selected, demanded}
 use Rattle.theory.specs.Clients as Machine
-use Rattle.theory.specs.Clients.{Turn, idle, ready, waiting, turned, grant}
+use Rattle.theory.specs.Clients.{Turn, idle, ready, waiting, turned, lends, lentTo, withholds, handedOut, grant}
 use Rattle.theory.proofs.Bits.{bits-cons}
 use Rattle.theory.proofs.Fits as Walk
-use Rattle.theory.proofs.Keeping.{FitsPhase, FitsTurn, Fits}
+use Rattle.theory.proofs.FlashBytes.{write-carries}
+use Rattle.theory.proofs.Keeping.{FitsSearch, FitsPhase, FitsTurn, Fits}
 use Rattle.ids.specs.Ids.{noId, idOf, idFrom}
 use Rattle.ids.proofs.Laws.{id-of-from}
 use Rattle.wire.specs.declared.Written.the-variants as Written
 use Rattle.frame.specs.Writing as Frame
 use Rattle.select.specs.Selects.{asked}
 use Rattle.walk.specs.Moves as Moves
-use Rattle.client.specs.declared.Client.{Client}
+use Rattle.client.specs.declared.Refusal.the-variants.{OtherImage}
+use Rattle.client.specs.Clients as Clients
+use Rattle.demands.specs.Demands.{resetOf, demandOf}
 use Rattle.asking.specs.Asking as Code
-use Rattle.asking.specs.Asking.{Asking, asks}
+use Rattle.asking.specs.Asking.{Asking, asks, handing, withheld, askedFor}
 use Rattle.records.specs.Picture.{walkOf, phaseOf}
-use Rattle.records.specs.Clients.{phaseIn, recordOf, clientOf, refusedAs, askedAs}
+use Rattle.records.specs.Clients.{searchIn, resetIn, jobIn, phaseIn, recordOf, clientOf, refusedAs, askedAs}
 use Rattle.records.proofs.Asks.{asks-sim, asks-count, nobody-back}
+use Rattle.records.proofs.Jobs.{other-sim, same-length}
 
 -- The bits of bytes and more bytes.
 pub bits-append : (x y : List ℕ) → bitsOf (x ++ y) ≡ bitsOf x ++ bitsOf y
@@ -71,64 +76,115 @@ unfolding noId
 empty = refl
 
 -- The bits that the code asks for are the machine's.
-phase-asks : (seed : ℕ) (id : Option Paper.Id) (ph : Phase) → FitsPhase ph
-    → asked (asks (recordOf seed id (ready ph)) (phaseIn ph) .bits) (asks (recordOf seed id (ready ph)) (phaseIn ph) .count % 256) ≡ Phases.request ph
-unfolding asks Phases.request Moves.nobody
-phase-asks seed id (probing bytes bits) f = front bytes bits (f .0) (f .1)
-phase-asks seed id parting f = nobody-back
-phase-asks seed id (seeking none) f = empty
-phase-asks seed id (seeking (some uid)) f = whole uid f
-phase-asks seed id (backing uid) f = nobody-back
-phase-asks seed id (walking s) f =
+search-asks : (seed : ℕ) (id : Option Paper.Id) (s : Search) → FitsSearch s
+    → asked (asks (recordOf seed id (ready (selecting s))) (searchIn s) .bits) (asks (recordOf seed id (ready (selecting s))) (searchIn s) .count % 256) ≡ selected s
+unfolding asks selected Moves.nobody
+search-asks seed id (probing bytes bits) f = front bytes bits (f .0) (f .1)
+search-asks seed id parting f = nobody-back
+search-asks seed id (seeking none) f = empty
+search-asks seed id (seeking (some uid)) f = whole uid f
+search-asks seed id (backing uid) f = nobody-back
+search-asks seed id (walking s) f =
     let n : Moves.asks (walkOf s) (phaseOf (s .phase)) .count % 256 ≡ Moves.asks (walkOf s) (phaseOf (s .phase)) .count = mod-eq-of-lt (omega (arith, asks-count (walkOf s) (phaseOf (s .phase)))) in
     ap (asked (Moves.asks (walkOf s) (phaseOf (s .phase)) .bits)) n ∙ asks-sim s f
 
--- No request is of more than 129 bits.
-pub phase-bits : (ph : Phase) → FitsPhase ph → length (Phases.request ph) ≤ 129
-unfolding Phases.request nobody
-phase-bits (probing bytes bits) f = omega (arith, f .0, f .1, bits-length bytes, length-take bits (bitsOf bytes))
-phase-bits parting f = omega arith
-phase-bits (seeking none) f = omega arith
-phase-bits (seeking (some uid)) f = omega (arith, bits-length uid)
-phase-bits (backing uid) f = omega arith
-phase-bits (walking s) f = Walk.request-fits s f
+-- No Select is of more than 129 bits.
+search-bits : (s : Search) → FitsSearch s → length (selected s) ≤ 129
+unfolding selected nobody
+search-bits (probing bytes bits) f = omega (arith, f .0, f .1, bits-length bytes, length-take bits (bitsOf bytes))
+search-bits parting f = omega arith
+search-bits (seeking none) f = omega arith
+search-bits (seeking (some uid)) f = omega (arith, bits-length uid)
+search-bits (backing uid) f = omega arith
+search-bits (walking s) f = Walk.request-fits s f
 
 pub payload-length : (seed : ℕ) (q : Prefix) → length (selectPayload seed q) ≡ 2 + (length q + 7) / 8
 unfolding selectPayload
 payload-length seed q = omega (arith, packed-length ((length q + 7) / 8) q)
 
--- A Select is never too long to be written.
-written-select : (seed : ℕ) (q : Prefix) (buffer : List ℕ) → length q ≤ 129 → Frame.written (selectFrame seed q) buffer ≡ Frame.placed (bytesOf (select q) seed) buffer
-unfolding Frame.written bytesOf
-written-select seed q buffer h =
-    ap (λ (b : Bool). cond b (record { answer = Written.TooLong; bytes = buffer }) (Frame.placed (frameBytes (selectFrame seed q)) buffer))
-    (le-ltb most (length (selectPayload seed q)) (omega (arith, payload-length seed q)))
+-- The demand of a job is the machine's, with an image of the flash's length lent.
+reset-same : (bootloader : Bool) (baud : Option ℕ) → resetOf (resetIn bootloader baud) ≡ resetRequest bootloader baud
+reset-same bootloader none = refl
+reset-same bootloader (some baud) = refl
 
-placed-sim : (seed : ℕ) (id : Option Paper.Id) (ph : Phase) (bytes buffer : List ℕ)
-    → _≡_ {A = Asking} (record { answer = Code.granted (recordOf seed id (ready ph)) (phaseIn ph) (Frame.placed bytes buffer .answer); bytes = Frame.placed bytes buffer .bytes })
-    (askedAs (grant (record { seed = seed; id = id; turn = ready ph }) bytes (Code.nextSeed seed) ph buffer))
-unfolding Frame.placed Code.granted grant refusedAs
-placed-sim seed id ph bytes buffer = go (ltb (length buffer) (length bytes))
+demand-same : (j : Job) (image : List ℕ) → otherLength (lentTo j) image ≡ false → demandOf (jobIn j) (length image) ≡ demanded j
+unfolding demandOf demanded
+demand-same (informing why) image e = refl
+demand-same (erasing why info address) image e = refl
+demand-same (writing n info offset retries) image e = rw (same-length n image e)
+demand-same (verifying n info) image e = rw (same-length n image e)
+demand-same (resetting bootloader baud) image e = reset-same bootloader baud
+
+-- No request is too long to be written.
+pub demand-short : (j : Job) (image : List ℕ) → otherLength (lentTo j) image ≡ false → length (payloadOf (demanded j .payload) image) ≤ most
+unfolding demanded payloadOf le
+demand-short (informing why) image e = omega arith
+demand-short (erasing why info address) image e = omega arith
+demand-short (writing n info offset retries) image e =
+    rw (same-length n image e) (omega (arith, write-carries info image offset .all, write-carries info image offset .fits))
+demand-short (verifying n info) image e = omega arith
+demand-short (resetting bootloader baud) image e = omega arith
+
+written-short : (f : Frame) (buffer : List ℕ) → length (f .payload) ≤ most → Frame.written f buffer ≡ Frame.placed (frameBytes f) buffer
+unfolding Frame.written
+written-short f buffer h = rw (le-ltb most (length (f .payload)) h)
+
+-- The request handed out, or a buffer too short for it.
+placed-sim : (c : Machine.Client) (seed : ℕ) (ph : Phase) (bytes buffer : List ℕ)
+    → handing (clientOf (turned c (ready ph))) (clientOf (record { seed = seed; id = c .id; turn = handedOut ph })) (Frame.placed bytes buffer) ≡ askedAs (grant (turned c (ready ph)) bytes seed ph buffer)
+unfolding handing Frame.placed Code.granted grant refusedAs
+placed-sim c seed ph bytes buffer = go (ltb (length buffer) (length bytes))
   where
-    room : Bool → Frame.Outcome
-    room b = cond b (record { answer = Written.Short (length bytes); bytes = buffer }) (record { answer = Written.Done (length bytes); bytes = bytes ++ drop (length bytes) buffer })
+    next : Machine.Client
+    next = record { seed = seed; id = c .id; turn = handedOut ph }
 
     go : (b : Bool)
-        → _≡_ {A = Asking} (record { answer = Code.granted (recordOf seed id (ready ph)) (phaseIn ph) (room b .answer); bytes = room b .bytes })
-        (askedAs (cond b (record { says = refused 16 (length bytes ∷ []); client = record { seed = seed; id = id; turn = ready ph }; buffer = buffer })
-        (record { says = granted (length bytes); client = record { seed = Code.nextSeed seed; id = id; turn = waiting ph }; buffer = bytes ++ drop (length bytes) buffer })))
+        → handing (clientOf (turned c (ready ph))) (clientOf next)
+        (cond b (record { answer = Written.Short (length bytes); bytes = buffer }) (record { answer = Written.Done (length bytes); bytes = bytes ++ drop (length bytes) buffer }))
+        ≡ askedAs (cond b (withholds (turned c (ready ph)) 16 (length bytes ∷ []) buffer) (record { says = granted (length bytes); client = next; buffer = bytes ++ drop (length bytes) buffer }))
     go true = refl
     go false = refl
 
-pub request-asked : (c : Machine.Client) → Fits c → (buffer : List ℕ) → Code.request (clientOf c) buffer ≡ askedAs (Machine.request c buffer)
+module _ (c : Machine.Client) (image buffer : List ℕ) where
+  abbrev bytes : Phase → List ℕ
+  bytes ph = bytesOf (Phases.request ph) (seedAfter (Phases.request ph) (c .seed)) image
+
+  asked-sim : (ph : Phase) → FitsPhase ph → otherLength (lends ph) image ≡ false
+      → askedFor (clientOf (turned c (ready ph))) (phaseIn ph) image buffer ≡ askedAs (grant (turned c (ready ph)) (bytes ph) (seedAfter (Phases.request ph) (c .seed)) ph buffer)
+  unfolding askedFor Code.selects handedOut bytesOf payloadOf Clients.idle
+  asked-sim (selecting s) f e =
+      ap (λ (q : Prefix). given (Frame.written (selectFrame (Code.nextSeed (c .seed)) q) buffer)) (search-asks (c .seed) (c .id) s f)
+      ∙ ap given (written-short (selectFrame (Code.nextSeed (c .seed)) (selected s)) buffer (omega (arith, search-bits s f, payload-length (Code.nextSeed (c .seed)) (selected s))))
+      ∙ placed-sim c (Code.nextSeed (c .seed)) (selecting s) (bytes (selecting s)) buffer
+    where
+      given : Frame.Outcome → Asking
+      given o = handing (clientOf (turned c (ready (selecting s)))) (clientOf (record { seed = Code.nextSeed (c .seed); id = c .id; turn = waiting (selecting s) })) o
+  asked-sim (demanding j) f e =
+      ap (λ (d : Demand). given (Frame.written (demandFrame d image) buffer)) (demand-same j image e)
+      ∙ ap given (written-short (demandFrame (demanded j) image) buffer (demand-short j image e))
+      ∙ placed-sim c (c .seed) (demanding j) (bytes (demanding j)) buffer
+    where
+      given : Frame.Outcome → Asking
+      given o = handing (clientOf (turned c (ready (demanding j)))) (clientOf (record { seed = c .seed; id = c .id; turn = waiting (demanding j) })) o
+  asked-sim (leaving bootloader baud) f e =
+      ap (λ (d : Demand). given (Frame.written (demandFrame d []) buffer)) (reset-same bootloader baud)
+      ∙ ap given (written-short (demandFrame (resetRequest bootloader baud) []) buffer (omega arith))
+      ∙ placed-sim c (c .seed) (leaving bootloader baud) (bytes (leaving bootloader baud)) buffer
+    where
+      given : Frame.Outcome → Asking
+      given o = handing (clientOf (turned c (ready (leaving bootloader baud)))) (clientOf (turned c idle)) o
+
+pub request-asked : (c : Machine.Client) → Fits c → (image buffer : List ℕ) → Code.request (clientOf c) image buffer ≡ askedAs (Machine.request c image buffer)
 unfolding Code.request Machine.request refusedAs
-request-asked c f buffer = go (c .turn) (f .turn)
+request-asked c f image buffer = go (c .turn) (f .turn)
   where
-    go : (t : Turn) → FitsTurn t → Code.request (clientOf (turned c t)) buffer ≡ askedAs (Machine.request (turned c t) buffer)
+    go : (t : Turn) → FitsTurn t → Code.request (clientOf (turned c t)) image buffer ≡ askedAs (Machine.request (turned c t) image buffer)
     go idle w = refl
-    go (ready ph) w =
-        ap (λ (o : Frame.Outcome). record { answer = Code.granted (recordOf (c .seed) (c .id) (ready ph)) (phaseIn ph) (o .answer); bytes = o .bytes })
-        (ap (λ (q : Prefix). Frame.written (selectFrame (Code.nextSeed (c .seed)) q) buffer) (phase-asks (c .seed) (c .id) ph w)
-        ∙ written-select (Code.nextSeed (c .seed)) (Phases.request ph) buffer (phase-bits ph w))
-        ∙ placed-sim (c .seed) (c .id) ph (bytesOf (select (Phases.request ph)) (Code.nextSeed (c .seed))) buffer
+    go (ready ph) w = rw (other-sim ph image) (lent (otherLength (lends ph) image) refl)
+      where
+        lent : (b : Bool) → otherLength (lends ph) image ≡ b
+            → cond b (withheld (clientOf (turned c (ready ph))) OtherImage buffer) (askedFor (clientOf (turned c (ready ph))) (phaseIn ph) image buffer)
+            ≡ askedAs (cond b (withholds (turned c (ready ph)) 20 [] buffer) (grant (turned c (ready ph)) (bytes c image buffer ph) (seedAfter (Phases.request ph) (c .seed)) ph buffer))
+        lent true e = refl
+        lent false e = asked-sim c image buffer ph w e
     go (waiting ph) w = refl

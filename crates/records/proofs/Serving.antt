@@ -3,7 +3,7 @@
 use Prim.Native.Nat.{ℕ, zero, suc, _+_, _%_, _≤_}
 use mathlib.Core.Bool.{Bool, true, false, cond}
 use mathlib.Core.List.{List, [], _++_}
-use mathlib.Core.Option.{Option}
+use mathlib.Core.Option.{Option, none}
 use mathlib.Core.Path.{_≡_, refl, _∙_, ap, ap₂}
 use native.Mathlib.Nat.{mod-add-mod}
 use native.Mathlib.Omega.{arith}
@@ -20,49 +20,53 @@ use Rattle.lore.proofs.Frames.{frame-length}
 use Rattle.theory.specs.Machine as Walk
 use Rattle.theory.specs.Machine.{State, asked, mine, other, leaving, Next, going, ended, drive}
 use Rattle.theory.specs.Phases as Phases
-use Rattle.theory.specs.Phases.{Phase, walking, Then, walked, step}
+use Rattle.theory.specs.Phases.{walking, Phase, selecting, selected, Then, walked, hears, step}
 use Rattle.theory.specs.Clients as Machine
-use Rattle.theory.specs.Clients.{Brief, Turn, idle, ready, waiting, settle, grant}
+use Rattle.theory.specs.Clients.{Brief, Turn, idle, ready, waiting, settle, handedOut, grant}
 use Rattle.theory.proofs.Ending.{Undone, Staying, step-undone}
 use Rattle.theory.proofs.Fits as Walk₂
 use Rattle.theory.proofs.Fits.{FitsNext, step-fits}
 use Rattle.theory.proofs.Keeping.{Fits}
+use Rattle.ids.specs.declared.Id.{Id}
 use Rattle.table.specs.Rows.{noTable}
 use Rattle.client.specs.declared.Client.{Client}
+use Rattle.client.specs.declared.Outcome.the-variants.{Unaddressed}
+use Rattle.client.specs.declared.Refusal.{Refusal}
+use Rattle.client.specs.declared.Says.the-variants.{Over, Refused}
 use Rattle.client.specs.declared.Told.{Told}
 use Rattle.asking.specs.Asking.{Asking, request, nextSeed}
 use Rattle.telling.specs.Telling.{record′}
-use Rattle.records.specs.Clients.{clientOf, Shown, refusedAs, toldAs, askedAs}
+use Rattle.records.specs.Clients.{clientOf, Shown, beside, plainly, refusedAs, toldAs, askedAs}
 use Rattle.records.specs.Served.{Wire, sent, round, isOnward, served, heardBy, endId}
 use Rattle.records.proofs.Requests.{payload-length, request-asked}
 use Rattle.records.proofs.Tells.{keeps, clears, asking-bits, record-told}
 
--- No refusal goes on.
-refused-ends : (n : ℕ) (carries : List ℕ) → isOnward (refusedAs n carries .says) ≡ false
-unfolding isOnward refusedAs
-refused-ends n carries =
-    either (eqb n 1) _ _ refl (either (eqb n 7) _ _ refl (either (eqb n 8) _ _ refl (either (eqb n 9) _ _ refl (either (eqb n 10) _ _ refl (either (eqb n 11) _ _ refl
-    (either (eqb n 12) _ _ refl (either (eqb n 13) _ _ refl (either (eqb n 14) _ _ refl (either (eqb n 15) _ _ refl (either (eqb n 16) _ _ refl (either (eqb n 23) _ _ refl refl)))))))))))
+-- What holds of each refusal as the code answers it, and of the outcome that document 01 numbers 23.
+refused-leads : (Q : Shown → Type 0) → ((r : Refusal) (x : Id) → Q (beside (Refused r) x)) → Q (plainly (Over Unaddressed)) → (n : ℕ) (carries : List ℕ) → Q (refusedAs n carries)
+unfolding refusedAs
+refused-leads Q r u n carries =
+    either (eqb n 1) _ _ (r _ _) (either (eqb n 2) _ _ (r _ _) (either (eqb n 3) _ _ (r _ _) (either (eqb n 4) _ _ (r _ _) (either (eqb n 5) _ _ (r _ _) (either (eqb n 6) _ _ (r _ _)
+    (either (eqb n 7) _ _ (r _ _) (either (eqb n 8) _ _ (r _ _) (either (eqb n 9) _ _ (r _ _) (either (eqb n 10) _ _ (r _ _) (either (eqb n 11) _ _ (r _ _) (either (eqb n 12) _ _ (r _ _)
+    (either (eqb n 13) _ _ (r _ _) (either (eqb n 14) _ _ (r _ _) (either (eqb n 15) _ _ (r _ _) (either (eqb n 16) _ _ (r _ _) (either (eqb n 17) _ _ (r _ _) (either (eqb n 18) _ _ (r _ _)
+    (either (eqb n 19) _ _ (r _ _) (either (eqb n 20) _ _ (r _ _) (either (eqb n 23) _ _ u (r _ _)))))))))))))))))))))
   where
-    either : (b : Bool) (x y : Shown) → isOnward (x .says) ≡ false → isOnward (y .says) ≡ false → isOnward (cond b x y .says) ≡ false
-    either true x y e f = e
-    either false x y e f = f
+    either : (b : Bool) (x y : Shown) → Q x → Q y → Q (cond b x y)
+    either true x y v w = v
+    either false x y v w = w
+
+-- No refusal goes on.
+pub refused-ends : (n : ℕ) (carries : List ℕ) → isOnward (refusedAs n carries .says) ≡ false
+unfolding isOnward
+refused-ends = refused-leads (λ s. isOnward (s .says) ≡ false) (λ r x. refl) refl
 
 -- No refusal has ids beside it.
 pub refused-table : (n : ℕ) (carries : List ℕ) → refusedAs n carries .found ≡ noTable
-unfolding refusedAs
-refused-table n carries =
-    either (eqb n 1) _ _ refl (either (eqb n 7) _ _ refl (either (eqb n 8) _ _ refl (either (eqb n 9) _ _ refl (either (eqb n 10) _ _ refl (either (eqb n 11) _ _ refl
-    (either (eqb n 12) _ _ refl (either (eqb n 13) _ _ refl (either (eqb n 14) _ _ refl (either (eqb n 15) _ _ refl (either (eqb n 16) _ _ refl (either (eqb n 23) _ _ refl refl)))))))))))
-  where
-    either : (b : Bool) (x y : Shown) → x .found ≡ noTable → y .found ≡ noTable → cond b x y .found ≡ noTable
-    either true x y e f = e
-    either false x y e f = f
+refused-table = refused-leads (λ s. s .found ≡ noTable) (λ r x. refl) refl
 
 -- A Select takes at most 31 bytes.
-pub select-length : (q : Prefix) (seed : ℕ) → length q ≤ 129 → length (bytesOf (select q) seed) ≤ 31
+pub select-length : (q : Prefix) (seed : ℕ) (image : List ℕ) → length q ≤ 129 → length (bytesOf (select q) seed image) ≤ 31
 unfolding bytesOf
-select-length q seed h = omega (arith, frame-length (selectFrame seed q), payload-length seed q)
+select-length q seed image h = omega (arith, frame-length (selectFrame seed q), payload-length seed q)
 
 -- The attached id where a walk goes on or has ended.
 abbrev pub idAt : Option Paper.Id → Next → Option Paper.Id
@@ -71,7 +75,7 @@ idAt id (ended e) = endId id e
 
 -- The answer where the machine of the walk stands, after k Selects from the seed b on.
 abbrev pub stood : ℕ → Option Paper.Id → ℕ → Next → ℕ → Told
-stood b id k next at = toldAs (settle (record { seed = (b + k) % 256; id = idAt id next; turn = idle }) (walked next) at)
+stood b id k next at = toldAs (settle (record { seed = (b + k) % 256; id = idAt id next; turn = idle }) none (walked next) at)
 
 next-seed : (b k : ℕ) → nextSeed ((b + k) % 256) ≡ (b + suc k) % 256
 next-seed b k = mod-add-mod (b + k) 256 1 ∙ ap (λ (x : ℕ). x % 256) (shift b k)
@@ -108,7 +112,7 @@ module _ (buffer : List ℕ) (room : 31 ≤ length buffer) (wire : Wire) (b : �
     asking = record { seed = seed; id = id; turn = ready ph }
 
     abbrev out : Machine.Client
-    out = record { seed = next; id = id; turn = waiting ph }
+    out = record { seed = next; id = id; turn = handedOut ph }
 
     grants : grant asking bytes next ph buffer ≡ record { says = granted (length bytes); client = out; buffer = bytes ++ drop (length bytes) buffer }
     unfolding grant
@@ -123,43 +127,43 @@ module _ (buffer : List ℕ) (room : 31 ≤ length buffer) (wire : Wire) (b : �
 
   module _ (k : ℕ) (s : State) (f : Walk₂.Fits s) where
     ready-client : Machine.Client
-    ready-client = record { seed = (b + k) % 256; id = id; turn = ready (walking s) }
+    ready-client = record { seed = (b + k) % 256; id = id; turn = ready (selecting (walking s)) }
 
     bytes : List ℕ
-    bytes = bytesOf (select (Walk.request s)) (nextSeed ((b + k) % 256))
+    bytes = bytesOf (select (Walk.request s)) (nextSeed ((b + k) % 256)) []
 
     small : length bytes ≤ 31
     unfolding bytes
-    small = select-length (Walk.request s) (nextSeed ((b + k) % 256)) (Walk₂.request-fits s f)
+    small = select-length (Walk.request s) (nextSeed ((b + k) % 256)) [] (Walk₂.request-fits s f)
 
-    asks : request (clientOf ready-client) buffer ≡ askedAs (grant ready-client bytes (nextSeed ((b + k) % 256)) (walking s) buffer)
-    unfolding ready-client bytes Machine.request Phases.request
-    asks = request-asked ready-client (record { seed = omega arith; id = brief; turn = f }) buffer
+    asks : request (clientOf ready-client) [] buffer ≡ askedAs (grant ready-client bytes (nextSeed ((b + k) % 256)) (selecting (walking s)) buffer)
+    unfolding ready-client bytes Machine.request selected
+    asks = request-asked ready-client (record { seed = omega arith; id = brief; turn = f }) [] buffer
 
     heard : Paper.Heard
     heard = hear (wire k bytes)
 
     heard-is : heard ≡ heardBy wire b k (Walk.request s)
     unfolding heard bytes heardBy
-    heard-is = ap (λ (n : ℕ). hear (wire k (bytesOf (select (Walk.request s)) n))) (next-seed b k)
+    heard-is = ap (λ (n : ℕ). hear (wire k (bytesOf (select (Walk.request s)) n []))) (next-seed b k)
 
     -- One round.
     rounds : round buffer wire k (clientOf ready-client) ≡ stood b id (suc k) (Walk.step s (heardBy wire b k (Walk.request s))) (length (wire k bytes))
-    unfolding round ready-client heard Machine.record′ Phases.request step settle
+    unfolding round ready-client heard Machine.record′ selected step hears handedOut settle
     rounds =
-        ap (λ (a : Asking). record′ (a .answer .client) (wire k (sent a))) asks
-        ∙ ap₂ (λ (c : Client) (l : List ℕ). record′ c (wire k l))
-        (granted-client ((b + k) % 256) (walking s) bytes small (nextSeed ((b + k) % 256))) (granted-bytes ((b + k) % 256) (walking s) bytes small (nextSeed ((b + k) % 256)))
-        ∙ record-told (record { seed = nextSeed ((b + k) % 256); id = id; turn = waiting (walking s) }) (record { seed = omega arith; id = brief; turn = f }) (wire k bytes)
-        ∙ ap₂ (λ (n : ℕ) (x : Option Paper.Id). toldAs (settle (record { seed = n; id = x; turn = waiting (walking s) }) (walked (Walk.step s heard)) (length (wire k bytes))))
+        ap (λ (a : Asking). record′ (a .answer .client) [] (wire k (sent a))) asks
+        ∙ ap₂ (λ (c : Client) (l : List ℕ). record′ c [] (wire k l))
+        (granted-client ((b + k) % 256) (selecting (walking s)) bytes small (nextSeed ((b + k) % 256))) (granted-bytes ((b + k) % 256) (selecting (walking s)) bytes small (nextSeed ((b + k) % 256)))
+        ∙ record-told (record { seed = nextSeed ((b + k) % 256); id = id; turn = waiting (selecting (walking s)) }) (record { seed = omega arith; id = brief; turn = f }) [] (wire k bytes)
+        ∙ ap₂ (λ (n : ℕ) (x : Option Paper.Id). toldAs (settle (record { seed = n; id = x; turn = waiting (selecting (walking s)) }) none (walked (Walk.step s heard)) (length (wire k bytes))))
         (next-seed b k) (id-after s f id heard)
-        ∙ ap (λ (h : Paper.Heard). toldAs (settle (record { seed = (b + suc k) % 256; id = idAt id (Walk.step s h); turn = waiting (walking s) }) (walked (Walk.step s h)) (length (wire k bytes)))) heard-is
-        ∙ ap toldAs (turn-settles ((b + suc k) % 256) (idAt id next) (waiting (walking s)) (walked next) (length (wire k bytes)))
+        ∙ ap (λ (h : Paper.Heard). toldAs (settle (record { seed = (b + suc k) % 256; id = idAt id (Walk.step s h); turn = waiting (selecting (walking s)) }) none (walked (Walk.step s h)) (length (wire k bytes)))) heard-is
+        ∙ ap toldAs (turn-settles ((b + suc k) % 256) (idAt id next) (waiting (selecting (walking s))) (walked next) (length (wire k bytes)))
       where
         next : Next
         next = Walk.step s (heardBy wire b k (Walk.request s))
 
-        turn-settles : (n : ℕ) (x : Option Paper.Id) (t : Turn) (next : Then) (at : ℕ) → settle (record { seed = n; id = x; turn = t }) next at ≡ settle (record { seed = n; id = x; turn = idle }) next at
+        turn-settles : (n : ℕ) (x : Option Paper.Id) (t : Turn) (next : Then) (at : ℕ) → settle (record { seed = n; id = x; turn = t }) none next at ≡ settle (record { seed = n; id = x; turn = idle }) none next at
         turn-settles n x t (Phases.to ph) at = refl
         turn-settles n x t (Phases.ends o) at = refl
         turn-settles n x t (Phases.refuses m carries) at = refl

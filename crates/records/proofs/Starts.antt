@@ -2,7 +2,8 @@
 -- Assumes nothing.
 use Prim.Native.Nat.{ℕ, _*_, _<_, _≤_}
 use mathlib.Core.Bool.{Bool, true, false, _&&_, cond}
-use mathlib.Core.Option.{none, some}
+use mathlib.Core.List.{List}
+use mathlib.Core.Option.{Option, none, some}
 use mathlib.Core.Path.{_≡_, refl, sym, _∙_, ap}
 use native.Mathlib.Omega.{arith}
 use lib.Dec.{leb, ltb}
@@ -13,19 +14,20 @@ use Rattle.paper.specs.Count.{All}
 use Rattle.paper.specs.Hearing as Paper
 use Rattle.paper.specs.Hearing.{bitsOf}
 use Rattle.lore.proofs.Choice.{and-yes, and-not-left, and-not-right}
-use Rattle.theory.specs.Phases.{Phase, probing, parting, seeking, walking, starting}
+use Rattle.theory.specs.Phases.{probing, parting, seeking, walking, tell, clear, load, informing, resetting, Phase, selecting, demanding, leaving, starting}
 use Rattle.theory.specs.Clients as Machine
 use Rattle.theory.specs.Clients.{Turn, idle, ready, waiting, turned, settle}
 use Rattle.ids.specs.Ids.{noId, idFrom}
 use Rattle.walk.specs.declared.Walk.{Walk}
 use Rattle.walk.specs.declared.Phase.the-variants.{Asked}
 use Rattle.walk.specs.Moves.{noWalk}
-use Rattle.client.specs.declared.Phase.the-variants.{Probing, Walking}
+use Rattle.client.specs.declared.Phase.the-variants.{Select}
+use Rattle.client.specs.declared.Search.the-variants.{Probing, Walking}
 use Rattle.client.specs.declared.Started.{Started}
 use Rattle.client.specs.Clients.{running}
 use Rattle.starting.specs.Starting as Code
-use Rattle.starting.specs.Starting.{starts, badPrefix}
-use Rattle.records.specs.Clients.{phaseIn, prefixIn, bitsIn, walkIn, clientOf, refusedAs, startedAs}
+use Rattle.starting.specs.Starting.{starts, demands, badPrefix}
+use Rattle.records.specs.Clients.{resetIn, phaseIn, prefixIn, bitsIn, walkIn, clientOf, refusedAs, startedAs}
 use Rattle.records.proofs.Condition3.{begin-sim}
 
 -- A start that is good, and one that is not.
@@ -69,13 +71,13 @@ module _ (c : Machine.Client) where
   select-started bytes bits = go (ltb 16 (length bytes)) refl (ltb (8 * length bytes) bits) refl
     where
       ph : Phase
-      ph = probing bytes bits
+      ph = selecting (probing bytes bits)
 
       test : Bool
       test = short bytes && (leb bits 128 && leb bits (8 * length bytes))
 
       go : (a : Bool) → ltb 16 (length bytes) ≡ a → (b : Bool) → ltb (8 * length bytes) bits ≡ b
-          → cond a (badPrefix (clientOf c)) (cond b (badPrefix (clientOf c)) (starts (clientOf c) Probing (idFrom bytes) bits noWalk)) ≡ startedAs (Machine.start c test ph)
+          → cond a (badPrefix (clientOf c)) (cond b (badPrefix (clientOf c)) (starts (clientOf c) (Select Probing) (idFrom bytes) bits noWalk)) ≡ startedAs (Machine.start c test ph)
       go true e b f = bad ph test (and-not-left (short bytes) (leb bits 128 && leb bits (8 * length bytes)) (lt-leb (length bytes) 16 (ltb-true 16 (length bytes) e)))
       go false e true f =
           bad ph test (and-not-right (short bytes) (leb bits 128 && leb bits (8 * length bytes)) (and-not-right (leb bits 128) (leb bits (8 * length bytes)) (lt-leb bits (8 * length bytes) (ltb-true (8 * length bytes) bits f))))
@@ -85,21 +87,47 @@ module _ (c : Machine.Client) where
           good ph test
           (and-yes (short bytes) (leb bits 128 && leb bits (8 * length bytes)) (le-leb (length bytes) 16 l)
           (and-yes (leb bits 128) (leb bits (8 * length bytes)) (le-leb bits 128 (omega arith)) (le-leb bits (8 * length bytes) m)))
-          (starts (clientOf c) Probing (idFrom bytes) bits noWalk) refl
+          (starts (clientOf c) (Select Probing) (idFrom bytes) bits noWalk) refl
 
   pub deselect-started : Code.startDeselect (clientOf c) ≡ startedAs (Machine.startDeselect c)
   unfolding Code.startDeselect Machine.startDeselect
-  deselect-started = starts-sim c parting
+  deselect-started = starts-sim c (selecting parting)
 
   pub attach-started : Code.startAttach (clientOf c) ≡ startedAs (Machine.startAttach c none)
   unfolding Code.startAttach Machine.startAttach
-  attach-started = starts-sim c (seeking none)
+  attach-started = starts-sim c (selecting (seeking none))
 
   pub attach-to-started : (bytes : Paper.Id) → Code.startAttachTo (clientOf c) bytes ≡ startedAs (Machine.startAttach c (some bytes))
   unfolding Code.startAttachTo Machine.startAttach
-  attach-to-started bytes = by-length bytes (seeking (some bytes)) _ (λ l. refl)
+  attach-to-started bytes = by-length bytes (selecting (seeking (some bytes))) _ (λ l. refl)
 
   pub discover-started : (bytes : Paper.Id) → All (λ b. b < 256) bytes → Code.startDiscover (clientOf c) bytes ≡ startedAs (Machine.startDiscover c bytes)
   unfolding Code.startDiscover Machine.startDiscover
   discover-started bytes small =
-      by-length bytes (walking (starting (bitsOf bytes))) _ (λ l. ap (λ (w : Walk). starts (clientOf c) (Walking Asked) noId 0 w) (begin-sim bytes l small))
+      by-length bytes (selecting (walking (starting (bitsOf bytes)))) _ (λ l. ap (λ (w : Walk). starts (clientOf c) (Select (Walking Asked)) noId 0 w) (begin-sim bytes l small))
+
+  pub info-started : Code.startInfo (clientOf c) ≡ startedAs (Machine.startInfo c)
+  unfolding Code.startInfo demands Machine.startInfo
+  info-started = starts-sim c (demanding (informing tell))
+
+  pub erase-started : Code.startErase (clientOf c) ≡ startedAs (Machine.startErase c)
+  unfolding Code.startErase demands Machine.startErase
+  erase-started = starts-sim c (demanding (informing clear))
+
+  pub flash-started : (image : List ℕ) → Code.startFlash (clientOf c) image ≡ startedAs (Machine.startFlash c image)
+  unfolding Code.startFlash demands Machine.startFlash
+  flash-started image = starts-sim c (demanding (informing (load (length image))))
+
+  resets-started : (bootloader : Bool) (baud : Option ℕ) (inBoot : Bool)
+      → Code.resets (clientOf c) (resetIn bootloader baud) inBoot ≡ startedAs (Machine.start c true (Machine.resets bootloader baud inBoot))
+  unfolding Code.resets demands
+  resets-started bootloader baud true = starts-sim c (demanding (resetting bootloader baud))
+  resets-started bootloader baud false = starts-sim c (leaving bootloader baud)
+
+  pub reset-started : (bootloader inBoot : Bool) → Code.startReset (clientOf c) bootloader inBoot ≡ startedAs (Machine.startReset c bootloader inBoot)
+  unfolding Code.startReset Machine.startReset
+  reset-started bootloader inBoot = resets-started bootloader none inBoot
+
+  pub baud-started : (baud : ℕ) (bootloader inBoot : Bool) → Code.startSetBaud (clientOf c) baud bootloader inBoot ≡ startedAs (Machine.startSetBaud c baud bootloader inBoot)
+  unfolding Code.startSetBaud Machine.startSetBaud
+  baud-started baud bootloader inBoot = resets-started bootloader (some baud) inBoot

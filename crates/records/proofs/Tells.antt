@@ -9,22 +9,22 @@ use native.Mathlib.Omega.{arith}
 use lib.Dec.{ltb}
 use lib.ListN.{length, take, length-append, length-take}
 use borrow.Author.Tests.{le-ltb}
-use Rattle.paper.specs.Client.{cleared, idAfter}
+use Rattle.paper.specs.Client.{cleared, idAfter, otherLength, reading, place}
 use Rattle.paper.specs.Hearing as Paper
-use Rattle.paper.specs.Hearing.{Prefix, bitsOf, hear, nothing, one, unaddressed, garble}
+use Rattle.paper.specs.Hearing.{Prefix, bitsOf, hear, nothing, one, unaddressed, garble, onSome}
 use Rattle.paper.specs.Talk.{select, heard}
 use Rattle.paper.specs.Walk.{long, nobody, sort, done, stopped}
 use Rattle.lore.proofs.Bits.{bits-length}
 use Rattle.theory.specs.Machine as Walk
 use Rattle.theory.specs.Machine.{State, path, asked, mine, other, leaving, going, ended, nextBit}
 use Rattle.theory.specs.Phases as Phases
-use Rattle.theory.specs.Phases.{Phase, probing, parting, seeking, backing, walking, Then, ends, refuses, sought, backed, walked, step}
+use Rattle.theory.specs.Phases.{Search, probing, parting, seeking, backing, walking, Phase, selecting, demanding, leaving, selected, Then, ends, refuses, sought, walked, hears, step}
 use Rattle.theory.specs.Clients as Machine
-use Rattle.theory.specs.Clients.{Turn, idle, ready, waiting, turned, settle}
+use Rattle.theory.specs.Clients.{Turn, idle, ready, waiting, turned, lends, settle, unchanged, fails}
 use Rattle.theory.proofs.Ending.{Undone, Staying, step-undone}
 use Rattle.theory.proofs.Fits as Walk₂
 use Rattle.theory.proofs.Fits.{Held}
-use Rattle.theory.proofs.Keeping.{FitsPhase, FitsTurn, Fits}
+use Rattle.theory.proofs.Keeping.{FitsSearch, FitsPhase, FitsTurn, Fits}
 use Rattle.ids.specs.declared.Id.{Id}
 use Rattle.ids.specs.Ids.{idFrom}
 use Rattle.hearing.specs.declared.Heard.the-variants.{One, TooLong}
@@ -35,7 +35,7 @@ use Rattle.steps.specs.declared.Next.{Next}
 use Rattle.steps.specs.Steps as Steps
 use Rattle.client.specs.declared.Client.{Client}
 use Rattle.client.specs.declared.Outcome.the-variants as Outcome
-use Rattle.client.specs.declared.Refusal.the-variants.{LongId}
+use Rattle.client.specs.declared.Refusal.the-variants.{LongId, OtherImage}
 use Rattle.client.specs.declared.Says.the-variants.{Over, Refused}
 use Rattle.client.specs.declared.Told.{Told}
 use Rattle.client.specs.Clients as Clients
@@ -43,7 +43,8 @@ use Rattle.client.specs.Clients.{over, stops, onward}
 use Rattle.telling.specs.Telling as Code
 use Rattle.telling.specs.Telling.{attaches, stopOf}
 use Rattle.records.specs.Picture.{nextOf}
-use Rattle.records.specs.Clients.{phaseIn, isThere, recordOf, clientOf, Shown, plainly, refusedAs, toldAs}
+use Rattle.records.specs.Clients.{searchIn, phaseIn, isThere, recordOf, clientOf, Shown, plainly, refusedAs, toldAs}
+use Rattle.records.proofs.Jobs.{other-sim, job-told}
 use Rattle.records.proofs.Sim.{step-sim, long-is}
 
 -- Only a deselect clears the attached id.
@@ -67,49 +68,49 @@ asking-bits s f a = go (s .phase) (f .held) a
 
 module _ (seed : ℕ) (id : Option Paper.Id) (at : ℕ) where
   -- The machine's client with its request out, and an id.
-  abbrev out : Phase → Option Paper.Id → Machine.Client
-  out ph x = record { seed = seed; id = x; turn = waiting ph }
+  abbrev out : Search → Option Paper.Id → Machine.Client
+  out s x = record { seed = seed; id = x; turn = waiting (selecting s) }
 
-  -- What the code makes of a thing heard in a phase, and what the machine does with it.
-  abbrev answers : Phase → Paper.Heard → Told
-  answers ph h = Code.hears (recordOf seed id (waiting ph)) (phaseIn ph) (shownHeard h .heard) (shownHeard h .id) at
+  abbrev code : Search → Client
+  code s = recordOf seed id (waiting (selecting s))
 
-  abbrev settles : Phase → Option Paper.Id → Then → Told
-  settles ph x t = toldAs (settle (out ph x) t at)
+  -- What the code makes of a thing heard in a search, and what the machine does with it.
+  abbrev answers : Search → Paper.Heard → Told
+  answers s h = Code.hears (code s) (searchIn s) (shownHeard h .heard) (shownHeard h .id) at
 
-  probing-told : (bytes : Paper.Id) (bits : ℕ) (h : Paper.Heard) → answers (probing bytes bits) h ≡ settles (probing bytes bits) id (step (probing bytes bits) h)
-  unfolding Code.hears Code.probed step settle idAfter over Clients.idle refusedAs
+  abbrev settles : Search → Option Paper.Id → Then → Told
+  settles s x t = toldAs (settle (out s x) none t at)
+
+  probing-told : (bytes : Paper.Id) (bits : ℕ) (h : Paper.Heard) → answers (probing bytes bits) h ≡ settles (probing bytes bits) id (hears (probing bytes bits) h)
+  unfolding Code.hears Code.probed hears settle idAfter over Clients.idle refusedAs
   probing-told bytes bits h = rw (long-is h) (go (long h))
     where
-      ph : Phase
-      ph = probing bytes bits
-
       c : Client
-      c = recordOf seed id (waiting ph)
+      c = code (probing bytes bits)
 
       go : (b : Bool)
           → cond b (stops c (Refused LongId) at) (over c (Over (Outcome.Heard (shownHeard h .heard))) (shownHeard h .id) noTable at)
-          ≡ settles ph id (cond b (refuses 14 []) (ends (heard h)))
+          ≡ settles (probing bytes bits) id (cond b (refuses 14 []) (ends (heard h)))
       go true = refl
       go false = refl
 
-  parting-told : (h : Paper.Heard) → answers parting h ≡ settles parting none (step parting h)
-  unfolding Code.hears step settle idAfter over Clients.idle Clients.cleared
+  parting-told : (h : Paper.Heard) → answers parting h ≡ settles parting none (hears parting h)
+  unfolding Code.hears hears settle idAfter over Clients.idle Clients.cleared
   parting-told h = refl
 
-  backing-told : (uid : Option Paper.Id) (h : Paper.Heard) → answers (backing uid) h ≡ settles (backing uid) none (step (backing uid) h)
-  unfolding Code.hears Code.backed step settle over Clients.idle Clients.cleared refusedAs
+  backing-told : (uid : Option Paper.Id) (h : Paper.Heard) → answers (backing uid) h ≡ settles (backing uid) none (hears (backing uid) h)
+  unfolding Code.hears Code.backed hears settle over Clients.idle Clients.cleared refusedAs
   backing-told none h = refl
   backing-told (some uid) h = refl
 
-  seeking-told : (uid : Option Paper.Id) (h : Paper.Heard) → answers (seeking uid) h ≡ settles (seeking uid) id (step (seeking uid) h)
-  unfolding Code.hears Code.met attaches step sought long settle idAfter over onward Clients.idle refusedAs oneHeard
+  seeking-told : (uid : Option Paper.Id) (h : Paper.Heard) → answers (seeking uid) h ≡ settles (seeking uid) id (hears (seeking uid) h)
+  unfolding Code.hears Code.met attaches hears sought long settle idAfter over onward Clients.idle refusedAs oneHeard
   seeking-told none nothing = refl
   seeking-told (some uid) nothing = refl
   seeking-told uid (one x) = go (ltb 16 (length x))
     where
       c : Client
-      c = recordOf seed id (waiting (seeking uid))
+      c = code (seeking uid)
 
       said : Bool → Hearing
       said b = cond b (heardAs TooLong) (record { heard = One; id = idFrom x })
@@ -125,21 +126,21 @@ module _ (seed : ℕ) (id : Option Paper.Id) (at : ℕ) where
   abbrev Same : ℕ → Type 0
   Same n = plainly (stopOf n) ≡ refusedAs n []
 
-  undone-told : (s : State) (n : Walk.Next) → Undone Same n → Code.walked (recordOf seed id (waiting (walking s))) (nextOf n .goes) (nextOf n .walk) at ≡ settles (walking s) id (walked n)
+  undone-told : (s : State) (n : Walk.Next) → Undone Same n → Code.walked (code (walking s)) (nextOf n .goes) (nextOf n .walk) at ≡ settles (walking s) id (walked n)
   unfolding Code.walked settle over onward Clients.idle Steps.stopped
   undone-told s (going t) u = refl
   undone-told s (ended (done ids)) u = absurd u
   undone-told s (ended (stopped n)) u =
-      ap (λ (x : Shown). record { says = x .says; client = recordOf seed id idle; rest = at; id = x .id; found = x .found }) u
+      ap (λ (x : Shown). record { says = x .says; client = recordOf seed id idle; rest = at; progress = x .progress; id = x .id; found = x .found }) u
 
-  leaving-told : (s : State) (ids : List Paper.Id) → Code.walked (recordOf seed id (waiting (walking s))) (nextOf (ended (done ids)) .goes) (nextOf (ended (done ids)) .walk) at ≡ settles (walking s) none (walked (ended (done ids)))
+  leaving-told : (s : State) (ids : List Paper.Id) → Code.walked (code (walking s)) (nextOf (ended (done ids)) .goes) (nextOf (ended (done ids)) .walk) at ≡ settles (walking s) none (walked (ended (done ids)))
   unfolding Code.walked settle idAfter over Clients.idle Clients.cleared
   leaving-told s ids = refl
 
   stepped : (s : State) (h : Paper.Heard) → Walk₂.Fits s
-      → answers (walking s) h ≡ Code.walked (recordOf seed id (waiting (walking s))) (nextOf (Walk.step s h) .goes) (nextOf (Walk.step s h) .walk) at
+      → answers (walking s) h ≡ Code.walked (code (walking s)) (nextOf (Walk.step s h) .goes) (nextOf (Walk.step s h) .walk) at
   unfolding Code.hears
-  stepped s h f = ap (λ (n : Next). Code.walked (recordOf seed id (waiting (walking s))) (n .goes) (n .walk) at) (step-sim s h f)
+  stepped s h f = ap (λ (n : Next). Code.walked (code (walking s)) (n .goes) (n .walk) at) (step-sim s h f)
 
   same-deep : Same 12
   unfolding refusedAs stopOf
@@ -180,30 +181,49 @@ module _ (seed : ℕ) (id : Option Paper.Id) (at : ℕ) where
           ∙ leaving-told (at-phase leaving) (sort (s .ids))
           ∙ ap (λ (x : Option Paper.Id). settles (walking (at-phase leaving)) x (walked (ended (done (sort (s .ids)))))) (sym (clears id))
 
-  pub phase-told : (ph : Phase) → FitsPhase ph → (h : Paper.Heard) → answers ph h ≡ settles ph (cleared (select (Phases.request ph)) id) (step ph h)
-  unfolding Phases.request step
-  phase-told (probing bytes bits) f h =
+  search-told : (s : Search) → FitsSearch s → (h : Paper.Heard) → answers s h ≡ settles s (cleared (select (selected s)) id) (hears s h)
+  unfolding selected hears
+  search-told (probing bytes bits) f h =
       probing-told bytes bits h
-      ∙ ap (λ (x : Option Paper.Id). settles (probing bytes bits) x (step (probing bytes bits) h))
+      ∙ ap (λ (x : Option Paper.Id). settles (probing bytes bits) x (hears (probing bytes bits) h))
       (sym (keeps (take bits (bitsOf bytes)) id (omega (arith, f .0, f .1, length-take bits (bitsOf bytes), bits-length bytes))))
-  phase-told parting f h = parting-told h ∙ ap (λ (x : Option Paper.Id). settles parting x (step parting h)) (sym (clears id))
-  phase-told (seeking none) f h = seeking-told none h
-  phase-told (seeking (some uid)) f h =
-      seeking-told (some uid) h ∙ ap (λ (x : Option Paper.Id). settles (seeking (some uid)) x (step (seeking (some uid)) h)) (sym (keeps (bitsOf uid) id (omega (arith, bits-length uid))))
-  phase-told (backing uid) f h = backing-told uid h ∙ ap (λ (x : Option Paper.Id). settles (backing uid) x (step (backing uid) h)) (sym (clears id))
-  phase-told (walking s) f h = walking-step s h f
-    where
-      walking-step : (s : State) (h : Paper.Heard) → Walk₂.Fits s → answers (walking s) h ≡ settles (walking s) (cleared (select (Walk.request s)) id) (step (walking s) h)
-      walking-step s h f = walking-told s h f
+  search-told parting f h = parting-told h ∙ ap (λ (x : Option Paper.Id). settles parting x (hears parting h)) (sym (clears id))
+  search-told (seeking none) f h = seeking-told none h
+  search-told (seeking (some uid)) f h =
+      seeking-told (some uid) h ∙ ap (λ (x : Option Paper.Id). settles (seeking (some uid)) x (hears (seeking (some uid)) h)) (sym (keeps (bitsOf uid) id (omega (arith, bits-length uid))))
+  search-told (backing uid) f h = backing-told uid h ∙ ap (λ (x : Option Paper.Id). settles (backing uid) x (hears (backing uid) h)) (sym (clears id))
+  search-told (walking s) f h = walking-told s h f
 
-pub record-told : (c : Machine.Client) → Fits c → (bytes : List ℕ) → Code.record′ (clientOf c) bytes ≡ toldAs (Machine.record′ c bytes)
+-- The record that a phase is answered with.
+module _ (c : Machine.Client) (image bytes : List ℕ) where
+  abbrev after : Phase → Machine.Client
+  after ph = record { seed = c .seed; id = cleared (Phases.request ph) (c .id); turn = waiting ph }
+
+  abbrev reads : Phase → Machine.Told
+  reads ph =
+      onSome (reading (Phases.request ph) image bytes) (fails (turned c (waiting ph)) (place (Phases.request ph) bytes))
+      (λ a. settle (after ph) (step ph a .progress) (step ph a .then) (place (Phases.request ph) bytes))
+
+  phase-told : (ph : Phase) → FitsPhase ph → otherLength (lends ph) image ≡ false → Code.answeredTo (clientOf (turned c (waiting ph))) (phaseIn ph) image bytes ≡ toldAs (reads ph)
+  unfolding Code.answeredTo step settle idAfter over Clients.idle
+  phase-told (selecting s) f e = search-told (c .seed) (c .id) (length bytes) s f (hear bytes)
+  phase-told (demanding j) f e = job-told (c .seed) (c .id) j f image bytes e
+  phase-told (leaving bootloader baud) f e = refl
+
+pub record-told : (c : Machine.Client) → Fits c → (image bytes : List ℕ) → Code.record′ (clientOf c) image bytes ≡ toldAs (Machine.record′ c image bytes)
 unfolding Code.record′ Machine.record′ refusedAs
-record-told c f bytes = go (c .turn) (f .turn)
+record-told c f image bytes = go (c .turn) (f .turn)
   where
-    go : (t : Turn) → FitsTurn t → Code.record′ (clientOf (turned c t)) bytes ≡ toldAs (Machine.record′ (turned c t) bytes)
+    go : (t : Turn) → FitsTurn t → Code.record′ (clientOf (turned c t)) image bytes ≡ toldAs (Machine.record′ (turned c t) image bytes)
     go idle w = refl
     go (ready ph) w = refl
-    go (waiting ph) w = phase-told (c .seed) (c .id) (length bytes) ph w (hear bytes)
+    go (waiting ph) w = rw (other-sim ph image) (lent (otherLength (lends ph) image) refl)
+      where
+        lent : (b : Bool) → otherLength (lends ph) image ≡ b
+            → cond b (Clients.refuses (clientOf (turned c (waiting ph))) OtherImage) (Code.answeredTo (clientOf (turned c (waiting ph))) (phaseIn ph) image bytes)
+            ≡ toldAs (cond b (unchanged (turned c (waiting ph)) 20 []) (reads c image bytes ph))
+        lent true e = refl
+        lent false e = phase-told c image bytes ph w e
 
 pub failed-told : (c : Machine.Client) → Code.linkFailed (clientOf c) ≡ toldAs (Machine.linkFailed c)
 unfolding Code.linkFailed Machine.linkFailed refusedAs over Clients.idle
