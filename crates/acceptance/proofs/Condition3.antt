@@ -2,7 +2,7 @@
 -- Assumes nothing.
 use Prim.Native.Nat.{ℕ, _+_, _-_, _*_, _≤_, _<_}
 use mathlib.Core.Bool.{false}
-use mathlib.Core.List.{List}
+use mathlib.Core.List.{List, []}
 use mathlib.Core.Option.{Option}
 use mathlib.Core.Path.{_≡_}
 use lib.ListN.{length}
@@ -43,7 +43,7 @@ module _ (buffer : List ℕ) (room : 31 ≤ length buffer) (seed : ℕ) (byte : 
     lists = Discovers.lists buffer room wire seed byte id brief given short bytes
 
     -- On a wire that lets hear the ids S: it has found exactly those that match, sorted, after exactly the Selects counted, and those are few.
-    pub finds : (S : List Id) (L : ℕ) → ((k n : ℕ) (q : Prefix) → hear (wire k (bytesOf (select q) n)) ≡ heardOf (matching q S)) → Pods L (matching (bitsOf given) S)
+    pub finds : (S : List Id) (L : ℕ) → ((k n : ℕ) (q : Prefix) → hear (wire k (bytesOf (select q) n [])) ≡ heardOf (matching q S)) → Pods L (matching (bitsOf given) S)
         → Finds seed (sort (matching (bitsOf given) S)) (selects S L (bitsOf given)) (discovered buffer wire (resting seed id) given)
         × (selects S L (bitsOf given) ≤ 2 + count S (bitsOf given) * (8 * L - length (bitsOf given) + 2))
     finds = Discovers.finds buffer room wire seed byte id brief given short bytes

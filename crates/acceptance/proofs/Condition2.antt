@@ -1,0 +1,97 @@
+-- Document 01, acceptance condition 2, the part that is proved: frames, checks, hearing, walk and flash order against the written definitions.
+-- Assumes nothing.
+use Prim.Native.Nat.{ℕ, _<_, _≤_}
+use mathlib.Core.Bool.{Bool, true}
+use mathlib.Core.List.{List, [], _++_, map}
+use mathlib.Core.Option.{Option, none, some}
+use mathlib.Core.Path.{_≡_}
+use lib.ListN.{length, drop}
+use Rattle.paper.specs.Answers.{Reply, answered, answer}
+use Rattle.paper.specs.Count.{All}
+use Rattle.paper.specs.Flash.{informOnly, erase, flash, reset}
+use Rattle.paper.specs.Frame.{Frame, whole, frameBytes, read}
+use Rattle.paper.specs.Hearing.{Id}
+use Rattle.theory.specs.Clients.{Brief}
+use Rattle.theory.specs.FlashOrder.{Event, play, everything, told, writesAt, Kept, Stands, Allowed, Flashed, Fronts, Bounded, most, erasesMost, flashMost}
+use Rattle.theory.proofs.FlashBound as Bound
+use Rattle.theory.proofs.FlashBytes as Carries
+use Rattle.theory.proofs.FlashBytes.{CarriesIn}
+use Rattle.theory.proofs.FlashOrder as Order
+use Rattle.theory.proofs.Frames as Frames
+use Rattle.theory.proofs.Frames.{Fits}
+use Rattle.client.specs.declared.Client.{Client}
+use Rattle.client.specs.declared.Job.{Job}
+use Rattle.client.specs.declared.Phase.the-variants.{Demand}
+use Rattle.client.specs.declared.Turn.the-variants.{Waiting}
+use Rattle.starting.specs.Starting.{startInfo, startErase, startFlash, startReset, startSetBaud}
+use Rattle.telling.specs.Telling.{record′}
+use Rattle.records.specs.Driven.{Round, driven, Lends, StandsAs}
+use Rattle.records.specs.Served.{opening, resting}
+use Rattle.records.proofs.Driven as Driven
+use Rattle.records.proofs.EitherWay as EitherWay
+
+-- Frames: what is written is read whole, whatever follows.
+pub frame-read : (f : Frame) → Fits f → (more : List ℕ) → read (frameBytes f ++ more) ≡ whole 0 f
+frame-read f fits more = Frames.read-written f fits more
+
+-- The driven client stands where document 01's conversation stands, over any records and failed links: the same request is next, with the
+-- same bytes; or it has ended with the same outcome or refusal. A buffer that holds every request; any seed; an attached id or none.
+module _ (buffer : List ℕ) (room : 1036 ≤ length buffer) (seed : ℕ) (byte : seed < 256) (id : Option Id) (brief : Brief id) (rounds : List Round) where
+  abbrev events : List Event
+  events = map (λ r. r .event) rounds
+
+  pub info-driven : StandsAs none seed id (driven buffer rounds (opening (startInfo (resting seed id)))) ((play informOnly events []) .1)
+  info-driven = Driven.info-driven buffer room seed byte id brief rounds
+
+  pub erase-driven : StandsAs none seed id (driven buffer rounds (opening (startErase (resting seed id)))) ((play erase events []) .1)
+  erase-driven = Driven.erase-driven buffer room seed byte id brief rounds
+
+  pub flash-driven : (image : List ℕ) → All (Lends (some (length image))) rounds
+      → StandsAs (some (length image)) seed id (driven buffer rounds (opening (startFlash (resting seed id) image))) ((play (flash (length image)) events []) .1)
+  flash-driven = Driven.flash-driven buffer room seed byte id brief rounds
+
+  pub reset-driven : (bootloader : Bool)
+      → StandsAs none seed id (driven buffer rounds (opening (startReset (resting seed id) bootloader true))) ((play (reset bootloader none true) events []) .1)
+  reset-driven = Driven.reset-driven buffer room seed byte id brief rounds
+
+  pub baud-driven : (baud : ℕ) (bootloader : Bool)
+      → StandsAs none seed id (driven buffer rounds (opening (startSetBaud (resting seed id) baud bootloader true))) ((play (reset bootloader (some baud) true) events []) .1)
+  baud-driven = Driven.baud-driven buffer room seed byte id brief rounds
+
+-- Over any replies: no Erase before Info and image pass; no Write before the last Erase is answered; each Write's address is the total length
+-- of the Writes answered Ok so far; on success that total is the padded length, and the device's check was that of the image lent.
+pub flash-in-order : (n : ℕ) (es : List Event) → Kept (Allowed n) (play (flash n) es [] .0) × Stands (Allowed n) (Flashed n) (play (flash n) es [] .0) (play (flash n) es [] .1)
+flash-in-order = Order.flash-in-order
+
+-- The Erases handed out are a front part of the full list.
+pub flash-erases-front : (n : ℕ) (es : List Event) → Fronts (play (flash n) es [] .0) (everything (play (flash n) es []))
+flash-erases-front = Order.flash-erases-front
+
+-- At most 17 Writes at one offset.
+pub flash-writes-few : (n : ℕ) (es : List Event) (a : ℕ) → writesAt a (everything (play (flash n) es [])) ≤ 17
+flash-writes-few = Order.flash-writes-few
+
+-- Each Write carries the padded image from its offset on.
+pub flash-carries : (image : List ℕ) (es : List Event) → All (CarriesIn image) (everything (play (flash (length image)) es []))
+flash-carries = Carries.flash-carries
+
+-- Every operation ends, after at most so many requests.
+pub info-ends : (es : List Event) → Bounded 1 es (play informOnly es [])
+info-ends = Bound.inform-bounded
+
+pub erase-ends : (es : List Event) → Bounded (most erasesMost (told (play erase es [] .0))) es (play erase es [])
+erase-ends = Bound.erase-bounded
+
+pub flash-ends : (n : ℕ) (es : List Event) → Bounded (most (flashMost n) (told (play (flash n) es [] .0))) es (play (flash n) es [])
+flash-ends = Bound.flash-bounded
+
+pub reset-ends : (bootloader : Bool) (baud : Option ℕ) (awaited : Bool) (es : List Event) → Bounded 1 es (play (reset bootloader baud awaited) es [])
+reset-ends = Bound.reset-bounded
+
+-- The unread rest: bytes that follow an answering frame may come with its record, or be kept and put before the next one.
+module _ (c : Client) (j : Job) (out : c .turn ≡ Waiting (Demand j)) (image a x : List ℕ) (r : Reply) (end : ℕ) (e : answer a ≡ answered r end) where
+  pub record-either-way : record′ c image (a ++ x) ≡ record′ c image a
+  record-either-way = EitherWay.record-either-way c j out image a x r end e
+
+  pub rest-either-way : drop (record′ c image (a ++ x) .rest) (a ++ x) ≡ drop (record′ c image a .rest) a ++ x
+  rest-either-way = EitherWay.rest-either-way c j out image a x r end e
