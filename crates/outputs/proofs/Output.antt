@@ -18,7 +18,7 @@ use Rattle.paper.specs.Log.{Records, joined, lines, over, prefixIn, opened, idL
 use Rattle.paper.specs.Walk.{Ended, done, stopped, discover}
 use Rattle.theory.specs.Machine as Walking
 use Rattle.theory.specs.Machine.{going}
-use Rattle.theory.specs.Phases.{walking, to, starting}
+use Rattle.theory.specs.Phases.{selecting, walking, to, starting}
 use Rattle.theory.specs.Clients as Machine
 use Rattle.theory.specs.Clients.{ready}
 use Rattle.theory.proofs.Fits.{Short, FitsNext}
@@ -124,9 +124,9 @@ module _ (given : Id) (bytes : All (λ b. b < 256) given) (rs : Records) where
   started = ap (λ (c : Client). startDiscover c given) new-client ∙ discover-started Machine.fresh given bytes
 
   abbrev first : Machine.Client
-  first = record { seed = 0; id = none; turn = ready (walking (starting (bitsOf given))) }
+  first = record { seed = 0; id = none; turn = ready (selecting (walking (starting (bitsOf given)))) }
 
-  short-starts : short given ≡ true → Start ≡ Machine.settle Machine.fresh (to (walking (starting (bitsOf given)))) 0
+  short-starts : short given ≡ true → Start ≡ Machine.settle Machine.fresh none (to (selecting (walking (starting (bitsOf given))))) 0
   unfolding Machine.startDiscover Machine.start Machine.fresh
   short-starts e = rw e
 

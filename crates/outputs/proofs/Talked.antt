@@ -2,7 +2,7 @@
 -- Assumes nothing.
 use Prim.Native.Nat.{ℕ, suc, _+_, _%_, _≤_, _<_}
 use mathlib.Core.List.{List, []}
-use mathlib.Core.Option.{Option}
+use mathlib.Core.Option.{Option, none}
 use mathlib.Core.Path.{_≡_, refl, _∙_, ap, subst}
 use native.Mathlib.Omega.{arith}
 use lib.ListN.{length, length-replicate}
@@ -18,7 +18,7 @@ use Rattle.paper.specs.Walk.{Ended, done, stopped}
 use Rattle.theory.specs.Machine as Walking
 use Rattle.theory.specs.Machine.{State, Next, going, ended}
 use Rattle.theory.specs.Phases as Phases
-use Rattle.theory.specs.Phases.{walking}
+use Rattle.theory.specs.Phases.{walking, selecting}
 use Rattle.theory.specs.Clients as Machine
 use Rattle.theory.specs.Clients.{waiting, ready}
 use Rattle.theory.proofs.Fits as Walk₂
@@ -66,45 +66,45 @@ pub record Closed (v : Replay) (e : Ended (List Id)) (k : ℕ) : Type 0 where
 
 -- A run where the machine of the walk stands: with a Select out, which is one more than document 01 counts so far; or ended.
 pub data Stands : Replay → Next → ℕ → Type 0 where
-  out : (seed : ℕ) (id : Option Id) (s : State) (j k : ℕ) → Fits (record { seed = seed; id = id; turn = waiting (walking s) }) → j ≡ suc k % 65536
-      → Stands (record { client = clientOf (record { seed = seed; id = id; turn = waiting (walking s) }); stage = Running; selects = j; found = noTable }) (going s) k
+  out : (seed : ℕ) (id : Option Id) (s : State) (j k : ℕ) → Fits (record { seed = seed; id = id; turn = waiting (selecting (walking s)) }) → j ≡ suc k % 65536
+      → Stands (record { client = clientOf (record { seed = seed; id = id; turn = waiting (selecting (walking s)) }); stage = Running; selects = j; found = noTable }) (going s) k
   over′ : (c : Client) (e : Ended (List Id)) (j k : ℕ) → j ≡ k % 65536 → FitsNext (ended e) → Stands (Replays.ended c j (endTable e) (numbered e)) (ended e) k
 
 counted : (j k : ℕ) → j ≡ k % 65536 → (j + 1) % 65536 ≡ suc k % 65536
 counted j k e = omega arith
 
 -- The next Select of a discovery is handed out.
-module _ (seed : ℕ) (id : Option Id) (s : State) (f : Fits (record { seed = seed; id = id; turn = ready (walking s) })) where
+module _ (seed : ℕ) (id : Option Id) (s : State) (f : Fits (record { seed = seed; id = id; turn = ready (selecting (walking s)) })) where
   abbrev c : Machine.Client
-  c = record { seed = seed; id = id; turn = ready (walking s) }
+  c = record { seed = seed; id = id; turn = ready (selecting (walking s)) }
 
   abbrev q : Prefix
-  q = Phases.request (walking s)
+  q = Phases.selected (walking s)
 
   abbrev next-seed : ℕ
   next-seed = seedAfter (select q) seed
 
   small : length (bytesOf (select q) next-seed []) ≤ 31
-  unfolding Phases.request
-  small = select-length q next-seed (Walk₂.request-fits s (f .turn))
+  unfolding Phases.selected
+  small = select-length q next-seed [] (Walk₂.request-fits s (f .turn))
 
   wide : length room ≡ 64
   unfolding room
   wide = length-replicate {A = ℕ} 64 0
 
-  grants : Machine.request c room .says ≡ Paper.granted (length (bytesOf (select q) next-seed []))
-  unfolding Machine.request Machine.grant
+  grants : Machine.request c [] room .says ≡ Paper.granted (length (bytesOf (select q) next-seed []))
+  unfolding Machine.request Machine.grant Machine.handedOut
   grants = rw (le-ltb (length room) (length (bytesOf (select q) next-seed [])) (omega (arith, small, wide)))
 
-  leaves : Machine.request c room .client ≡ record { seed = next-seed; id = id; turn = waiting (walking s) }
-  unfolding Machine.request Machine.grant
+  leaves : Machine.request c [] room .client ≡ record { seed = next-seed; id = id; turn = waiting (selecting (walking s)) }
+  unfolding Machine.request Machine.grant Machine.handedOut
   leaves = rw (le-ltb (length room) (length (bytesOf (select q) next-seed [])) (omega (arith, small, wide)))
 
-  asked-out : (j : ℕ) → asked (clientOf c) j ≡ running (clientOf (record { seed = next-seed; id = id; turn = waiting (walking s) })) j
+  asked-out : (j : ℕ) → asked (clientOf c) j ≡ running (clientOf (record { seed = next-seed; id = id; turn = waiting (selecting (walking s)) })) j
   unfolding handed
   asked-out j =
-      ap (λ (a : Asking). handed (a .answer) j) (request-asked c f room)
-      ∙ ap (λ (x : Paper.Says). handed (record { says = shownSays x .says; client = clientOf (Machine.request c room .client) }) j) grants
+      ap (λ (a : Asking). handed (a .answer) j) (request-asked c f [] room)
+      ∙ ap (λ (x : Paper.Says). handed (record { says = shownSays x .says; client = clientOf (Machine.request c [] room .client) }) j) grants
       ∙ ap (λ (x : Machine.Client). running (clientOf x) j) leaves
 
   byte : next-seed < 256
@@ -131,18 +131,18 @@ number-ends (Refused r) p x t n e c k = ap (Replays.ended c k t) number
     number = cc
 
 -- A record makes of a run what its hearing makes of the machine.
-module _ (seed : ℕ) (id : Option Id) (s : State) (f : Fits (record { seed = seed; id = id; turn = waiting (walking s) })) (bytes : List ℕ) (j k : ℕ) (e : j ≡ suc k % 65536) where
+module _ (seed : ℕ) (id : Option Id) (s : State) (f : Fits (record { seed = seed; id = id; turn = waiting (selecting (walking s)) })) (bytes : List ℕ) (j k : ℕ) (e : j ≡ suc k % 65536) where
   abbrev w : Machine.Client
-  w = record { seed = seed; id = id; turn = waiting (walking s) }
+  w = record { seed = seed; id = id; turn = waiting (selecting (walking s)) }
 
   abbrev kept : Option Id
-  kept = cleared (select (Phases.request (walking s))) id
+  kept = cleared (select (Phases.selected (walking s))) id
 
   abbrev settled : Next → Machine.Told
-  settled n = Machine.settle (record { seed = seed; id = kept; turn = waiting (walking s) }) (Phases.walked n) (length bytes)
+  settled n = Machine.settle (record { seed = seed; id = kept; turn = waiting (selecting (walking s)) }) none (Phases.walked n) (length bytes)
 
-  tells : Machine.record′ w bytes ≡ settled (Walking.step s (hear bytes))
-  unfolding Machine.record′ Phases.step
+  tells : Machine.record′ w [] bytes ≡ settled (Walking.step s (hear bytes))
+  unfolding Machine.record′ Phases.step Phases.hears
   tells = refl
 
   abbrev onto : Next → Replay
@@ -150,10 +150,10 @@ module _ (seed : ℕ) (id : Option Id) (s : State) (f : Fits (record { seed = se
 
   takes-is : takes (record { client = clientOf w; stage = Running; selects = j; found = noTable }) bytes ≡ onto (Walking.step s (hear bytes))
   unfolding takes
-  takes-is = ap (λ (t : Told). goes (t .says) (t .client) j (t .found)) (record-told w f bytes ∙ ap toldAs tells)
+  takes-is = ap (λ (t : Told). goes (t .says) (t .client) j (t .found)) (record-told w f [] bytes ∙ ap toldAs tells)
 
   settled-fits : Fits (settled (Walking.step s (hear bytes)) .client)
-  settled-fits = subst (λ (t : Machine.Told). Fits (t .client)) tells (record-fits w f bytes)
+  settled-fits = subst (λ (t : Machine.Told). Fits (t .client)) tells (record-fits w f [] bytes)
 
   onto-stands : (n : Next) → FitsNext n → Stops n → Fits (settled n .client) → Stands (onto n) n (suc k)
   unfolding Machine.settle goes
