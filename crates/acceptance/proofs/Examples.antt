@@ -39,10 +39,10 @@ abbrev replies : List ℕ → List ℕ → ℕ → Reply
 replies info image command = cond (eqb command command-Info) (ok info) (cond (eqb command command-Verify) (ok (le 2 (check image))) (ok []))
 
 -- A conversation with it: each request as command, address, flags and payload, each progress as two numbers, a refusal with its number first.
-unfoldable log : List ℕ → List ℕ → Talk Outcome → List (List ℕ)
+unfoldable pub log : List ℕ → List ℕ → Talk Outcome → List (List ℕ)
 log info image (return o) = []
 log info image (stop n carries) = (n ∷ carries) ∷ []
-log info image (report done total m) = (done ∷ total ∷ []) ∷ log info image m
+log info image (report a b m) = (a ∷ b ∷ []) ∷ log info image m
 log info image (ask (select p) f) = []
 log info image (ask (demand d) f) =
     (d .command ∷ d .address ∷ d .flags ∷ payloadOf (d .payload) image) ∷ log info image (f (record { reply = replies info image (d .command); image = image }))

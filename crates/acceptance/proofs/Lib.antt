@@ -1,4 +1,5 @@
 pub mod Examples
+pub mod Condition1
 pub mod Condition2
 pub mod Condition3
 pub mod Calls

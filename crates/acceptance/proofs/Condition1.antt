@@ -1,0 +1,115 @@
+-- Document 01, acceptance condition 1: every call takes any arguments and comes back; what is refused, in which order, and what a refusal leaves.
+-- No call has a precondition, and each of these holds of every value of the client.
+-- Assumes nothing.
+use Prim.Native.Nat.{ℕ, _≤_}
+use mathlib.Core.Bool.{Bool, true, false, cond}
+use mathlib.Core.List.{List}
+use mathlib.Core.Path.{_≡_}
+use lib.ListN.{length, drop}
+use Rattle.client.specs.declared.Client.{Client}
+use Rattle.client.specs.declared.Phase.{Phase}
+use Rattle.client.specs.declared.Refusal.{Refusal}
+use Rattle.client.specs.declared.Refusal.the-variants.{Io, OtherImage, OutOfTurn}
+use Rattle.client.specs.declared.Says.the-variants.{Granted, Refused}
+use Rattle.client.specs.declared.Turn.the-variants.{Idle, Ready, Waiting}
+use Rattle.client.specs.Clients.{otherImage, refuses, stops}
+use Rattle.starting.specs.Starting.{startSelect, startDeselect, startAttach, startAttachTo, startDiscover, startInfo, startErase, startFlash, startReset, startSetBaud}
+use Rattle.asking.specs.Asking.{askedFor, withheld, request}
+use Rattle.telling.specs.Telling.{answeredTo, record′, linkFailed}
+use Rattle.records.specs.Refusals.{keeps, parts, leaves, Begins}
+use Rattle.records.proofs.Refusals as Refusals
+
+module _ (c : Client) where
+  -- The starts: 21 comes first, then 13; a refused start changes nothing.
+  pub record Starts : Type 0 where
+    pub select : (prefix : List ℕ) (bits : ℕ) → Begins c (startSelect c prefix bits)
+    pub deselect : Begins c (startDeselect c)
+    pub attach : Begins c (startAttach c)
+    pub attach-to : (prefix : List ℕ) → Begins c (startAttachTo c prefix)
+    pub discover : (prefix : List ℕ) → Begins c (startDiscover c prefix)
+    pub info : Begins c (startInfo c)
+    pub erase : Begins c (startErase c)
+    pub flash : (image : List ℕ) → Begins c (startFlash c image)
+    pub reset : (bootloader inBoot : Bool) → Begins c (startReset c bootloader inBoot)
+    pub set-baud : (baud : ℕ) (bootloader inBoot : Bool) → Begins c (startSetBaud c baud bootloader inBoot)
+
+  pub starts : Starts
+  starts = record {
+    select = Refusals.select-begins c;
+    deselect = Refusals.deselect-begins c;
+    attach = Refusals.attach-begins c;
+    attach-to = Refusals.attach-to-begins c;
+    discover = Refusals.discover-begins c;
+    info = Refusals.info-begins c;
+    erase = Refusals.erase-begins c;
+    flash = Refusals.flash-begins c;
+    reset = Refusals.reset-begins c;
+    set-baud = Refusals.set-baud-begins c;
+  }
+
+  module _ (image : List ℕ) where
+    module _ (buffer : List ℕ) where
+      -- Asking: 21, then 20, then 16.
+      pub asked-idle : c .turn ≡ Idle → request c image buffer ≡ withheld c OutOfTurn buffer
+      asked-idle = Refusals.asked-idle c image buffer
+
+      pub asked-waiting : (p : Phase) → c .turn ≡ Waiting p → request c image buffer ≡ withheld c OutOfTurn buffer
+      asked-waiting = Refusals.asked-waiting c image buffer
+
+      pub asked-ready : (p : Phase) → c .turn ≡ Ready p → request c image buffer ≡ cond (otherImage p (length image)) (withheld c OtherImage buffer) (askedFor c p image buffer)
+      asked-ready = Refusals.asked-ready c image buffer
+
+      -- A refused request changes neither the client nor the buffer.
+      pub asked-refused : (r : Refusal) → request c image buffer .answer .says ≡ Refused r
+          → (request c image buffer .answer .client ≡ c) × ((request c image buffer .bytes ≡ buffer) × (keeps r ≡ true))
+      asked-refused = Refusals.asked-refused c image buffer
+
+      -- A granted one changes no byte after its own.
+      pub asked-granted : (n : ℕ) → request c image buffer .answer .says ≡ Granted n
+          → (n ≤ length buffer) × ((drop n (request c image buffer .bytes) ≡ drop n buffer) × (length (request c image buffer .bytes) ≡ length buffer))
+      asked-granted = Refusals.asked-granted c image buffer
+
+    module _ (bytes : List ℕ) where
+      -- A record: 21, then 20, then what it says.
+      pub told-idle : c .turn ≡ Idle → record′ c image bytes ≡ refuses c OutOfTurn
+      told-idle = Refusals.told-idle c image bytes
+
+      pub told-ready : (p : Phase) → c .turn ≡ Ready p → record′ c image bytes ≡ refuses c OutOfTurn
+      told-ready = Refusals.told-ready c image bytes
+
+      pub told-waiting : (p : Phase) → c .turn ≡ Waiting p → record′ c image bytes ≡ cond (otherImage p (length image)) (refuses c OtherImage) (answeredTo c p image bytes)
+      told-waiting = Refusals.told-waiting c image bytes
+
+      -- 20 and 21 change no state, and the rest is the whole record; any other refusal ends the operation; after 1 the rest is empty.
+      pub told-refused : (r : Refusal) → record′ c image bytes .says ≡ Refused r → record′ c image bytes .client ≡ leaves r c
+      told-refused = Refusals.told-refused c image bytes
+
+      pub told-kept : (r : Refusal) → record′ c image bytes .says ≡ Refused r → keeps r ≡ true → record′ c image bytes .rest ≡ 0
+      told-kept = Refusals.told-kept c image bytes
+
+      pub told-lost : record′ c image bytes .says ≡ Refused Io → record′ c image bytes .rest ≡ length bytes
+      told-lost = Refusals.told-lost c image bytes
+
+  -- A failed link: 1 where a request is out, else 21.
+  pub failed-idle : c .turn ≡ Idle → linkFailed c ≡ refuses c OutOfTurn
+  failed-idle = Refusals.failed-idle c
+
+  pub failed-ready : (p : Phase) → c .turn ≡ Ready p → linkFailed c ≡ refuses c OutOfTurn
+  failed-ready = Refusals.failed-ready c
+
+  pub failed-waiting : (p : Phase) → c .turn ≡ Waiting p → linkFailed c ≡ stops c (Refused Io) 0
+  failed-waiting = Refusals.failed-waiting c
+
+  -- What a refusal that ends the operation leaves: nothing runs, the seed stays, and the attached id too, but after a deselect.
+  module _ (r : Refusal) where
+    pub leaves-kept : keeps r ≡ true → leaves r c ≡ c
+    leaves-kept = Refusals.leaves-kept r c
+
+    pub leaves-idle : keeps r ≡ false → leaves r c .turn ≡ Idle
+    leaves-idle = Refusals.leaves-ended r c
+
+    pub leaves-seed : leaves r c .seed ≡ c .seed
+    leaves-seed = Refusals.leaves-seed r c
+
+    pub leaves-attached : parts r ≡ false → (leaves r c .attached ≡ c .attached) × (leaves r c .id ≡ c .id)
+    leaves-attached = Refusals.leaves-attached r c
