@@ -5,23 +5,7 @@ use client::Outcome;
 use client::Progress;
 use client::Says;
 use frame::Head;
-use libc::STDOUT_FILENO;
 use wire::Written;
-
-fn print(text: &[u8]) {
-    io::write_all(STDOUT_FILENO, text);
-}
-
-fn print_hex(bytes: &[u8], n: usize) {
-    let mut i = 0;
-    while i < n {
-        if i < bytes.len() {
-            io::print_hex(STDOUT_FILENO, bytes[i] as u64, 2);
-        }
-        i += 1;
-    }
-    print(b"\n");
-}
 
 // A reply of status Ok.
 fn reply(command: u8, payload: &[u8], room: &mut [u8]) -> usize {
@@ -59,11 +43,25 @@ fn pod(command: u8, room: &mut [u8]) -> usize {
 
 fn print_progress(p: Progress) {
     if let Progress::Made(done, total) = p {
-        print(b"  done ");
-        io::print_hex(STDOUT_FILENO, done, 1);
-        print(b" of ");
-        io::print_hex(STDOUT_FILENO, total, 1);
-        print(b"\n");
+        show::print(b"  done ");
+        show::print_number(done, 1);
+        show::print(b" of ");
+        show::print_number(total, 1);
+        show::print(b"\n");
+    }
+}
+
+fn print_outcome(o: Outcome) {
+    if let Outcome::Knows(info) = o {
+        show::print(b"flashed: boot version ");
+        show::print_number(info.boot_version as u64, 1);
+        show::print(b"\n");
+    }
+}
+
+fn print_says(says: Says) {
+    if let Says::Over(o) = says {
+        print_outcome(o);
     }
 }
 
@@ -78,11 +76,7 @@ fn told(c: Client, command: u8) -> Client {
     let says = t.says;
     let progress = t.progress;
     print_progress(progress);
-    if let Says::Over(Outcome::Knows(info)) = says {
-        print(b"flashed: boot version ");
-        io::print_hex(STDOUT_FILENO, info.boot_version as u64, 1);
-        print(b"\n");
-    }
+    print_says(says);
     t.client
 }
 
@@ -93,7 +87,8 @@ fn round(c: Client) -> Client {
     let says = s.says;
     let next = s.client;
     if let Says::Granted(n) = says {
-        print_hex(&room, n);
+        show::print_front(&room, n);
+        show::print(b"\n");
         return told(next, room[1]);
     }
     next
@@ -102,7 +97,7 @@ fn round(c: Client) -> Client {
 fn main() {
     let s = starting::start_flash(Client::new(), b"abcde");
     let mut c = s.client;
-    let mut i = 0;
+    let mut i = 0u64;
     while i < 6 {
         c = round(c);
         i += 1;
