@@ -85,7 +85,7 @@ module _ (a b out₀ out part : List ℕ) (at k : ℕ) (e : record { len = at; b
       size = omega (arith, here, ap (λ (x : Placed). x .len) p, length-append a b)
 
 -- The bytes of an id.
-held : (x : Id) (n : ℕ) → n ≡ length (idOf x) → take n (x .bytes) ≡ idOf x
+pub held : (x : Id) (n : ℕ) → n ≡ length (idOf x) → take n (x .bytes) ≡ idOf x
 held x n e =
     ap (λ (k : ℕ). take k (x .bytes)) e
     ∙ sym (take-take (length (idOf x)) (x .len) (x .bytes) (omega (arith, length-take (x .len) (x .bytes))))

@@ -6,6 +6,7 @@ pub mod Parts
 pub mod Rows
 pub mod Bits
 pub mod Hex
+pub mod Fields
 pub mod Frames
 pub mod Readings
 pub mod Answered

@@ -1,10 +1,10 @@
 -- Byte order, once over the width: a number written is read back, bytes read are written back, and a field byte by byte.
 -- Assumes nothing.
 use Prim.Native.Nat.{ℕ, zero, suc, _+_, _*_, _/_, _%_, _^_, _<_, _≤_}
-use mathlib.Core.List.{List, [], _∷_}
+use mathlib.Core.List.{List, [], _∷_, _++_}
 use mathlib.Core.Path.{_≡_, refl, sym, _∙_, ap, ap₂}
 use native.Mathlib.Omega.{arith}
-use native.Mathlib.Nat.{pow-suc, pow-succ', mul-assoc, mod-add-div}
+use native.Mathlib.Nat.{pow-suc, pow-succ', add-zero, zero-add, suc-add, mul-assoc, mod-add-div}
 use native.Mathlib.Numerals.{add-one}
 use lib.ListN.{length, getD, drop-of-length-le, List·getD-eq-default}
 use lib.Seq.{drop-cons, take-nil}
@@ -69,6 +69,15 @@ pub field-none : (at : ℕ) (s : List ℕ) → field at 0 s ≡ 0
 unfolding number
 field-none at s = refl
 
+-- A wide field is a narrower one and the field after it.
+pub field-add : (j k at : ℕ) (s : List ℕ) → field at (j + k) s ≡ field at j s + 256 ^ j * field (at + j) k s
+field-add zero k at s = rw (field-none at s, add-zero at, zero-add k) (omega arith)
+field-add (suc j) k at s =
+    rw (suc-add j k, field-suc at (j + k) s, field-add j k (at + 1) s, field-suc at j s, next at j, pow-suc 256 j, mul-assoc (256 ^ j) 256 (field (at + suc j) k s)) (omega arith)
+  where
+    next : (at j : ℕ) → at + 1 + j ≡ at + suc j
+    next at j = omega arith
+
 -- The same for the widths in use, from the bytes that the code reads.
 pub field-2 : (s : List ℕ) (at a b : ℕ) → a ≡ getD s at 0 → b ≡ getD s (at + 1) 0 → a + 256 * b ≡ field at 2 s
 field-2 s at a b ea eb = rw (field-suc at 1 s, field-suc (at + 1) 0 s, field-none (at + 1 + 1) s, ← ea, ← eb) (omega arith)
@@ -85,3 +94,26 @@ field-4 s at a b c d ea eb ec ed =
 
     one : (at : ℕ) → at + 1 + 1 ≡ at + 2
     one at = omega arith
+
+pub field-8 : (s : List ℕ) (at a b x y : ℕ) → a ≡ field at 4 s → b ≡ field (at + 4) 4 s → x ≡ a → y ≡ b → x + 4294967296 * y ≡ field at 8 s
+field-8 s at a b x y ea eb ex ey = rw (field-add 4 4 at s, ← ea, ← eb, ex, ey)
+
+-- Eight bytes are twice four.
+pub le-8 : (x : ℕ) → le 4 (x % 4294967296) ++ le 4 (x / 4294967296) ≡ le 8 x
+unfolding le
+le-8 x = ap₂ _++_ (ap₂ _∷_ (b₀ x) (ap₂ _∷_ (b₁ x) (ap₂ _∷_ (b₂ x) (ap (λ (y : ℕ). y ∷ []) (b₃ x))))) (ap (le 4) (high x))
+  where
+    b₀ : (x : ℕ) → x % 4294967296 % 256 ≡ x % 256
+    b₀ x = omega arith
+
+    b₁ : (x : ℕ) → x % 4294967296 / 256 % 256 ≡ x / 256 % 256
+    b₁ x = omega arith
+
+    b₂ : (x : ℕ) → x % 4294967296 / 256 / 256 % 256 ≡ x / 256 / 256 % 256
+    b₂ x = omega arith
+
+    b₃ : (x : ℕ) → x % 4294967296 / 256 / 256 / 256 % 256 ≡ x / 256 / 256 / 256 % 256
+    b₃ x = omega arith
+
+    high : (x : ℕ) → x / 4294967296 ≡ x / 256 / 256 / 256 / 256
+    high x = omega arith

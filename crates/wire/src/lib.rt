@@ -1,6 +1,6 @@
 // Little-endian numbers in slices, bytes copied and filled, and the answer of every writer into a lent buffer.
 ghost use mathlib.Core.Path.{_≡_};
-ghost use mathlib.Core.List.{_++_};
+ghost use mathlib.Core.List.{[], _∷_, _++_};
 ghost use Prim.Native.Nat.{_+_, _≤_, _<_};
 ghost use lib.ListN.{length, take, drop, replicate};
 ghost use Rattle.paper.specs.Frame.{le, field};
@@ -26,6 +26,13 @@ pub fn wide32(x: u8) -> u32
     x as u32
 }
 
+pub fn wide64(x: u32) -> u64
+    ensures { λ r. ⌜ r ≡ x ⌝ }
+    ensures { λ r. ⌜ r < 0x1_0000_0000 ⌝ }
+{
+    x as u64
+}
+
 pub fn get16(s: &[u8], at: usize) -> u16
     requires { ⌜ at + 2 ≤ length (now s) ⌝ }
     ensures { λ r. ⌜ r ≡ field at 2 (now (s .entry)) ⌝ }
@@ -40,6 +47,20 @@ pub fn get32(s: &[u8], at: usize) -> u32
     let low = wide32(s[at]) + 0x100 * wide32(s[at + 1]);
     let high = wide32(s[at + 2]) + 0x100 * wide32(s[at + 3]);
     low + 0x1_0000 * high
+}
+
+pub fn get64(s: &[u8], at: usize) -> u64
+    requires { ⌜ at + 8 ≤ length (now s) ⌝ }
+    ensures { λ r. ⌜ r ≡ field at 8 (now (s .entry)) ⌝ }
+{
+    wide64(get32(s, at)) + 0x1_0000_0000 * wide64(get32(s, at + 4))
+}
+
+pub fn put8(buf: &mut [u8], at: usize, x: u8)
+    requires { ⌜ at + 1 ≤ length (now buf) ⌝ }
+    ensures { λ _. ⌜ now (buf .exit) ≡ take at (now (buf .entry)) ++ (x ∷ []) ++ drop (at + 1) (now (buf .entry)) ⌝ }
+{
+    buf[at] = x;
 }
 
 pub fn put16(buf: &mut [u8], at: usize, x: u16)
@@ -61,6 +82,22 @@ pub fn put32(buf: &mut [u8], at: usize, x: u32)
     buf[at + 1] = (x1 % 0x100) as u8;
     buf[at + 2] = (x2 % 0x100) as u8;
     buf[at + 3] = (x3 % 0x100) as u8;
+}
+
+pub fn put64(buf: &mut [u8], at: usize, x: u64)
+    requires { ⌜ at + 8 ≤ length (now buf) ⌝ }
+    ensures { λ _. ⌜ now (buf .exit) ≡ take at (now (buf .entry)) ++ le 8 x ++ drop (at + 8) (now (buf .entry)) ⌝ }
+{
+    put32(buf, at, (x % 0x1_0000_0000) as u32);
+    put32(buf, at + 4, (x / 0x1_0000_0000) as u32);
+}
+
+// src at a place of dst.
+pub fn paste(dst: &mut [u8], at: usize, src: &[u8])
+    requires { ⌜ at + length (now src) ≤ length (now dst) ⌝ }
+    ensures { λ _. ⌜ now (dst .exit) ≡ take at (now (dst .entry)) ++ now (src .entry) ++ drop (at + length (now (src .entry))) (now (dst .entry)) ⌝ }
+{
+    copy(&mut dst[at..], src);
 }
 
 // src at the front of dst.

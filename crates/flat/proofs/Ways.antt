@@ -1,0 +1,51 @@
+-- The ways through a turn's numbers and back, from the facts that the code has.
+-- Assumes nothing.
+use Prim.Native.Nat.{ℕ}
+use mathlib.Core.Bool.{Bool, false}
+use mathlib.Core.Path.{_≡_}
+use lib.Dec.{eqb}
+use Rattle.image.specs.declared.Info.{Info}
+use Rattle.client.specs.declared.Reset.{Reset}
+use Rattle.client.specs.declared.Turn.{Turn}
+use Rattle.flat.specs.declared.Flat.{Flat}
+use Rattle.flat.specs.Turns.{noInfo, noReset, selecting, demanding, leaving, flatOf}
+
+-- A number that is one case's is no other's.
+pub other-case : (x n m : ℕ) → x ≡ n → eqb n m ≡ false → eqb x m ≡ false
+other-case x n m e h = rw e h
+
+-- The case of a value that is known.
+module _ {A B C : Type 0} (f : A → B → C) where
+  pub at-case : (a : A) (x y : B) (r : C) → x ≡ y → r ≡ f a y → r ≡ f a x
+  at-case a x y r e h = rw e h
+
+pub at-turn : (t u : Turn) (r : Flat) → t ≡ u → r ≡ flatOf u → r ≡ flatOf t
+at-turn t u r e h = rw e h
+
+pub selecting-is : (turn search step : ℕ) (given other : Bool) (i : Info) (z : Reset) → i ≡ noInfo → z ≡ noReset
+    → _≡_ {A = Flat}
+    (record { turn = turn; kind = 0; search = search; given = given; step = step; other = other; job = 0; purpose = 0; size = 0; info = i; address = 0; offset = 0; retries = 0; reset = z })
+    (selecting turn search given step other)
+unfolding selecting
+selecting-is turn search step given other i z ei ez = rw (ei, ez)
+
+pub leaving-is : (turn : ℕ) (i : Info) (z : Reset) → i ≡ noInfo
+    → _≡_ {A = Flat}
+    (record { turn = turn; kind = 2; search = 0; given = false; step = 0; other = false; job = 0; purpose = 0; size = 0; info = i; address = 0; offset = 0; retries = 0; reset = z })
+    (leaving turn z)
+unfolding leaving
+leaving-is turn i z e = rw e
+
+-- With no information, and with no reset.
+module _ (turn job purpose size address offset retries p n : ℕ) (i : Info) (z : Reset) (r : Flat) (ep : p ≡ purpose) (en : n ≡ size) where
+  pub demanding-neither : i ≡ noInfo → z ≡ noReset → r ≡ demanding turn job p n i address offset retries z
+      → r ≡ demanding turn job purpose size noInfo address offset retries noReset
+  demanding-neither ei ez h = rw (ep, en, ei, ez) at h
+
+  pub demanding-unreset : z ≡ noReset → r ≡ demanding turn job p n i address offset retries z
+      → r ≡ demanding turn job purpose size i address offset retries noReset
+  demanding-unreset ez h = rw (ep, en, ez) at h
+
+  pub demanding-uninformed : i ≡ noInfo → r ≡ demanding turn job p n i address offset retries z
+      → r ≡ demanding turn job purpose size noInfo address offset retries z
+  demanding-uninformed ei h = rw (ep, en, ei) at h

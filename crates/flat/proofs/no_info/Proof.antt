@@ -1,0 +1,11 @@
+use borrow.Author.Needs.{needs}
+use Rattle.flat.specs.Turns.{noInfo}
+use Rattle.flat.proofs.no_info.Statement.{statement}
+use Rattle.flat.proofs.no_info.Tie as tie
+
+returns : tie.Need-returns
+unfolding noInfo
+returns c = search needs
+
+pub no-info-spec : {M : Type 1} → statement M
+no-info-spec = tie.close (tie.spec returns)

@@ -1,0 +1,11 @@
+use borrow.Author.Needs.{needs}
+use Rattle.flat.specs.Turns.{noReset}
+use Rattle.flat.proofs.no_reset.Statement.{statement}
+use Rattle.flat.proofs.no_reset.Tie as tie
+
+returns : tie.Need-returns
+unfolding noReset
+returns c = search needs
+
+pub no-reset-spec : {M : Type 1} → statement M
+no-reset-spec = tie.close (tie.spec returns)

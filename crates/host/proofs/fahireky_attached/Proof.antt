@@ -1,0 +1,38 @@
+use Rattle.host.proofs.Ways.{views-short, views-is}
+use Rattle.lent.proofs.Ways.{state-room, answer-room}
+use borrow.Author.Needs.{needs}
+use Rattle.host.proofs.fahireky_attached.Statement.{statement}
+use Rattle.host.proofs.fahireky_attached.Tie as tie
+
+lacks-requires : tie.Need-lacks-requires
+lacks-requires c κs = search needs
+
+returns : tie.Need-returns
+returns c = search (views-short, needs)
+
+load-requires : tie.Need-load-requires
+load-requires c κs = search (state-room, needs)
+
+attached-requires : tie.Need-attached-requires
+attached-requires c κs = search needs
+
+shows-requires : tie.Need-shows-requires
+shows-requires c κs = search (answer-room, needs)
+
+same-length : tie.Need-same-length
+same-length c = search needs
+
+returns-2 : tie.Need-returns-2
+returns-2 c = search (views-is, needs)
+
+pub fahireky-attached-spec : {M : Type 1} → statement M
+fahireky-attached-spec =
+    tie.close
+    (tie.spec
+    lacks-requires
+    returns
+    load-requires
+    attached-requires
+    shows-requires
+    same-length
+    returns-2)

@@ -1,0 +1,46 @@
+use Rattle.host.proofs.Ways.{requests-short, requests-is}
+use Rattle.lent.proofs.Ways.{state-room, answer-room}
+use borrow.Author.Needs.{needs}
+use Rattle.host.proofs.fahireky_request.Statement.{statement}
+use Rattle.host.proofs.fahireky_request.Tie as tie
+
+lacks-requires : tie.Need-lacks-requires
+lacks-requires c κs = search needs
+
+returns : tie.Need-returns
+returns c = search (requests-short, needs)
+
+load-requires : tie.Need-load-requires
+load-requires c κs = search (state-room, needs)
+
+request-requires : tie.Need-request-requires
+request-requires c κs = search needs
+
+started-requires : tie.Need-started-requires
+started-requires c κs = (search (state-room, needs), search (answer-room, needs))
+
+same-length : tie.Need-same-length
+same-length c = search needs
+
+same-length-2 : tie.Need-same-length-2
+same-length-2 c = search needs
+
+same-length-3 : tie.Need-same-length-3
+same-length-3 c = search needs
+
+returns-2 : tie.Need-returns-2
+returns-2 c = search (requests-is, needs)
+
+pub fahireky-request-spec : {M : Type 1} → statement M
+fahireky-request-spec =
+    tie.close
+    (tie.spec
+    lacks-requires
+    returns
+    load-requires
+    request-requires
+    started-requires
+    same-length
+    same-length-2
+    same-length-3
+    returns-2)

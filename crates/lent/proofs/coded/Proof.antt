@@ -1,0 +1,17 @@
+use Rattle.lent.specs.Hosts.{coded}
+use borrow.Author.Needs.{needs}
+use Rattle.lent.proofs.coded.Statement.{statement}
+use Rattle.lent.proofs.coded.Tie as tie
+
+mul-result : tie.Need-mul-result
+mul-result c = search needs
+
+add-result : tie.Need-add-result
+add-result c = search needs
+
+returns : tie.Need-returns
+unfolding coded
+returns c = search needs
+
+pub coded-spec : {M : Type 1} → statement M
+coded-spec = tie.close (tie.spec mul-result add-result returns)

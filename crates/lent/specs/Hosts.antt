@@ -1,0 +1,145 @@
+-- What each exported call makes of the buffers that a host lends, and the code that it returns.
+-- Assumes nothing.
+use Prim.Native.Nat.{ℕ, _+_, _*_, _%_}
+use mathlib.Core.Bool.{cond}
+use mathlib.Core.List.{List, _++_}
+use lib.Dec.{ltb}
+use lib.ListN.{length, drop}
+use Rattle.ids.specs.declared.Id.{Id}
+use Rattle.ids.specs.Ids.{noId, idOf}
+use Rattle.table.specs.Rows.{noTable}
+use Rattle.wire.specs.declared.Written.{Written}
+use Rattle.wire.specs.declared.Written.the-variants.{Done, Short, TooLong}
+use Rattle.text.specs.declared.Parsed.{Parsed}
+use Rattle.text.specs.declared.Parse.{Parse}
+use Rattle.text.specs.declared.Parse.the-variants.{Uid, BadText}
+use Rattle.text.specs.Texts as Texts
+use Rattle.image.specs.declared.Compat.{Compat}
+use Rattle.image.specs.declared.Compat.the-variants.{Key, Missing}
+use Rattle.hearing.specs.declared.Heard.{Heard}
+use Rattle.hearing.specs.declared.Hearing.{Hearing}
+use Rattle.steps.specs.Steps.{long}
+use Rattle.client.specs.declared.Client.{Client}
+use Rattle.client.specs.declared.Outcome.the-variants as Outcome
+use Rattle.client.specs.declared.Refusal.the-variants.{LongId}
+use Rattle.client.specs.declared.Progress.the-variants.{None}
+use Rattle.client.specs.declared.Says.{Says}
+use Rattle.client.specs.declared.Says.the-variants.{Over, Refused}
+use Rattle.client.specs.declared.Started.{Started}
+use Rattle.client.specs.declared.Told.{Told}
+use Rattle.client.specs.declared.Attached.{Attached}
+use Rattle.client.specs.Clients.{attached}
+use Rattle.asking.specs.Asking.{Asking, request}
+use Rattle.notes.specs.Notes.{noteOf}
+use Rattle.state.specs.States as State
+use Rattle.state.specs.States.{saved, loaded}
+use Rattle.answers.specs.Answers as Answer
+use Rattle.answers.specs.Answers.{shown}
+
+-- A number in the low byte, and a length above it. No length of an answer reaches 2 ^ 56.
+unfoldable pub coded : ℕ → ℕ → ℕ
+coded number length = number + 256 * (length % 0x100000000000000)
+
+unfoldable pub codeOf : Says → ℕ
+codeOf says = coded (noteOf says .number) (noteOf says .length)
+
+-- A state of n bytes and an answer of m: the first that is too short is refused with the length that it lacks.
+unfoldable pub lent : {A : Type 0} → ℕ → ℕ → (ℕ → A) → A → A
+lent n m short enough = cond (ltb n State.size) (short (coded 16 State.size)) (cond (ltb m Answer.size) (short (coded 16 Answer.size)) enough)
+
+unfoldable pub lacks : ℕ → ℕ → ℕ
+lacks n m = lent n m (λ code. code) 0
+
+-- The code, and a buffer after the call.
+pub record Coded : Type 0 where
+  pub code : ℕ
+  pub bytes : List ℕ
+
+-- The code, and the state and the answer after the call.
+pub record Exported : Type 0 where
+  pub code : ℕ
+  pub state : List ℕ
+  pub answer : List ℕ
+
+-- With the request's buffer.
+pub record Requested : Type 0 where
+  pub code : ℕ
+  pub state : List ℕ
+  pub buffer : List ℕ
+  pub answer : List ℕ
+
+-- The answer that has nothing beside it.
+unfoldable pub toldBy : Started → Told
+toldBy s = record { says = s .says; client = s .client; rest = 0; progress = None; id = noId; found = noTable }
+
+-- What a call leaves: the client saved, and its answer written.
+unfoldable pub leaves : Told → List ℕ → List ℕ → Exported
+leaves t s a = record {
+  code = codeOf (t .says);
+  state = saved (t .client) ++ drop State.size s;
+  answer = shown (t .says) (t .progress) (t .id) (t .found) (t .rest) ++ drop Answer.size a;
+}
+
+unfoldable pub tells : (Client → Told) → List ℕ → List ℕ → Exported
+tells f s a = lent (length s) (length a) (λ code. record { code = code; state = s; answer = a }) (leaves (f (loaded s)) s a)
+
+unfoldable pub starts : (Client → Started) → List ℕ → List ℕ → Exported
+starts f s a = tells (λ c. toldBy (f c)) s a
+
+unfoldable pub handed : Exported → List ℕ → Requested
+handed e b = record { code = e .code; state = e .state; buffer = b; answer = e .answer }
+
+unfoldable pub asks : Asking → List ℕ → List ℕ → Requested
+asks x s a = handed (leaves (toldBy (x .answer)) s a) (x .bytes)
+
+unfoldable pub requests : List ℕ → List ℕ → List ℕ → List ℕ → Requested
+requests image s b a =
+    lent (length s) (length a) (λ code. record { code = code; state = s; buffer = b; answer = a }) (asks (request (loaded s) image b) s a)
+
+-- An answer alone, with the id beside it.
+unfoldable pub shows : Says → Id → List ℕ → Coded
+shows says x a = record { code = codeOf says; bytes = shown says None x noTable 0 ++ drop Answer.size a }
+
+unfoldable pub showsAttached : Attached → List ℕ → Coded
+showsAttached x a = shows (Over (Outcome.Attached (x .any))) (x .id) a
+
+unfoldable pub views : List ℕ → List ℕ → Coded
+views s a = lent (length s) (length a) (λ code. record { code = code; bytes = a }) (showsAttached (attached (loaded s)) a)
+
+-- What a plain select that heard so much ends with.
+unfoldable pub saidOf : Heard → Says
+saidOf h = cond (long h) (Refused LongId) (Over (Outcome.Heard h))
+
+unfoldable pub hearsOut : Hearing → List ℕ → Coded
+hearsOut x a = lent State.size (length a) (λ code. record { code = code; bytes = a }) (shows (saidOf (x .heard)) (x .id) a)
+
+-- Ids as text.
+unfoldable pub writtenCode : Written → ℕ
+writtenCode (Done n) = coded 0 n
+writtenCode (Short n) = coded 16 n
+writtenCode TooLong = coded 13 0
+
+unfoldable pub writes : Texts.Outcome → Coded
+writes o = record { code = writtenCode (o .answer); bytes = o .bytes }
+
+unfoldable pub putUid : Id → List ℕ → Coded
+putUid x out =
+    cond (ltb (length out) (length (idOf x)))
+    (record { code = coded 16 (length (idOf x)); bytes = out })
+    (record { code = coded 0 (length (idOf x)); bytes = idOf x ++ drop (length (idOf x)) out })
+
+unfoldable pub readAs : Parse → Id → List ℕ → Coded
+readAs Uid x out = putUid x out
+readAs BadText x out = record { code = coded 22 0; bytes = out }
+
+unfoldable pub readUid : Parsed → List ℕ → Coded
+readUid p out = readAs (p .answer) (p .id) out
+
+-- A key, with a bit above it that says that there is one.
+unfoldable pub keyCode : Compat → ℕ
+keyCode (Key k) = k + 0x100000000
+keyCode Missing = 0
+
+-- Where the unread rest begins, in bytes of some length.
+unfoldable pub restFrom : ℕ → ℕ → ℕ
+restFrom n at = cond (ltb at n) at n

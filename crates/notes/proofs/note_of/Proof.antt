@@ -1,0 +1,66 @@
+use Rattle.notes.proofs.Ways.{at-value, refused-is}
+use Rattle.notes.specs.Notes.{noteOf}
+use borrow.Author.Needs.{needs}
+use Rattle.notes.proofs.note_of.Statement.{statement}
+use Rattle.notes.proofs.note_of.Tie as tie
+
+enum-known-says : tie.Need-enum-known-says
+enum-known-says c = search needs
+
+going-requires : tie.Need-going-requires
+going-requires c κs = search needs
+
+enum-told : tie.Need-enum-told
+enum-told c = search needs
+
+going-requires-2 : tie.Need-going-requires-2
+going-requires-2 c κs = search needs
+
+enum-known-says-2 : tie.Need-enum-known-says-2
+enum-known-says-2 c = search needs
+
+outcome-note-requires : tie.Need-outcome-note-requires
+outcome-note-requires c κs = search needs
+
+enum-known-says-3 : tie.Need-enum-known-says-3
+enum-known-says-3 c = search needs
+
+number-requires : tie.Need-number-requires
+number-requires c κs = search needs
+
+refusal-note-requires : tie.Need-refusal-note-requires
+refusal-note-requires c κs = search needs
+
+returns : tie.Need-returns
+unfolding noteOf
+returns c = search (at-value noteOf, needs)
+
+returns-2 : tie.Need-returns-2
+unfolding noteOf
+returns-2 c = search (at-value noteOf, needs)
+
+returns-3 : tie.Need-returns-3
+unfolding noteOf
+returns-3 c = search (at-value noteOf, needs)
+
+returns-4 : tie.Need-returns-4
+unfolding noteOf
+returns-4 c = search (at-value noteOf, refused-is, needs)
+
+pub note-of-spec : {M : Type 1} → statement M
+note-of-spec =
+    tie.close
+    (tie.spec
+    enum-known-says
+    going-requires
+    enum-told
+    going-requires-2
+    enum-known-says-2
+    outcome-note-requires
+    enum-known-says-3
+    number-requires
+    refusal-note-requires
+    returns
+    returns-2
+    returns-3
+    returns-4)

@@ -1,0 +1,182 @@
+-- For the users of a saved client: what was saved is loaded, all zero is a fresh client, and any bytes are a client that fits.
+-- Assumes nothing.
+use Prim.Native.Nat.{ℕ, zero, suc, _+_, _≤_}
+use mathlib.Core.Bool.{false}
+use mathlib.Core.List.{List, [], _∷_, _++_, append-nil}
+use mathlib.Core.Path.{_≡_, refl, sym, _∙_, ap}
+use native.Mathlib.Omega.{arith}
+use lib.ListN.{length, take, drop, replicate, length-drop, length-replicate}
+use lib.Seq.{take-at, length-take-le}
+use Rattle.paper.specs.Frame.{le}
+use Rattle.lore.proofs.Fields.{spread, joined-length, joined-zeros, field-at, byte-at, byte-below, field-below, bytes-take, bytes-drop}
+use Rattle.lore.proofs.Words.{Bytes, le-length}
+use Rattle.ids.specs.declared.Id.{Id}
+use Rattle.ids.specs.Ids.{noId}
+use Rattle.table.specs.declared.Table.{Table}
+use Rattle.table.specs.Rows.{noTable}
+use Rattle.walk.specs.declared.Walk.{Walk}
+use Rattle.walk.specs.Moves.{noWalk}
+use Rattle.client.specs.declared.Client.{Client}
+use Rattle.client.specs.Clients.{fresh}
+use Rattle.flat.specs.Turns.{flatOf, turnOf, selecting}
+use Rattle.flat.proofs.Laws.{turn-of-flat, selecting-fits, turn-fits}
+use Rattle.turns.specs.Flats.{flag, savedFlat, loadedFlat}
+use Rattle.turns.proofs.Laws.{flag-back, flat-length, flat-fits, flat-back, flat-zero}
+use Rattle.state.specs.States.{size, savedId, savedTable, savedWalk, savedFront, saved, loadedId, loadedTable, loadedWalk, loaded, Array, IdFits, TableFits, WalkFits, Fits}
+use Rattle.state.proofs.Ways.{id-length, table-length, walk-length, front-length}
+
+-- How long.
+module _ (c : Client) (h : Fits c) where
+  walk-sized : length (savedWalk (c .walk)) ≡ 1265
+  walk-sized =
+      walk-length (c .walk) (h .walk .path .0) (h .walk .marks .0) (table-length (c .walk .found) (h .walk .found .ids .0) (h .walk .found .lens .0))
+      (id-length (c .walk .candidate) (h .walk .candidate .bytes .0))
+
+  front-sized : length (savedFront c) ≡ 69
+  front-sized = front-length c (id-length (c .id) (h .id .bytes .0))
+
+  pub saved-length : length (saved c) ≡ size
+  unfolding saved
+  saved-length =
+      joined-length ((17, savedId (c .prefix)) ∷ (1, c .bits ∷ []) ∷ (1265, savedWalk (c .walk)) ∷ []) (savedFront c) 69 front-sized
+      (id-length (c .prefix) (h .prefix .bytes .0), (refl, (walk-sized, tt)))
+
+-- What was saved is found again.
+module _ (at : ℕ) (b : List ℕ) where
+  id-back : (x : Id) → IdFits x → take 17 (drop at b) ≡ savedId x → loadedId at b ≡ x
+  unfolding savedId loadedId
+  id-back x h e =
+      let s = spread at b ((1, x .len ∷ []) ∷ []) (x .bytes) 16 (h .bytes .0) (refl, tt) e in
+      rw (s .0, byte-at (at + 16) 1 (x .len ∷ []) b (omega arith) (s .1 .0))
+
+  table-back : (t : Table) → TableFits t → take 1096 (drop at b) ≡ savedTable t → loadedTable at b ≡ t
+  unfolding savedTable loadedTable
+  table-back t h e =
+      let s = spread at b ((64, t .lens) ∷ (8, le 8 (t .count)) ∷ []) (t .ids) 1024 (h .ids .0) (h .lens .0, (le-length 8 (t .count), tt)) e in
+      rw (s .0, s .1 .0, field-at (at + 1088) 8 (t .count) b (h .count) (s .1 .1 .0))
+
+module _ (at : ℕ) (b : List ℕ) where
+  walk-back : (w : Walk) → WalkFits w → take 1265 (drop at b) ≡ savedWalk w → loadedWalk at b ≡ w
+  unfolding savedWalk loadedWalk
+  walk-back w h e =
+      let s = spread at b ((8, le 8 (w .depth)) ∷ (128, w .marks) ∷ (1096, savedTable (w .found)) ∷ (17, savedId (w .candidate)) ∷ []) (w .path) 16 (h .path .0)
+      (le-length 8 (w .depth), (h .marks .0, (table-length (w .found) (h .found .ids .0) (h .found .lens .0), (id-length (w .candidate) (h .candidate .bytes .0), tt)))) e in
+      rw (
+        s .0,
+        field-at (at + 16) 8 (w .depth) b (h .depth) (s .1 .0),
+        s .1 .1 .0,
+        table-back (at + 152) b (w .found) (h .found) (s .1 .1 .1 .0),
+        id-back (at + 1248) b (w .candidate) (h .candidate) (s .1 .1 .1 .1 .0),
+      )
+
+client-back : (c : Client) (b : List ℕ) → Fits c → take size (drop 0 b) ≡ saved c → loaded b ≡ c
+unfolding saved savedFront loaded
+client-back c b h e =
+    let s = spread 0 b ((17, savedId (c .prefix)) ∷ (1, c .bits ∷ []) ∷ (1265, savedWalk (c .walk)) ∷ []) (savedFront c) 69 (front-sized c h)
+    (id-length (c .prefix) (h .prefix .bytes .0), (refl, (walk-sized c h, tt))) e in
+    let f = spread 0 b ((1, flag (c .attached) ∷ []) ∷ (17, savedId (c .id)) ∷ (50, savedFlat (flatOf (c .turn))) ∷ []) (c .seed ∷ []) 1 refl
+    (refl, (id-length (c .id) (h .id .bytes .0), (flat-length (flatOf (c .turn)), tt))) (s .0) in
+    let turn : turnOf (loadedFlat 19 b) ≡ c .turn = ap turnOf (flat-back 19 b (flatOf (c .turn)) (h .turn) (f .1 .1 .1 .0)) ∙ turn-of-flat (c .turn) in
+    rw (
+      byte-at 0 1 (c .seed ∷ []) b (omega arith) (f .0),
+      byte-at 1 1 (flag (c .attached) ∷ []) b (omega arith) (f .1 .0),
+      flag-back (c .attached),
+      id-back 2 b (c .id) (h .id) (f .1 .1 .0),
+      turn,
+      id-back 69 b (c .prefix) (h .prefix) (s .1 .0),
+      byte-at 86 1 (c .bits ∷ []) b (omega arith) (s .1 .1 .0),
+      walk-back 87 b (c .walk) (h .walk) (s .1 .1 .1 .0),
+    )
+
+pub loaded-saved : (c : Client) → Fits c → (more : List ℕ) → loaded (saved c ++ more) ≡ c
+loaded-saved c h more = client-back c (saved c ++ more) h (take-at (saved c) more size (saved-length c h))
+
+-- Any bytes are a client that fits.
+module _ (b : List ℕ) (hb : Bytes b) where
+  array-fits : (n at : ℕ) → at + n ≤ length b → Array n (take n (drop at b))
+  array-fits n at room = (length-take-le n (drop at b) (omega (arith, length-drop at b)), bytes-take n (drop at b) (bytes-drop at b hb))
+
+  id-fits : (at : ℕ) → at + 17 ≤ length b → IdFits (loadedId at b)
+  unfolding loadedId
+  id-fits at room = record { bytes = array-fits 16 at (omega arith); len = byte-below b (at + 16) hb }
+
+  table-fits : (at : ℕ) → at + 1096 ≤ length b → TableFits (loadedTable at b)
+  unfolding loadedTable
+  table-fits at room = record { ids = array-fits 1024 at (omega arith); lens = array-fits 64 (at + 1024) (omega arith); count = field-below 8 (at + 1088) b hb }
+
+  walk-fits : (at : ℕ) → at + 1265 ≤ length b → WalkFits (loadedWalk at b)
+  unfolding loadedWalk
+  walk-fits at room = record {
+    path = array-fits 16 at (omega arith);
+    depth = field-below 8 (at + 16) b hb;
+    marks = array-fits 128 (at + 24) (omega arith);
+    found = table-fits (at + 152) (omega arith);
+    candidate = id-fits (at + 1248) (omega arith);
+  }
+
+  pub loaded-fits : size ≤ length b → Fits (loaded b)
+  unfolding loaded
+  loaded-fits room = record {
+    seed = byte-below b 0 hb;
+    id = id-fits 2 (omega arith);
+    turn = turn-fits (loadedFlat 19 b) (flat-fits 19 b hb);
+    prefix = id-fits 69 (omega arith);
+    bits = byte-below b 86 hb;
+    walk = walk-fits 87 (omega arith);
+  }
+
+-- A fresh client is all zero.
+zero-bytes : (n : ℕ) → Bytes (replicate n 0)
+zero-bytes zero = tt
+zero-bytes (suc n) = (omega arith, zero-bytes n)
+
+id-zero : savedId noId ≡ replicate 17 0
+unfolding savedId noId
+id-zero = joined-zeros ((1, 0 ∷ []) ∷ []) 16 (refl, tt)
+
+table-zero : savedTable noTable ≡ replicate 1096 0
+unfolding savedTable noTable le
+table-zero = joined-zeros ((64, replicate 64 0) ∷ (8, le 8 0) ∷ []) 1024 (refl, (refl, tt))
+
+walk-zero : savedWalk noWalk ≡ replicate 1265 0
+unfolding savedWalk noWalk le
+walk-zero = joined-zeros ((8, le 8 0) ∷ (128, replicate 128 0) ∷ (1096, savedTable noTable) ∷ (17, savedId noId) ∷ []) 16 (refl, (refl, (table-zero, (id-zero, tt))))
+
+front-zero : savedFront fresh ≡ replicate 69 0
+unfolding savedFront fresh flatOf
+front-zero = joined-zeros ((1, 0 ∷ []) ∷ (17, savedId noId) ∷ (50, savedFlat (selecting 0 0 false 0 false)) ∷ []) 1 (refl, (id-zero, (flat-zero, tt)))
+
+pub fresh-is-zero : saved fresh ≡ replicate size 0
+unfolding saved fresh
+fresh-is-zero =
+    ap (λ (s : List ℕ). s ++ savedId noId ++ (0 ∷ []) ++ savedWalk noWalk) front-zero
+    ∙ joined-zeros ((17, savedId noId) ∷ (1, 0 ∷ []) ∷ (1265, savedWalk noWalk) ∷ []) 69 (id-zero, (refl, (walk-zero, tt)))
+
+zero-array : (n : ℕ) → Array n (replicate n 0)
+zero-array n = (length-replicate n 0, zero-bytes n)
+
+no-id-fits : IdFits noId
+unfolding noId
+no-id-fits = record { bytes = zero-array 16; len = omega arith }
+
+no-table-fits : TableFits noTable
+unfolding noTable
+no-table-fits = record { ids = zero-array 1024; lens = zero-array 64; count = omega arith }
+
+no-walk-fits : WalkFits noWalk
+unfolding noWalk
+no-walk-fits = record { path = zero-array 16; depth = omega arith; marks = zero-array 128; found = no-table-fits; candidate = no-id-fits }
+
+pub fresh-fits : Fits fresh
+unfolding fresh flatOf
+fresh-fits = record {
+  seed = omega arith;
+  id = no-id-fits;
+  turn = selecting-fits 0 (omega arith) 0 0 false false (omega arith) (omega arith);
+  prefix = no-id-fits;
+  bits = omega arith;
+  walk = no-walk-fits;
+}
+
+pub zero-is-fresh : loaded (replicate size 0) ≡ fresh
+zero-is-fresh = ap loaded (sym (append-nil (saved fresh) ∙ fresh-is-zero)) ∙ loaded-saved fresh fresh-fits []
