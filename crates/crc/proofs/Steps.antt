@@ -7,25 +7,25 @@ use mathlib.Core.Path.{_≡_}
 use native.Mathlib.Decide.{decLt}
 use native.Mathlib.Numerals.{add-one}
 use native.Mathlib.Omega.{arith}
-use lib.Bits.{bitXor, xor-zero-r}
+use lib.Bits.{bitAnd, bitXor, xor-zero-r}
 use lib.Dec.{ltb}
 use lib.ListN.{length, drop, getD, drop-of-length-le}
 use lib.Seq.{drop-cons}
 use borrow.Author.Tests.{lt-ltb, le-ltb}
 use Rattle.paper.specs.Frame.{crcBit, crcByte, crcFrom}
 
--- The bit shifted out is 0 or 1.
-pub branchless : (c : ℕ) → c < 2 ^ 16 → bitXor (c * 2 ^ 1 % 2 ^ 16) (c / 2 ^ 15 * 0x1021) ≡ crcBit c
+-- The bit shifted out is 0 or 1, and the mask made of it has no bit or all.
+pub branchless : (c m : ℕ) → c < 2 ^ 16 → m < 2 ^ 16 → (m + c / 2 ^ 15) % 2 ^ 16 ≡ 0 → bitXor (c * 2 ^ 1 % 2 ^ 16) (bitAnd m 0x1021) ≡ crcBit c
 unfolding crcBit
-branchless c h = go (decLt c 0x8000)
+branchless c m h k e = go (decLt c 0x8000)
   where
-    go : Dec (c < 0x8000) → bitXor (c * 2 ^ 1 % 2 ^ 16) (c / 2 ^ 15 * 0x1021) ≡ cond (ltb c 0x8000) (c * 2) (bitXor (c * 2 % 0x10000) 0x1021)
-    go (yes k) =
-        let none : c / 2 ^ 15 * 0x1021 ≡ 0 = omega arith in
+    go : Dec (c < 0x8000) → bitXor (c * 2 ^ 1 % 2 ^ 16) (bitAnd m 0x1021) ≡ cond (ltb c 0x8000) (c * 2) (bitXor (c * 2 % 0x10000) 0x1021)
+    go (yes l) =
+        let none : m ≡ 0 = omega arith in
         let same : c * 2 ^ 1 % 2 ^ 16 ≡ c * 2 = omega arith in
-        rw (none, same, lt-ltb c 0x8000 k) (xor-zero-r (c * 2))
-    go (no k) =
-        let all : c / 2 ^ 15 * 0x1021 ≡ 0x1021 = omega arith in
+        rw (none, same, lt-ltb c 0x8000 l) (xor-zero-r (c * 2))
+    go (no l) =
+        let all : m ≡ 0xFFFF = omega arith in
         rw (all, le-ltb c 0x8000 (omega arith))
 
 -- A byte enters at the top, and eight steps follow.

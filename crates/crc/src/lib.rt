@@ -2,11 +2,11 @@
 ghost use mathlib.Core.Path.{_≡_};
 ghost use Rattle.paper.specs.Frame.{crcBit, crcByte, crcFrom};
 
-// Without a branch: the bit shifted out is 0 or 1 times the polynomial.
+// Without a branch: of the bit shifted out, 0 or 1, a mask of no bit or of all is made, and the polynomial added by it.
 pub fn crc_bit(c: u16) -> u16
     ensures { λ r. ⌜ r ≡ crcBit c ⌝ }
 {
-    (c << 1) ^ ((c >> 15) * 0x1021)
+    (c << 1) ^ (std::num::wrapping_sub_u16(0, c >> 15) & 0x1021)
 }
 
 pub fn crc_byte(c: u16, b: u8) -> u16

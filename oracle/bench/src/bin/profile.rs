@@ -1,0 +1,17 @@
+//! profile: discoveries of 64 pods on the port alone, for a profiler.
+
+use bench::{ours, records};
+use differential::run::Operation;
+use differential::wire::{Random, Wire};
+use fahireky::Client;
+
+fn main() {
+    let r = &mut Random::new(1);
+    let wire = Wire::Honest((0..64).map(|_| r.bytes(16)).collect());
+    let records = records(&Operation::Discover(vec![]), &wire);
+    for _ in 0..3000 {
+        let mut client = Client::new();
+        client.start_discover(&[]).unwrap();
+        std::hint::black_box(ours(client, &[], &records));
+    }
+}

@@ -1,0 +1,163 @@
+//! Measures both sides in one process on the same records: the best of several, and the port's time as a ratio to the Rust's.
+
+use std::hint::black_box;
+use std::mem::{MaybeUninit, size_of};
+use std::time::Instant;
+
+use bench::{ours, records, rust_client};
+use differential::run::Operation;
+use differential::wire::{Info, Pod, Random, Wire, reply};
+use fahireky::Client;
+
+/// The best time of some runs, in nanoseconds for each of so many units. Both sides take turns.
+fn best(units: usize, mut rust: impl FnMut(), mut port: impl FnMut()) -> (f64, f64) {
+    let (mut a, mut b) = (f64::MAX, f64::MAX);
+    // As many rounds as fit a quarter of a second, at least five.
+    let start = Instant::now();
+    let mut rounds = 0;
+    while rounds < 5 || start.elapsed().as_millis() < 500 {
+        let t = Instant::now();
+        rust();
+        a = a.min(t.elapsed().as_nanos() as f64);
+        let t = Instant::now();
+        port();
+        b = b.min(t.elapsed().as_nanos() as f64);
+        rounds += 1;
+    }
+    (a / units as f64, b / units as f64)
+}
+
+fn line(name: &str, unit: &str, (rust, port): (f64, f64)) {
+    println!("| {name} | {unit} | {rust:.1} | {port:.1} | {:.2} |", port / rust);
+}
+
+fn speed(name: &str, bytes: usize, (rust, port): (f64, f64)) {
+    let mb = |ns: f64| bytes as f64 / ns * 1000.0;
+    println!("| {name} | MB/s | {:.0} | {:.0} | {:.2} |", mb(rust), mb(port), port / rust);
+}
+
+fn discovery(name: &str, prefix: &[u8], wire: Wire) {
+    let records = records(&Operation::Discover(prefix.to_vec()), &wire);
+    let measured = best(
+        records.len(),
+        || {
+            black_box(rust_client(&records).discover(prefix)).ok();
+        },
+        || {
+            let mut client = Client::new();
+            client.start_discover(prefix).unwrap();
+            black_box(ours(client, &[], &records));
+        },
+    );
+    line(&format!("{name} ({} Selects)", records.len()), "ns a Select", measured);
+}
+
+fn flash(name: &str, n: usize) {
+    let image = Random::new(n as u64).bytes(n);
+    let info = Info { capacity: n as u32, erase_size: 1024, compat: 0xFFFF_FFFF, max_payload: 1024 };
+    let wire = Wire::Pod(Pod::new(info.bytes(), 1));
+    let records = records(&Operation::Flash(image.clone()), &wire);
+    let measured = best(
+        1000,
+        || {
+            black_box(rust_client(&records).flash(&image, &mut |_, _, _| {})).unwrap();
+        },
+        || {
+            let mut client = Client::new();
+            client.start_flash(&image).unwrap();
+            black_box(ours(client, &image, &records));
+        },
+    );
+    line(&format!("{name} ({} requests)", records.len()), "us", measured);
+}
+
+/// Garble beside a clean 4 KiB: frames of every kind, then a byte that spoils them.
+fn noisy(r: &mut Random) -> Vec<u8> {
+    let mut bytes = Vec::new();
+    while bytes.len() < 4000 {
+        let n = r.below(40);
+        bytes.extend(reply(5, (bytes.len() % 2) as u8, &r.bytes(n)));
+    }
+    bytes.resize(4096, 0x11);
+    bytes
+}
+
+const PAINTED: usize = 1 << 18;
+
+#[inline(never)]
+fn paint() {
+    let mut room = MaybeUninit::<[u8; PAINTED]>::uninit();
+    for i in 0..PAINTED {
+        // SAFETY: within the array.
+        unsafe { room.as_mut_ptr().cast::<u8>().add(i).write_volatile(0xC7) };
+    }
+    black_box(&mut room);
+}
+
+#[inline(never)]
+fn used() -> usize {
+    let room = MaybeUninit::<[u8; PAINTED]>::uninit();
+    let room = black_box(&room);
+    // SAFETY: any byte is one; the bytes are those that earlier frames left there.
+    (0..PAINTED).find(|&i| unsafe { room.as_ptr().cast::<u8>().add(i).read_volatile() } != 0xC7).map_or(0, |i| PAINTED - i)
+}
+
+/// The stack that a call used, in a thread of its own.
+fn stack(call: impl FnOnce() + Send) -> usize {
+    std::thread::scope(|s| {
+        std::thread::Builder::new()
+            .stack_size(4 << 20)
+            .spawn_scoped(s, || {
+                paint();
+                call();
+                used()
+            })
+            .unwrap()
+            .join()
+            .unwrap()
+    })
+}
+
+fn main() {
+    let r = &mut Random::new(1);
+    println!("| what | unit | Rust | port | port / Rust |");
+    println!("|---|---|---|---|---|");
+    for length in [8, 16] {
+        for n in [1, 8, 64] {
+            let ids = (0..n).map(|_| r.bytes(length)).collect();
+            discovery(&format!("discovery, {n} pods, ids of {length}"), &[], Wire::Honest(ids));
+        }
+    }
+    discovery("discovery, garble down to 128 bits", &[], Wire::Scripted([vec![vec![0x55]; 128], vec![vec![]; 129]].concat()));
+    let adverse = (0..100)
+        .map(|seed| Wire::Adverse(Random::new(seed)))
+        .map(|wire| (records(&Operation::Discover(vec![0; 14]), &wire).len(), wire))
+        .max_by_key(|x| x.0)
+        .unwrap()
+        .1;
+    discovery("discovery, adverse, under 14 bytes", &[0; 14], adverse);
+    let record = noisy(r);
+    let clean: Vec<u8> = (0..100).flat_map(|_| reply(5, 0, &[7; 28])).collect();
+    speed("hear, a noisy record of 4 KiB", record.len(), best(1, || drop(black_box(reference::inner::hear(&record))), || { let _ = black_box(fahireky::hear(&record)); }));
+    speed("hear, echoes of 4,000 bytes", clean.len(), best(1, || drop(black_box(reference::inner::hear(&clean))), || { let _ = black_box(fahireky::hear(&clean)); }));
+    let bytes = r.bytes(1 << 16);
+    speed("the check, 64 KiB", bytes.len(), best(1, || { black_box(tinyboot_protocol::crc::crc16(0xFFFF, &bytes)); }, || { black_box(fahireky::crc16(0xFFFF, &bytes)); }));
+    flash("flash of 64 KiB", 1 << 16);
+    flash("flash of 1 MiB", 1 << 20);
+
+    println!();
+    println!("| memory | Rust | port |");
+    println!("|---|---|---|");
+    println!("| client at rest, bytes | {} and its heap | {} |", size_of::<reference::Client<bench::Stored>>(), size_of::<Client>());
+    let wire = Wire::Honest((0..64).map(|_| r.bytes(16)).collect());
+    let found = records(&Operation::Discover(vec![]), &wire);
+    let rust = stack(|| {
+        black_box(rust_client(&found).discover(&[])).ok();
+    });
+    let port = stack(|| {
+        let mut client = Client::new();
+        client.start_discover(&[]).unwrap();
+        black_box(ours(client, &[], &found));
+    });
+    println!("| stack of a discovery of 64 pods, bytes | {rust} | {port} |");
+}

@@ -1,0 +1,5 @@
+//! One scripted wire drives the Rust and the port, and every request, outcome, id, progress, seed and rest is compared.
+
+pub mod kinds;
+pub mod run;
+pub mod wire;
