@@ -17,12 +17,14 @@ pub struct Disagreement {
 pub struct Judge {
     pub runs: u64,
     pub refusals: [u64; 24],
+    /// The most requests of a run.
+    pub most: usize,
     pub bad: Vec<Disagreement>,
 }
 
 impl Judge {
     pub fn new() -> Judge {
-        Judge { runs: 0, refusals: [0; 24], bad: Vec::new() }
+        Judge { runs: 0, refusals: [0; 24], most: 0, bad: Vec::new() }
     }
 
     /// One operation on each side. The answer is the rest that both kept, unless the run ended in Io or in a refusal of the port's own.
@@ -31,6 +33,7 @@ impl Judge {
         let strays = self.runs % 7 == 0;
         let rust = pair.rust.run(&operation, wire.clone(), fails_at, &pair.kept);
         let ours = pair.ours.run(&operation, wire, fails_at, &pair.kept, strays);
+        self.most = self.most.max(ours.requests.len());
         if let End::Refused(n, _) = ours.end {
             self.refusals[n as usize] += 1;
         }
@@ -181,6 +184,19 @@ pub fn deep(judge: &mut Judge) {
     for bytes in 0..=16 {
         let wire = Wire::Scripted(vec![vec![0x55]; 400]);
         judge.run(&mut Pair::new(), "deep", &[], Operation::Discover(vec![0; bytes]), wire, None);
+    }
+}
+
+/// Near the bound: so many ids under a prefix of so many bytes, each confirmed only at its last bit. 15: the 65th id.
+pub fn stubborn(judge: &mut Judge) {
+    for bytes in 0..16 {
+        for n in [1, 2, 64, 65] {
+            let ids = (0..n).map(|i| [vec![0x5A; bytes], vec![i as u8], vec![0; 15 - bytes]].concat()).collect();
+            let wire = Wire::Stubborn(ids, Default::default());
+            let mut pair = Pair::new();
+            judge.run(&mut pair, "stubborn", if n == 65 { &[15] } else { &[] }, Operation::Discover(vec![0x5A; bytes]), wire, None);
+            assert!(judge.most <= 132 + 260 * 128, "more Selects than the bound");
+        }
     }
 }
 
@@ -357,6 +373,8 @@ pub fn all(seed: u64, runs: usize) -> Judge {
     say(&judge, "five selects");
     deep(&mut judge);
     say(&judge, "deep");
+    stubborn(&mut judge);
+    say(&judge, "stubborn");
     leaves(&mut judge, r, runs / 4);
     say(&judge, "leaves");
     honest(&mut judge, r, runs / 10);

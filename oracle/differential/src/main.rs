@@ -11,6 +11,7 @@ fn main() {
         println!("{bad:#?}");
     }
     let met: Vec<String> = (1..24).filter(|&n| judge.refusals[n] > 0).map(|n| format!("{n}: {}", judge.refusals[n])).collect();
+    println!("the longest run: {} requests", judge.most);
     println!("refusals met: {}", met.join(", "));
     println!("{} runs, seed {seed}: {} disagreements", judge.runs, judge.bad.len());
     std::process::exit((!judge.bad.is_empty()) as i32);

@@ -1,5 +1,7 @@
 //! Wires: what is heard after a request, as a function of the requests so far. A wire is cloned, so that both sides meet the same one.
 
+use std::collections::HashSet;
+
 use tinyboot_protocol::crc::{CRC_INIT, crc16};
 
 /// xorshift64*: the runs of a seed are the same everywhere.
@@ -105,6 +107,8 @@ pub enum Wire {
     Honest(Vec<Vec<u8>>),
     /// Anything that a Select may hear, with the ids that fit what was asked for likely.
     Adverse(Random),
+    /// Pods of these ids, each made to fail its confirmation down to its last bit: the most Selects that so many ids take.
+    Stubborn(Vec<Vec<u8>>, HashSet<Vec<bool>>),
     /// One pod in its bootloader.
     Pod(Pod),
 }
@@ -219,6 +223,18 @@ impl Wire {
                     }
                     _ if r.one_in(40) => reply(5, 2, &[]),
                     _ => Vec::new(),
+                }
+            }
+            Wire::Stubborn(ids, met) => {
+                let prefix = asked(request);
+                let mut matching = ids.iter().filter(|id| begins(&prefix, id));
+                match (matching.next(), matching.next()) {
+                    (Some(id), None) => reply(5, 1, id),
+                    (None, _) if met.contains(&prefix) => Vec::new(),
+                    _ => {
+                        met.insert(prefix);
+                        vec![0]
+                    }
                 }
             }
             Wire::Pod(pod) => pod.heard(request),
