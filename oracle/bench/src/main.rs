@@ -99,15 +99,18 @@ fn used() -> usize {
     let room = MaybeUninit::<[u8; PAINTED]>::uninit();
     let room = black_box(&room);
     // SAFETY: any byte is one; the bytes are those that earlier frames left there.
-    (0..PAINTED).find(|&i| unsafe { room.as_ptr().cast::<u8>().add(i).read_volatile() } != 0xC7).map_or(0, |i| PAINTED - i)
+    let painted = |i: usize| unsafe { room.as_ptr().cast::<u8>().add(i).read_volatile() } == 0xC7;
+    // A probe of the stack writes a word on each page: a block with more than that was used.
+    (0..PAINTED).step_by(64).find(|&at| (at..at + 64).filter(|&i| !painted(i)).count() > 16).map_or(0, |at| PAINTED - at)
 }
 
-/// The stack that a call used, in a thread of its own.
-fn stack(call: impl FnOnce() + Send) -> usize {
+/// The stack that a call used, in a thread of its own. What is called is hidden from the compiler, so that its frame is its own.
+fn stack(mut call: impl FnMut() + Send) -> usize {
     std::thread::scope(|s| {
         std::thread::Builder::new()
             .stack_size(4 << 20)
             .spawn_scoped(s, || {
+                let call: &mut dyn FnMut() = black_box(&mut call);
                 paint();
                 call();
                 used()
@@ -160,4 +163,16 @@ fn main() {
         black_box(ours(client, &[], &found));
     });
     println!("| stack of a discovery of 64 pods, bytes | {rust} | {port} |");
+    let image = r.bytes(1 << 16);
+    let info = Info { capacity: 1 << 16, erase_size: 1024, compat: 0xFFFF_FFFF, max_payload: 1024 };
+    let told = records(&Operation::Flash(image.clone()), &Wire::Pod(Pod::new(info.bytes(), 1)));
+    let rust = stack(|| {
+        black_box(rust_client(&told).flash(&image, &mut |_, _, _| {})).ok();
+    });
+    let port = stack(|| {
+        let mut client = Client::new();
+        client.start_flash(&image).unwrap();
+        black_box(ours(client, &image, &told));
+    });
+    println!("| stack of a flash of 64 KiB, bytes | {rust} | {port} |");
 }
