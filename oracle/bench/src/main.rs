@@ -1,7 +1,10 @@
 //! Measures both sides in one process on the same records: the best of several, and the port's time as a ratio to the Rust's.
 
+use std::fs::{self, File};
 use std::hint::black_box;
 use std::mem::{MaybeUninit, size_of};
+use std::path::Path;
+use std::process::{Command, Stdio};
 use std::time::Instant;
 
 use bench::{ours, records, rust_client};
@@ -12,7 +15,7 @@ use fahireky::Client;
 /// The best time of some runs, in nanoseconds for each of so many units. Both sides take turns.
 fn best(units: usize, mut rust: impl FnMut(), mut port: impl FnMut()) -> (f64, f64) {
     let (mut a, mut b) = (f64::MAX, f64::MAX);
-    // As many rounds as fit a quarter of a second, at least five.
+    // As many rounds as fit half a second, at least five.
     let start = Instant::now();
     let mut rounds = 0;
     while rounds < 5 || start.elapsed().as_millis() < 500 {
@@ -82,6 +85,32 @@ fn noisy(r: &mut Random) -> Vec<u8> {
     bytes
 }
 
+/// The bench log program and the same over the Rust, as whole processes on one log.
+fn bench_log() {
+    let port = Path::new(env!("CARGO_MANIFEST_DIR")).join("../../target/bin/bench_log");
+    let rust = std::env::current_exe().unwrap().with_file_name("rust_log");
+    if !port.exists() || !rust.exists() {
+        println!("| the bench log program | | not built | not built | |");
+        return;
+    }
+    let ids = (0..64).map(|i| [vec![i as u8], vec![0; 15]].concat()).collect();
+    let records = records(&Operation::Discover(vec![]), &Wire::Stubborn(ids, Default::default()));
+    let mut log = String::from("01\n");
+    for record in &records {
+        log.extend(record.iter().map(|b| format!("{b:02x}")));
+        log += if record.is_empty() { "\n" } else { "\n\n" };
+    }
+    let file = std::env::temp_dir().join("bench_log.in");
+    fs::write(&file, &log).unwrap();
+    let run = |program: &Path| {
+        let status = Command::new(program).stdin(File::open(&file).unwrap()).stdout(Stdio::null()).status();
+        assert!(status.unwrap().success());
+    };
+    let measured = best(1_000_000, || run(&rust), || run(&port));
+    fs::remove_file(&file).unwrap();
+    line(&format!("the bench log program ({} Selects, {} bytes)", records.len(), log.len()), "ms", measured);
+}
+
 const PAINTED: usize = 1 << 18;
 
 #[inline(never)]
@@ -147,6 +176,7 @@ fn main() {
     speed("the check, 64 KiB", bytes.len(), best(1, || { black_box(tinyboot_protocol::crc::crc16(0xFFFF, &bytes)); }, || { black_box(fahireky::crc16(0xFFFF, &bytes)); }));
     flash("flash of 64 KiB", 1 << 16);
     flash("flash of 1 MiB", 1 << 20);
+    bench_log();
 
     println!();
     println!("| memory | Rust | port |");
