@@ -1,26 +1,14 @@
 // The check: CRC-16/IBM-3740.
 ghost use mathlib.Core.Path.{_≡_};
-ghost use Rattle.paper.specs.Frame.{crcBit, crcByte, crcFrom};
+ghost use Rattle.paper.specs.Frame.{crcByte, crcFrom};
 
-// Without a branch: of the bit shifted out, 0 or 1, a mask of no bit or of all is made, and the polynomial added by it.
-pub fn crc_bit(c: u16) -> u16
-    ensures { λ r. ⌜ r ≡ crcBit c ⌝ }
-{
-    (c << 1) ^ (std::num::wrapping_sub_u16(0, c >> 15) & 0x1021)
-}
-
+// Eight bits at once: of the byte shifted out, with the one that enters, what the polynomial adds.
 pub fn crc_byte(c: u16, b: u8) -> u16
     ensures { λ r. ⌜ r ≡ crcByte c b ⌝ }
 {
-    let mut x = c ^ ((b as u16) << 8);
-    x = crc_bit(x);
-    x = crc_bit(x);
-    x = crc_bit(x);
-    x = crc_bit(x);
-    x = crc_bit(x);
-    x = crc_bit(x);
-    x = crc_bit(x);
-    crc_bit(x)
+    let x = (c >> 8) ^ (b as u16);
+    let y = x ^ (x >> 4);
+    (y << 12) ^ (y << 5) ^ y ^ (c << 8)
 }
 
 // The check of bytes from a start.
