@@ -1,6 +1,6 @@
 -- Each exported call on a state that holds a client leaves what the client's own call gives.
 -- Assumes nothing.
-use Prim.Native.Nat.{ℕ, _+_, _≤_}
+use Prim.Native.Nat.{ℕ, _≤_}
 use mathlib.Core.Bool.{Bool, true, false, cond}
 use mathlib.Core.List.{List, _++_}
 use mathlib.Core.Path.{_≡_, refl, sym, _∙_, ap}
@@ -14,13 +14,14 @@ use Rattle.client.specs.declared.Client.{Client}
 use Rattle.client.specs.declared.Started.{Started}
 use Rattle.client.specs.declared.Told.{Told}
 use Rattle.client.specs.Clients.{attached}
-use Rattle.asking.specs.Asking.{Asking, request}
+use Rattle.asking.specs.Asking.{request}
 use Rattle.state.specs.States as State
 use Rattle.state.specs.States.{saved, loaded, Fits}
 use Rattle.state.proofs.Laws.{saved-length, loaded-saved}
 use Rattle.answers.specs.Answers as Answer
 use Rattle.answers.specs.Answers.{shown}
-use Rattle.lent.specs.Hosts.{codeOf, Exported, Requested, toldBy, leaves, tells, starts, handed, asks, requests, showsAttached, views, restFrom}
+use Rattle.codes.specs.Codes.{restFrom}
+use Rattle.lent.specs.Hosts.{codeOf, Exported, toldBy, leaves, tells, starts, handed, asks, requests, showsAttached, views}
 use Rattle.lent.proofs.Ways.{lent-enough}
 
 -- What a call leaves in a state that holds more behind the client.

@@ -2,7 +2,7 @@
 -- Assumes nothing.
 use Prim.Native.Nat.{ℕ}
 use mathlib.Core.List.{List}
-use mathlib.Core.Path.{_≡_, sym, _∙_, ap}
+use mathlib.Core.Path.{_≡_, _∙_, ap}
 use lib.ListN.{length}
 use Rattle.wire.specs.declared.Written.{Written}
 use Rattle.text.specs.declared.Parsed.{Parsed}
@@ -20,7 +20,8 @@ use Rattle.client.specs.Clients.{attached}
 use Rattle.asking.specs.Asking.{Asking, request}
 use Rattle.state.specs.States as State
 use Rattle.state.specs.States.{loaded}
-use Rattle.lent.specs.Hosts.{lacks, Coded, Exported, toldBy, leaves, tells, starts, handed, asks, requests, shows, showsAttached, views, saidOf, hearsOut, writtenCode, writes, readUid, keyCode}
+use Rattle.codes.specs.Codes.{Coded, writtenCode, writes, readUid, keyCode}
+use Rattle.lent.specs.Hosts.{lacks, Exported, toldBy, leaves, tells, starts, handed, asks, requests, shows, showsAttached, views, saidOf, hearsOut}
 use Rattle.lent.proofs.Ways.{state-room, answer-room, lent-short, lent-enough}
 
 -- A state or an answer that is too short.

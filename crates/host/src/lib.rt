@@ -14,7 +14,8 @@ ghost use Rattle.starting.specs.Starting.{startSelect, startDeselect, startAtta
 ghost use Rattle.telling.specs.Telling.{record′, linkFailed};
 ghost use Rattle.state.specs.States as State;
 ghost use Rattle.answers.specs.Answers as Answer;
-ghost use Rattle.lent.specs.Hosts.{starts, tells, requests, views, hearsOut, writes, readUid, keyCode, restFrom};
+ghost use Rattle.codes.specs.Codes.{writes, readUid, keyCode, restFrom};
+ghost use Rattle.lent.specs.Hosts.{starts, tells, requests, views, hearsOut};
 
 #[no_mangle]
 pub extern "C" fn fahireky_state_size() -> usize
@@ -268,21 +269,21 @@ pub extern "C" fn fahireky_rest(bytes: &[u8], place: usize) -> usize
 pub extern "C" fn fahireky_uid_hex(id: &[u8], text: &mut [u8]) -> u64
     ensures { λ r. ⌜ record { code = r; bytes = now (text .exit) } ≡ writes (written (now (id .entry)) (now (text .entry))) ⌝ }
 {
-    lent::written_code(text::uid_hex(id, text))
+    codes::written_code(text::uid_hex(id, text))
 }
 
 #[no_mangle]
 pub extern "C" fn fahireky_parse_uid(text: &[u8], id: &mut [u8]) -> u64
     ensures { λ r. ⌜ record { code = r; bytes = now (id .exit) } ≡ readUid (parsed (parseUid (now (text .entry)))) (now (id .entry)) ⌝ }
 {
-    lent::read_uid(text::parse_uid(text), id)
+    codes::read_uid(text::parse_uid(text), id)
 }
 
 #[no_mangle]
 pub extern "C" fn fahireky_image_compat(image: &[u8]) -> u64
     ensures { λ r. ⌜ r ≡ keyCode (shownKey (key (now (image .entry)))) ⌝ }
 {
-    lent::key_code(image::image_compat(image))
+    codes::key_code(image::image_compat(image))
 }
 
 #[no_mangle]

@@ -1,21 +1,17 @@
 -- The ways through what an exported call leaves, from the facts that the code has.
 -- Assumes nothing.
-use Prim.Native.Nat.{ℕ, _+_, _*_, _<_, _≤_}
+use Prim.Native.Nat.{ℕ, _<_, _≤_}
 use mathlib.Core.Bool.{Bool, true, false, cond}
 use mathlib.Core.List.{List, _++_}
 use mathlib.Core.Path.{_≡_, refl, sym, _∙_, ap}
 use native.Mathlib.Omega.{arith}
 use lib.Dec.{ltb}
-use lib.ListN.{length, take, drop}
-use borrow.Author.Tests.{lt-ltb, le-ltb, ltb-true, ltb-false}
+use lib.ListN.{drop}
+use borrow.Author.Tests.{lt-ltb, le-ltb, ltb-false}
 use Rattle.ids.specs.declared.Id.{Id}
-use Rattle.ids.specs.Ids.{noId, idOf}
-use Rattle.listing.proofs.Ways.{held, id-part}
+use Rattle.ids.specs.Ids.{noId}
 use Rattle.table.specs.declared.Table.{Table}
 use Rattle.table.specs.Rows.{noTable}
-use Rattle.text.specs.declared.Parsed.{Parsed}
-use Rattle.text.specs.declared.Parse.{Parse}
-use Rattle.text.specs.declared.Parse.the-variants.{Uid, BadText}
 use Rattle.hearing.specs.declared.Heard.{Heard}
 use Rattle.steps.specs.Steps.{long}
 use Rattle.client.specs.declared.Outcome.the-variants as Outcome
@@ -27,16 +23,12 @@ use Rattle.client.specs.declared.Started.{Started}
 use Rattle.client.specs.declared.Told.{Told}
 use Rattle.notes.specs.declared.Note.{Note}
 use Rattle.notes.specs.Notes.{noteOf}
+use Rattle.codes.specs.Codes.{coded}
 use Rattle.state.specs.States as State
 use Rattle.state.specs.States.{saved}
 use Rattle.answers.specs.Answers as Answer
 use Rattle.answers.specs.Answers.{shown}
-use Rattle.lent.specs.Hosts.{coded, codeOf, lent, lacks, Coded, Exported, toldBy, leaves, shows, putUid, readAs, readUid, saidOf}
-
--- The case of a value that is known.
-module _ {A B : Type 0} (f : A → B) where
-  pub at-value : (x y : A) (r : B) → x ≡ y → r ≡ f y → r ≡ f x
-  at-value x y r e h = rw e h
+use Rattle.lent.specs.Hosts.{codeOf, lent, lacks, Exported, toldBy, leaves, shows, saidOf}
 
 pub code-is : (says : Says) (n : Note) (r : ℕ) → n ≡ noteOf says → r ≡ coded (n .number) (n .length) → r ≡ codeOf says
 unfolding codeOf
@@ -111,29 +103,6 @@ pub started-is : (s : Started) (x : Id) (t : Table) (r : Exported) (b a : List �
     → r ≡ leaves (record { says = s .says; client = s .client; rest = 0; progress = None; id = x; found = t }) b a → r ≡ leaves (toldBy s) b a
 unfolding toldBy
 started-is s x t r b a ex et e = rw (ex, et) at e
-
--- An id written.
-module _ (x : Id) (n r : ℕ) (out : List ℕ) (en : n ≡ length (idOf x)) where
-  pub uid-short : length out < n → r ≡ coded 16 n → record { code = r; bytes = out } ≡ putUid x out
-  unfolding putUid
-  uid-short h e = rw (e, en, lt-ltb (length out) (length (idOf x)) (rw en at h))
-
-  pub uid-room : n ≤ length out → length (take n (x .bytes)) ≤ length out
-  uid-room h = omega (arith, id-part x n en)
-
-  pub uid-put : (out′ : List ℕ) → n ≤ length out → r ≡ coded 0 n → out′ ≡ take n (x .bytes) ++ drop (length (take n (x .bytes))) out
-      → record { code = r; bytes = out′ } ≡ putUid x out
-  unfolding putUid
-  uid-put out′ h e q = rw (e, q, held x n en, en, le-ltb (length out) (length (idOf x)) (rw en at h))
-
-module _ (p : Parsed) (a : Parse) (out : List ℕ) (r : Coded) (ea : a ≡ p .answer) where
-  pub uid-read : a ≡ Uid → r ≡ putUid (p .id) out → r ≡ readUid p out
-  unfolding readUid readAs
-  uid-read e h = h ∙ ap (λ (k : Parse). readAs k (p .id) out) (sym e ∙ ea)
-
-  pub uid-bad : (k : ℕ) → a ≡ BadText → k ≡ coded 22 0 → record { code = k; bytes = out } ≡ readUid p out
-  unfolding readUid readAs
-  uid-bad k e h = rw h (ap (λ (q : Parse). readAs q (p .id) out) (sym e ∙ ea))
 
 -- What was heard.
 module _ (h : Heard) (b : Bool) (e : b ≡ long h) where

@@ -1,21 +1,13 @@
 -- What each exported call makes of the buffers that a host lends, and the code that it returns.
 -- Assumes nothing.
-use Prim.Native.Nat.{ℕ, _+_, _*_, _%_}
+use Prim.Native.Nat.{ℕ}
 use mathlib.Core.Bool.{cond}
 use mathlib.Core.List.{List, _++_}
 use lib.Dec.{ltb}
 use lib.ListN.{length, drop}
 use Rattle.ids.specs.declared.Id.{Id}
-use Rattle.ids.specs.Ids.{noId, idOf}
+use Rattle.ids.specs.Ids.{noId}
 use Rattle.table.specs.Rows.{noTable}
-use Rattle.wire.specs.declared.Written.{Written}
-use Rattle.wire.specs.declared.Written.the-variants.{Done, Short, TooLong}
-use Rattle.text.specs.declared.Parsed.{Parsed}
-use Rattle.text.specs.declared.Parse.{Parse}
-use Rattle.text.specs.declared.Parse.the-variants.{Uid, BadText}
-use Rattle.text.specs.Texts as Texts
-use Rattle.image.specs.declared.Compat.{Compat}
-use Rattle.image.specs.declared.Compat.the-variants.{Key, Missing}
 use Rattle.hearing.specs.declared.Heard.{Heard}
 use Rattle.hearing.specs.declared.Hearing.{Hearing}
 use Rattle.steps.specs.Steps.{long}
@@ -31,14 +23,11 @@ use Rattle.client.specs.declared.Attached.{Attached}
 use Rattle.client.specs.Clients.{attached}
 use Rattle.asking.specs.Asking.{Asking, request}
 use Rattle.notes.specs.Notes.{noteOf}
+use Rattle.codes.specs.Codes.{coded, Coded}
 use Rattle.state.specs.States as State
 use Rattle.state.specs.States.{saved, loaded}
 use Rattle.answers.specs.Answers as Answer
 use Rattle.answers.specs.Answers.{shown}
-
--- A number in the low byte, and a length above it. No length of an answer reaches 2 ^ 56.
-unfoldable pub coded : ℕ → ℕ → ℕ
-coded number length = number + 256 * (length % 0x100000000000000)
 
 unfoldable pub codeOf : Says → ℕ
 codeOf says = coded (noteOf says .number) (noteOf says .length)
@@ -49,11 +38,6 @@ lent n m short enough = cond (ltb n State.size) (short (coded 16 State.size)) (c
 
 unfoldable pub lacks : ℕ → ℕ → ℕ
 lacks n m = lent n m (λ code. code) 0
-
--- The code, and a buffer after the call.
-pub record Coded : Type 0 where
-  pub code : ℕ
-  pub bytes : List ℕ
 
 -- The code, and the state and the answer after the call.
 pub record Exported : Type 0 where
@@ -112,34 +96,3 @@ saidOf h = cond (long h) (Refused LongId) (Over (Outcome.Heard h))
 
 unfoldable pub hearsOut : Hearing → List ℕ → Coded
 hearsOut x a = lent State.size (length a) (λ code. record { code = code; bytes = a }) (shows (saidOf (x .heard)) (x .id) a)
-
--- Ids as text.
-unfoldable pub writtenCode : Written → ℕ
-writtenCode (Done n) = coded 0 n
-writtenCode (Short n) = coded 16 n
-writtenCode TooLong = coded 13 0
-
-unfoldable pub writes : Texts.Outcome → Coded
-writes o = record { code = writtenCode (o .answer); bytes = o .bytes }
-
-unfoldable pub putUid : Id → List ℕ → Coded
-putUid x out =
-    cond (ltb (length out) (length (idOf x)))
-    (record { code = coded 16 (length (idOf x)); bytes = out })
-    (record { code = coded 0 (length (idOf x)); bytes = idOf x ++ drop (length (idOf x)) out })
-
-unfoldable pub readAs : Parse → Id → List ℕ → Coded
-readAs Uid x out = putUid x out
-readAs BadText x out = record { code = coded 22 0; bytes = out }
-
-unfoldable pub readUid : Parsed → List ℕ → Coded
-readUid p out = readAs (p .answer) (p .id) out
-
--- A key, with a bit above it that says that there is one.
-unfoldable pub keyCode : Compat → ℕ
-keyCode (Key k) = k + 0x100000000
-keyCode Missing = 0
-
--- Where the unread rest begins, in bytes of some length.
-unfoldable pub restFrom : ℕ → ℕ → ℕ
-restFrom n at = cond (ltb at n) at n

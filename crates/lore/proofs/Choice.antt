@@ -21,3 +21,8 @@ and-not-right true b h = h
 and-not-right false b h = refl
 
 pub ruleset ways = (cond-yes, cond-no, and-yes, and-not-left, and-not-right, lt-ltb, le-ltb, le-leb, lt-leb, eq-eqb, ne-eqb)
+
+-- The case of a value that is known: `search (at-value f, needs)`.
+module _ {A B : Type 0} (f : A → B) where
+  pub at-value : (x y : A) (r : B) → x ≡ y → r ≡ f y → r ≡ f x
+  at-value x y r e h = rw e h

@@ -10,11 +10,6 @@ use Rattle.flat.specs.Turns.{noInfo}
 use Rattle.notes.specs.declared.Note.{Note}
 use Rattle.notes.specs.Notes.{going, ending, refusing, refusalNote}
 
--- The case of a value that is known.
-module _ {A B : Type 0} (f : A → B) where
-  pub at-value : (x y : A) (r : B) → x ≡ y → r ≡ f y → r ≡ f x
-  at-value x y r e h = rw e h
-
 pub going-is : (says length : ℕ) (i : Info) → i ≡ noInfo
     → _≡_ {A = Note}
     (record { number = 0; says = says; outcome = 0; heard = 0; any = false; key = false; length = length; first = 0; second = 0; info = i })

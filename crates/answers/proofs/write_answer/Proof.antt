@@ -1,3 +1,5 @@
+-- `answers::write_answer` meets its contract.
+-- Assumes nothing.
 use Rattle.answers.proofs.Ways.{put-answer}
 use borrow.Author.Needs.{needs}
 use Rattle.answers.proofs.write_answer.Statement.{statement}

@@ -1,3 +1,5 @@
+-- `answers::write_numbers` meets its contract.
+-- Assumes nothing.
 use Rattle.answers.proofs.Ways.{put-numbers}
 use borrow.Author.Needs.{needs}
 use Rattle.answers.proofs.write_numbers.Statement.{statement}

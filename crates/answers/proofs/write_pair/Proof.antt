@@ -1,3 +1,5 @@
+-- `answers::write_pair` meets its contract.
+-- Assumes nothing.
 use Rattle.answers.proofs.Ways.{put-pair}
 use borrow.Author.Needs.{needs}
 use Rattle.answers.proofs.write_pair.Statement.{statement}

@@ -1,3 +1,5 @@
+-- `answers::write_sizes` meets its contract.
+-- Assumes nothing.
 use Rattle.answers.proofs.Ways.{put-sizes}
 use borrow.Author.Needs.{needs}
 use Rattle.answers.proofs.write_sizes.Statement.{statement}

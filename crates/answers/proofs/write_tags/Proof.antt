@@ -1,3 +1,5 @@
+-- `answers::write_tags` meets its contract.
+-- Assumes nothing.
 use Rattle.answers.proofs.Ways.{put-tags}
 use borrow.Author.Needs.{needs}
 use Rattle.answers.proofs.write_tags.Statement.{statement}

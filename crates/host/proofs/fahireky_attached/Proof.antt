@@ -1,3 +1,5 @@
+-- `host::fahireky_attached` meets its contract.
+-- Assumes nothing.
 use Rattle.host.proofs.Ways.{views-short, views-is}
 use Rattle.lent.proofs.Ways.{state-room, answer-room}
 use borrow.Author.Needs.{needs}

@@ -1,3 +1,5 @@
+-- `host::fahireky_hear` meets its contract.
+-- Assumes nothing.
 use Rattle.host.proofs.Ways.{hears-short, hears-is}
 use Rattle.lent.proofs.Ways.{answer-room}
 use borrow.Author.Needs.{needs}

@@ -1,3 +1,5 @@
+-- `host::fahireky_image_compat` meets its contract.
+-- Assumes nothing.
 use Rattle.host.proofs.Ways.{key-is}
 use borrow.Author.Needs.{needs}
 use Rattle.host.proofs.fahireky_image_compat.Statement.{statement}

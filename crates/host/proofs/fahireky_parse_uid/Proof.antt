@@ -1,3 +1,5 @@
+-- `host::fahireky_parse_uid` meets its contract.
+-- Assumes nothing.
 use Rattle.host.proofs.Ways.{read-is}
 use borrow.Author.Needs.{needs}
 use Rattle.host.proofs.fahireky_parse_uid.Statement.{statement}

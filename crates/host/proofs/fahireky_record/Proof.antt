@@ -1,3 +1,5 @@
+-- `host::fahireky_record` meets its contract.
+-- Assumes nothing.
 use Rattle.host.proofs.Ways.{tells-short, tells-is}
 use Rattle.lent.proofs.Ways.{state-room, answer-room}
 use borrow.Author.Needs.{needs}

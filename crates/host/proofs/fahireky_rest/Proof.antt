@@ -1,4 +1,6 @@
-use Rattle.lent.specs.Hosts.{restFrom}
+-- `host::fahireky_rest` meets its contract.
+-- Assumes nothing.
+use Rattle.codes.specs.Codes.{restFrom}
 use Rattle.lore.proofs.Choice.{ways}
 use borrow.Author.Needs.{needs}
 use Rattle.host.proofs.fahireky_rest.Statement.{statement}

@@ -1,3 +1,5 @@
+-- `host::fahireky_uid_hex` meets its contract.
+-- Assumes nothing.
 use Rattle.host.proofs.Ways.{writes-is}
 use borrow.Author.Needs.{needs}
 use Rattle.host.proofs.fahireky_uid_hex.Statement.{statement}

@@ -1,3 +1,5 @@
+-- `lent::code_of` meets its contract.
+-- Assumes nothing.
 use Rattle.lent.proofs.Ways.{code-is}
 use borrow.Author.Needs.{needs}
 use Rattle.lent.proofs.code_of.Statement.{statement}

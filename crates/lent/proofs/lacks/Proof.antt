@@ -1,3 +1,5 @@
+-- `lent::lacks` meets its contract.
+-- Assumes nothing.
 use Rattle.lent.proofs.Ways.{state-lacks, answer-lacks, lacks-nothing}
 use borrow.Author.Needs.{needs}
 use Rattle.lent.proofs.lacks.Statement.{statement}

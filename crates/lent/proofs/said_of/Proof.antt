@@ -1,3 +1,5 @@
+-- `lent::said_of` meets its contract.
+-- Assumes nothing.
 use Rattle.lent.proofs.Ways.{said-long, said-heard}
 use borrow.Author.Needs.{needs}
 use Rattle.lent.proofs.said_of.Statement.{statement}

@@ -1,3 +1,5 @@
+-- `lent::shows` meets its contract.
+-- Assumes nothing.
 use Rattle.lent.proofs.Ways.{shows-is}
 use borrow.Author.Needs.{needs}
 use Rattle.lent.proofs.shows.Statement.{statement}

@@ -1,3 +1,5 @@
+-- `lent::started` meets its contract.
+-- Assumes nothing.
 use Rattle.lent.proofs.Ways.{started-is}
 use borrow.Author.Needs.{needs}
 use Rattle.lent.proofs.started.Statement.{statement}

@@ -1,3 +1,5 @@
+-- `lent::told` meets its contract.
+-- Assumes nothing.
 use Rattle.lent.proofs.Ways.{told-is}
 use borrow.Author.Needs.{needs}
 use Rattle.lent.proofs.told.Statement.{statement}

@@ -1,3 +1,5 @@
+-- `notes::ending` meets its contract.
+-- Assumes nothing.
 use borrow.Author.Needs.{needs}
 use Rattle.notes.specs.Notes.{ending}
 use Rattle.notes.proofs.ending.Statement.{statement}

@@ -1,5 +1,7 @@
+-- `notes::gain_of` meets its contract.
+-- Assumes nothing.
 use Rattle.notes.specs.Notes.{gainOf}
-use Rattle.notes.proofs.Ways.{at-value}
+use Rattle.lore.proofs.Choice.{at-value}
 use borrow.Author.Needs.{needs}
 use Rattle.notes.proofs.gain_of.Statement.{statement}
 use Rattle.notes.proofs.gain_of.Tie as tie

@@ -1,3 +1,5 @@
+-- `notes::going` meets its contract.
+-- Assumes nothing.
 use Rattle.notes.proofs.Ways.{going-is}
 use borrow.Author.Needs.{needs}
 use Rattle.notes.proofs.going.Statement.{statement}

@@ -1,3 +1,5 @@
+-- `notes::has_key` meets its contract.
+-- Assumes nothing.
 use Rattle.notes.specs.Notes.{hasKey}
 use borrow.Author.Needs.{needs}
 use Rattle.notes.proofs.has_key.Statement.{statement}

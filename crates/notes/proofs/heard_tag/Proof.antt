@@ -1,3 +1,5 @@
+-- `notes::heard_tag` meets its contract.
+-- Assumes nothing.
 use Rattle.notes.specs.Notes.{heardTag}
 use borrow.Author.Needs.{needs}
 use Rattle.notes.proofs.heard_tag.Statement.{statement}

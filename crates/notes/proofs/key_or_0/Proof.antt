@@ -1,3 +1,5 @@
+-- `notes::key_or_0` meets its contract.
+-- Assumes nothing.
 use Rattle.notes.specs.Notes.{keyOr0}
 use borrow.Author.Needs.{needs}
 use Rattle.notes.proofs.key_or_0.Statement.{statement}

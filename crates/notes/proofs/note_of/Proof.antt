@@ -1,4 +1,7 @@
-use Rattle.notes.proofs.Ways.{at-value, refused-is}
+-- `notes::note_of` meets its contract.
+-- Assumes nothing.
+use Rattle.lore.proofs.Choice.{at-value}
+use Rattle.notes.proofs.Ways.{refused-is}
 use Rattle.notes.specs.Notes.{noteOf}
 use borrow.Author.Needs.{needs}
 use Rattle.notes.proofs.note_of.Statement.{statement}

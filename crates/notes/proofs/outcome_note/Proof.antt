@@ -1,5 +1,8 @@
+-- `notes::outcome_note` meets its contract.
+-- Assumes nothing.
 use Rattle.notes.specs.Notes.{outcomeNote}
-use Rattle.notes.proofs.Ways.{at-value, ending-is}
+use Rattle.lore.proofs.Choice.{at-value}
+use Rattle.notes.proofs.Ways.{ending-is}
 use borrow.Author.Needs.{needs}
 use Rattle.notes.proofs.outcome_note.Statement.{statement}
 use Rattle.notes.proofs.outcome_note.Tie as tie

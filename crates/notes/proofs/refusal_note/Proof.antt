@@ -1,3 +1,5 @@
+-- `notes::refusal_note` meets its contract.
+-- Assumes nothing.
 use Rattle.notes.specs.Notes.{refusalNote}
 use Rattle.flat.proofs.Ways.{at-case}
 use Rattle.notes.proofs.Ways.{refusing-with}

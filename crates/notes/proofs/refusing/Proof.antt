@@ -1,3 +1,5 @@
+-- `notes::refusing` meets its contract.
+-- Assumes nothing.
 use Rattle.notes.proofs.Ways.{refusing-is}
 use borrow.Author.Needs.{needs}
 use Rattle.notes.proofs.refusing.Statement.{statement}

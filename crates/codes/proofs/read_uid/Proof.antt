@@ -1,7 +1,9 @@
-use Rattle.lent.proofs.Ways.{uid-read, uid-bad}
+-- `codes::read_uid` meets its contract.
+-- Assumes nothing.
+use Rattle.codes.proofs.Ways.{uid-read, uid-bad}
 use borrow.Author.Needs.{needs}
-use Rattle.lent.proofs.read_uid.Statement.{statement}
-use Rattle.lent.proofs.read_uid.Tie as tie
+use Rattle.codes.proofs.read_uid.Statement.{statement}
+use Rattle.codes.proofs.read_uid.Tie as tie
 
 enum-told : tie.Need-enum-told
 enum-told c = search needs

@@ -1,8 +1,10 @@
-use Rattle.lent.specs.Hosts.{keyCode}
-use Rattle.lent.proofs.Ways.{at-value}
+-- `codes::key_code` meets its contract.
+-- Assumes nothing.
+use Rattle.codes.specs.Codes.{keyCode}
+use Rattle.lore.proofs.Choice.{at-value}
 use borrow.Author.Needs.{needs}
-use Rattle.lent.proofs.key_code.Statement.{statement}
-use Rattle.lent.proofs.key_code.Tie as tie
+use Rattle.codes.proofs.key_code.Statement.{statement}
+use Rattle.codes.proofs.key_code.Tie as tie
 
 enum-known-k : tie.Need-enum-known-k
 enum-known-k c = search needs

@@ -1,8 +1,10 @@
-use Rattle.lent.specs.Hosts.{writtenCode}
-use Rattle.lent.proofs.Ways.{at-value}
+-- `codes::written_code` meets its contract.
+-- Assumes nothing.
+use Rattle.codes.specs.Codes.{writtenCode}
+use Rattle.lore.proofs.Choice.{at-value}
 use borrow.Author.Needs.{needs}
-use Rattle.lent.proofs.written_code.Statement.{statement}
-use Rattle.lent.proofs.written_code.Tie as tie
+use Rattle.codes.proofs.written_code.Statement.{statement}
+use Rattle.codes.proofs.written_code.Tie as tie
 
 enum-known-w : tie.Need-enum-known-w
 enum-known-w c = search needs

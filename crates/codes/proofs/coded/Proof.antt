@@ -1,7 +1,9 @@
-use Rattle.lent.specs.Hosts.{coded}
+-- `codes::coded` meets its contract.
+-- Assumes nothing.
+use Rattle.codes.specs.Codes.{coded}
 use borrow.Author.Needs.{needs}
-use Rattle.lent.proofs.coded.Statement.{statement}
-use Rattle.lent.proofs.coded.Tie as tie
+use Rattle.codes.proofs.coded.Statement.{statement}
+use Rattle.codes.proofs.coded.Tie as tie
 
 mul-result : tie.Need-mul-result
 mul-result c = search needs

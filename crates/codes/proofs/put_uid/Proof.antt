@@ -1,8 +1,10 @@
+-- `codes::put_uid` meets its contract.
+-- Assumes nothing.
 use Rattle.listing.proofs.Ways.{id-fits, id-part}
-use Rattle.lent.proofs.Ways.{uid-short, uid-room, uid-put}
+use Rattle.codes.proofs.Ways.{uid-short, uid-room, uid-put}
 use borrow.Author.Needs.{needs}
-use Rattle.lent.proofs.put_uid.Statement.{statement}
-use Rattle.lent.proofs.put_uid.Tie as tie
+use Rattle.codes.proofs.put_uid.Statement.{statement}
+use Rattle.codes.proofs.put_uid.Tie as tie
 
 size-requires : tie.Need-size-requires
 size-requires c κs = search needs
