@@ -1,6 +1,7 @@
 """Every must-fail edit was refused because a fact no longer holds, and not because its proof file no longer fits the code.
 
-Reads the logs that `rt ci` leaves in target/must-fail. The first error of each must not be one on a need's name. A function that is
+Reads the logs that `rt ci` leaves in target/must-fail. The first error of each must not be one on a need's name, nor on a name or a text
+that the checker cannot read. A function that is
 proved with no file has no error of its own: there the check names the facts that its search does not close, and the first error is that
 of a caller.
 """
@@ -9,7 +10,7 @@ import re
 import sys
 
 root = pathlib.Path(__file__).resolve().parent.parent
-unfit = re.compile(r"has no `Need-|expected type `tie\.Need-")
+unfit = re.compile(r"has no `Need-|expected type `tie\.Need-|is not in scope|is not a constructor|cannot be parsed|syntax")
 follows = re.compile(r"was not admitted")
 searched = re.compile(r"^fn \S+: no proof: .*`search` does not close", re.M)
 bad = []

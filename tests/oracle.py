@@ -1,7 +1,8 @@
 """The Rust that was ported, beside this port.
 
 python3 tests/oracle.py --replay     the Rust's stored answers, replayed by crates/oracle_replay
-python3 tests/oracle.py --compare    both sides live over the same wires, and the stored answers made again
+python3 tests/oracle.py --compare    both sides live over the same wires, each difference on its smallest input, and the stored answers made
+                                     again
 python3 tests/oracle.py --store      the Rust's answers, written to tests/oracle
 
 Live runs need client.rs, which is not in this repository, in ../shared/documents/src beside it. Where it is missing they are left out,
@@ -19,12 +20,12 @@ stored = root / "tests/oracle"
 runs, seed = "150000", "1"
 
 
-def cargo(*words):
-    subprocess.run(["cargo", "run", "--offline", "--release", "--quiet", *words], cwd=root / "oracle", check=True)
+def cargo(verb, *words):
+    subprocess.run(["cargo", verb, "--offline", "--release", "--quiet", *words], cwd=root / "oracle", check=True)
 
 
 def made(folder):
-    cargo("-p", "differential", "--bin", "sample", "--", str(folder))
+    cargo("run", "-p", "differential", "--bin", "sample", "--", str(folder))
 
 
 if sys.argv[1:] == ["--replay"]:
@@ -39,7 +40,8 @@ elif not source.exists():
     print("no client.rs beside this repository: the live comparison was left out, and only the stored answers were replayed")
     sys.exit(1 if os.environ.get("CI") else 0)
 elif sys.argv[1:] == ["--compare"]:
-    cargo("-p", "differential", "--bin", "differential", "--", runs, seed)
+    cargo("test", "-p", "differential")
+    cargo("run", "-p", "differential", "--bin", "differential", "--", runs, seed)
     with tempfile.TemporaryDirectory() as folder:
         made(folder)
         for name in ("runs.in", "runs.out"):

@@ -34,10 +34,14 @@ impl Judge {
         let rust = pair.rust.run(&operation, wire.clone(), fails_at, &pair.kept);
         let ours = pair.ours.run(&operation, wire, fails_at, &pair.kept, strays);
         self.most = self.most.max(ours.requests.len());
+        let within = match &operation {
+            Operation::Discover(prefix) if prefix.len() <= 16 => ours.requests.len() <= 132 + 260 * (128 - 8 * prefix.len()),
+            _ => true,
+        };
         if let End::Refused(n, _) = ours.end {
             self.refusals[n as usize] += 1;
         }
-        let verdict = same(&rust, &ours, allowed);
+        let verdict = same(&rust, &ours, allowed).and(if within { Ok(()) } else { Err("more Selects than the bound".into()) });
         let goes_on = verdict.is_ok() && !matches!(ours.end, End::Refused(1 | 13..=22, _));
         pair.kept = if goes_on { ours.rest.clone() } else { Vec::new() };
         if let Err(what) = verdict {
@@ -195,7 +199,6 @@ pub fn stubborn(judge: &mut Judge) {
             let wire = Wire::Stubborn(ids, Default::default());
             let mut pair = Pair::new();
             judge.run(&mut pair, "stubborn", if n == 65 { &[15] } else { &[] }, Operation::Discover(vec![0x5A; bytes]), wire, None);
-            assert!(judge.most <= 132 + 260 * 128, "more Selects than the bound");
         }
     }
 }
@@ -337,8 +340,9 @@ pub fn leaves(judge: &mut Judge, r: &mut Random, runs: usize) {
             Ok(fahireky::Heard::One(id)) => (1, id.bytes().to_vec()),
             Ok(fahireky::Heard::Unaddressed) => (2, vec![]),
             Ok(fahireky::Heard::Garble) => (3, vec![]),
-            // An id of over 16 bytes is refused.
-            Err(_) => (1, if rust.1.len() > 16 { rust.1.clone() } else { vec![] }),
+            // An id of over 16 bytes is refused, and nothing else is.
+            Err(fahireky::Refusal::LongId) if rust.1.len() > 16 => rust.clone(),
+            Err(_) => (9, vec![]),
         };
         let text = |r: &mut Random| -> String {
             (0..r.below(36)).map(|_| *r.pick(b"0123456789abcdefABCDEFgG:/@`") as char).collect()

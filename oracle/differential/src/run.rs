@@ -359,6 +359,20 @@ impl Ours {
 /// What a comparison may excuse: the refusals of 13 to 22 that can occur in this kind of run.
 pub type Allowed = &'static [u8];
 
+/// Whether an allowed refusal has its reason: 14 after a Select; 15 where the Rust finds more than 64 ids; 17 after one Write sent 17 times;
+/// 18 after a Verify. No other is allowed anywhere.
+fn justified(n: u8, rust: &Trace, ours: &Trace) -> bool {
+    let sent = &ours.requests;
+    let command = sent.last().map(|request| request[1]);
+    match n {
+        14 => command == Some(5),
+        15 => matches!(&rust.end, End::Found(ids) if ids.len() > 64) || rust.requests.len() > sent.len(),
+        17 => command == Some(2) && sent.len() >= 17 && sent[sent.len() - 17..].iter().all(|request| request == &sent[sent.len() - 1]),
+        18 => command == Some(3),
+        _ => false,
+    }
+}
+
 /// Whether the port's run is the Rust's. At the first Io the rest is not compared. Where the port gives an allowed refusal of its own, all
 /// that came before it is compared.
 pub fn same(rust: &Trace, ours: &Trace, allowed: Allowed) -> Result<(), String> {
@@ -371,6 +385,9 @@ pub fn same(rust: &Trace, ours: &Trace, allowed: Allowed) -> Result<(), String> 
         }
         if rust.progress.get(..ours.progress.len()) != Some(&ours.progress[..]) {
             return Err("progress before the refusal".into());
+        }
+        if !justified(n, rust, ours) {
+            return Err(format!("refusal {n} without its reason"));
         }
         return Ok(());
     }
