@@ -18,6 +18,8 @@ use Rattle.asking.specs.Asking.{askedFor, withheld, request}
 use Rattle.telling.specs.Telling.{answeredTo, record′, linkFailed}
 use Rattle.records.specs.Refusals.{keeps, parts, leaves, Begins}
 use Rattle.records.proofs.Refusals as Refusals
+use Rattle.records.proofs.RefusedRecords as Records
+use Rattle.records.proofs.RefusedRequests as Requests
 
 module _ (c : Client) where
   -- The starts: 21 comes first, then 13; a refused start changes nothing.
@@ -51,54 +53,54 @@ module _ (c : Client) where
     module _ (buffer : List ℕ) where
       -- Asking: 21, then 20, then 16.
       pub asked-idle : c .turn ≡ Idle → request c image buffer ≡ withheld c OutOfTurn buffer
-      asked-idle = Refusals.asked-idle c image buffer
+      asked-idle = Requests.asked-idle c image buffer
 
       pub asked-waiting : (p : Phase) → c .turn ≡ Waiting p → request c image buffer ≡ withheld c OutOfTurn buffer
-      asked-waiting = Refusals.asked-waiting c image buffer
+      asked-waiting = Requests.asked-waiting c image buffer
 
       pub asked-ready : (p : Phase) → c .turn ≡ Ready p → request c image buffer ≡ cond (otherImage p (length image)) (withheld c OtherImage buffer) (askedFor c p image buffer)
-      asked-ready = Refusals.asked-ready c image buffer
+      asked-ready = Requests.asked-ready c image buffer
 
       -- A refused request changes neither the client nor the buffer.
       pub asked-refused : (r : Refusal) → request c image buffer .answer .says ≡ Refused r
           → (request c image buffer .answer .client ≡ c) × ((request c image buffer .bytes ≡ buffer) × (keeps r ≡ true))
-      asked-refused = Refusals.asked-refused c image buffer
+      asked-refused = Requests.asked-refused c image buffer
 
       -- A granted one changes no byte after its own.
       pub asked-granted : (n : ℕ) → request c image buffer .answer .says ≡ Granted n
           → (n ≤ length buffer) × ((drop n (request c image buffer .bytes) ≡ drop n buffer) × (length (request c image buffer .bytes) ≡ length buffer))
-      asked-granted = Refusals.asked-granted c image buffer
+      asked-granted = Requests.asked-granted c image buffer
 
     module _ (bytes : List ℕ) where
       -- A record: 21, then 20, then what it says.
       pub told-idle : c .turn ≡ Idle → record′ c image bytes ≡ refuses c OutOfTurn
-      told-idle = Refusals.told-idle c image bytes
+      told-idle = Records.told-idle c image bytes
 
       pub told-ready : (p : Phase) → c .turn ≡ Ready p → record′ c image bytes ≡ refuses c OutOfTurn
-      told-ready = Refusals.told-ready c image bytes
+      told-ready = Records.told-ready c image bytes
 
       pub told-waiting : (p : Phase) → c .turn ≡ Waiting p → record′ c image bytes ≡ cond (otherImage p (length image)) (refuses c OtherImage) (answeredTo c p image bytes)
-      told-waiting = Refusals.told-waiting c image bytes
+      told-waiting = Records.told-waiting c image bytes
 
       -- 20 and 21 change no state, and the rest is the whole record; any other refusal ends the operation; after 1 the rest is empty.
       pub told-refused : (r : Refusal) → record′ c image bytes .says ≡ Refused r → record′ c image bytes .client ≡ leaves r c
-      told-refused = Refusals.told-refused c image bytes
+      told-refused = Records.told-refused c image bytes
 
       pub told-kept : (r : Refusal) → record′ c image bytes .says ≡ Refused r → keeps r ≡ true → record′ c image bytes .rest ≡ 0
-      told-kept = Refusals.told-kept c image bytes
+      told-kept = Records.told-kept c image bytes
 
       pub told-lost : record′ c image bytes .says ≡ Refused Io → record′ c image bytes .rest ≡ length bytes
-      told-lost = Refusals.told-lost c image bytes
+      told-lost = Records.told-lost c image bytes
 
   -- A failed link: 1 where a request is out, else 21.
   pub failed-idle : c .turn ≡ Idle → linkFailed c ≡ refuses c OutOfTurn
-  failed-idle = Refusals.failed-idle c
+  failed-idle = Records.failed-idle c
 
   pub failed-ready : (p : Phase) → c .turn ≡ Ready p → linkFailed c ≡ refuses c OutOfTurn
-  failed-ready = Refusals.failed-ready c
+  failed-ready = Records.failed-ready c
 
   pub failed-waiting : (p : Phase) → c .turn ≡ Waiting p → linkFailed c ≡ stops c (Refused Io) 0
-  failed-waiting = Refusals.failed-waiting c
+  failed-waiting = Records.failed-waiting c
 
   -- What a refusal that ends the operation leaves: nothing runs, the seed stays, and the attached id too, but after a deselect.
   module _ (r : Refusal) where
