@@ -19,7 +19,8 @@ use Rattle.theory.specs.Phases as Phases
 use Rattle.theory.specs.Phases.{Purpose, tell, clear, load, Job, informing, erasing, writing, verifying, resetting, Phase, selecting, demanding, leaving, Then, ends, refuses, Next, working}
 use Rattle.theory.specs.Clients as Machine
 use Rattle.theory.specs.Clients.{waiting, lends, lentTo, settle, fails}
-use Rattle.theory.proofs.Resuming.{SoundJob, sound-sizes}
+use Rattle.theory.proofs.Infos.{sound-sizes}
+use Rattle.theory.proofs.Resuming.{SoundJob}
 use Rattle.image.specs.Images.{codeInfo, shownInfo, shownKey}
 use Rattle.image.proofs.Ways.{next-erase, last-erase}
 use Rattle.pieces.specs.Pieces.{isLast}

@@ -17,7 +17,8 @@ use Rattle.paper.specs.Talk.{Demand, demand, Answered, Answer, Talk, return, st
 use Rattle.paper.specs.Flash.{accepted, transact, unless, infoRequest, keys, inform, eraseOne, eraseAll, repeated, persist, writeWithin, writeOne, offsets, writeAll, verify, known, informOnly, erase, prepare, flash, reset}
 use Rattle.theory.specs.FlashOrder.{Exchange, met, Past, Event, Stand, refused, readEvent, play, everything, toldBy, toldIn, told, Ended, Bounded, most, erasesMost, flashMost}
 use Rattle.theory.proofs.Conversations.{bind-assoc}
-use Rattle.theory.proofs.FlashOrder.{told-still, sound-parts, chunk-positive, informed-sound}
+use Rattle.theory.proofs.FlashOrder.{told-still}
+use Rattle.theory.proofs.Infos.{sound-sizes, sound-chunk, informed-sound}
 use Rattle.theory.proofs.Images.{padded-multiple}
 
 -- At most k requests, whatever is answered.
@@ -225,7 +226,7 @@ erases-most info h s =
     omega (
       arith,
       ltb-false 0xFFFFFFFF (steps (info .eraseSize) (info .capacity) * info .eraseSize) s,
-      le-mul-of-pos-right (steps (info .eraseSize) (info .capacity)) (sound-parts info h .0),
+      le-mul-of-pos-right (steps (info .eraseSize) (info .capacity)) (sound-sizes info h .eraseSize),
     )
 
 steps-most : (c p q : ℕ) → 4 ≤ c → p ≤ 4 * q → steps c p ≤ q
@@ -235,7 +236,7 @@ steps-most c p q h l =
     omega arith
 
 writes-most : (info : Info) (n : ℕ) → sound info ≡ true → steps (chunk (info .maxPayload)) (padded n) ≤ padded n / 4
-writes-most info n h = steps-most (chunk (info .maxPayload)) (padded n) (padded n / 4) (chunk-positive info h) (omega (arith, padded-multiple n))
+writes-most info n h = steps-most (chunk (info .maxPayload)) (padded n) (padded n / 4) (sound-chunk info h) (omega (arith, padded-multiple n))
 
 pub erase-ends : (es : List Event) → Bounded (suc 0xFFFFFFFF) es (play erase es [])
 unfolding erase

@@ -13,7 +13,8 @@ use Rattle.paper.specs.Talk.{piece, Demand, Ask, select, demand, leave}
 use Rattle.paper.specs.Flash.{writeSize, writeRequest, flash}
 use Rattle.paper.specs.Client.{payloadOf}
 use Rattle.theory.specs.FlashOrder.{Past, Event, play, everything, carried, written, InOrder, toInform, toErase, toWrite, toVerify, Ordered, Allowed, Flashed}
-use Rattle.theory.proofs.FlashOrder.{write-size, flash-in-order}
+use Rattle.theory.proofs.FlashOrder.{flash-in-order}
+use Rattle.theory.proofs.Writes.{write-size}
 use Rattle.theory.proofs.Conversations.{each-asked}
 use Rattle.theory.proofs.Images.{chunk-most}
 

@@ -1,24 +1,24 @@
 -- A flash keeps its order over any replies, erases what it is told to from the front on, and writes at most 17 times at one offset.
 -- Assumes nothing.
 use Prim.Native.Nat.{ℕ, zero, suc, _+_, _-_, _≤_, _<_, min}
-use mathlib.Core.Bool.{Bool, true, false, not, _&&_, cond, false≢true}
+use mathlib.Core.Bool.{Bool, true, false, not, cond}
 use mathlib.Core.List.{List, [], _∷_, _++_, append-assoc, append-nil}
 use mathlib.Core.Option.{Option, none, some}
 use mathlib.Core.Path.{_≡_, refl, sym, _∙_, ap}
 use native.Mathlib.Omega.{arith}
-use lib.Dec.{leb, ltb, eqb}
+use lib.Dec.{ltb, eqb}
 use lib.ListN.{length, take}
 use lib.Seq.{take-append-seam, take-nil}
-use borrow.Author.Tests.{ltb-true, ltb-false, leb-true, leb-false, eqb-true, not-false}
-use Rattle.lore.proofs.Rows.{below-nil, below-cons}
-use Rattle.paper.specs.Frame.{field, check, Info, infoOf, status-CrcMismatch}
+use borrow.Author.Tests.{ltb-false, eqb-true, not-false}
+use Rattle.paper.specs.Frame.{field, check, Info, status-CrcMismatch}
 use Rattle.paper.specs.Hearing.{onSome}
 use Rattle.paper.specs.Answers.{Reply, ok, device, sound, informed, spansTooFar, eraseAddresses, tooLarge, incompatible, chunk, padded, below}
 use Rattle.paper.specs.Talk.{Demand, Ask, demand, return, stop, Outcome, knows}
-use Rattle.paper.specs.Flash.{infoRequest, eraseRequest, writeSize, writeRequest, verifyRequest, inform, eraseOne, eraseAll, prepare, repeated, persist, writeWithin, writeOne, offsets, writeAll, verify, erase, flash, known}
+use Rattle.paper.specs.Flash.{infoRequest, eraseRequest, writeRequest, verifyRequest, inform, eraseOne, eraseAll, prepare, repeated, persist, writeWithin, writeOne, offsets, writeAll, verify, erase, flash, known}
 use Rattle.theory.specs.FlashOrder.{Exchange, met, Past, Event, play, asks, everything, toldBy, toldIn, told, isOk, carried, wroteIn, written, erasedIn, erased, eraseIn, erases, writeIn, writesAt, planned, FrontOf, Passed, MayWrite, toInform, toErase, toWrite, toVerify, Fronts, Front, Allowed, Kept, Stands, Flashed}
 use Rattle.theory.proofs.Conversations.{Always, always-bind, always-each, always-unless, always-test, always-transact, play-kept, all-asked}
-use Rattle.theory.proofs.Images.{chunk-least}
+use Rattle.theory.proofs.Infos.{sound-chunk, informed-sound}
+use Rattle.theory.proofs.Writes.{First, first, last, write-size, at-most, counted, uncounted}
 
 pub told-still : (x : Exchange) (past : Past) (i : Info × List ℕ) → told past ≡ some i → told (x ∷ past) ≡ some i
 unfolding told
@@ -30,28 +30,6 @@ planned-is past i e = rw e
 
 front-part : (all xs ys : List ℕ) → xs ++ ys ≡ all → FrontOf all xs
 front-part all xs ys e = sym (take-append-seam xs ys) ∙ ap (take (length xs)) e
-
-pub sound-parts : (info : Info) → sound info ≡ true → (0 < info .eraseSize) × (4 ≤ info .maxPayload)
-unfolding sound
-sound-parts info h = go (ltb 0 (info .eraseSize)) (ltb 0 (info .capacity)) (leb 4 (info .maxPayload)) refl refl h
-  where
-    go : (a b c : Bool) → ltb 0 (info .eraseSize) ≡ a → leb 4 (info .maxPayload) ≡ c → (a && (b && c)) ≡ true → (0 < info .eraseSize) × (4 ≤ info .maxPayload)
-    go true true true d e h = (ltb-true 0 (info .eraseSize) d, leb-true 4 (info .maxPayload) e)
-    go true true false d e h = absurd (false≢true h)
-    go true false c d e h = absurd (false≢true h)
-    go false b c d e h = absurd (false≢true h)
-
-pub chunk-positive : (info : Info) → sound info ≡ true → 4 ≤ chunk (info .maxPayload)
-chunk-positive info h = chunk-least (info .maxPayload) (sound-parts info h .1)
-
-pub informed-sound : (payload : List ℕ) (info : Info) → informed payload ≡ some info → sound info ≡ true
-unfolding informed
-informed-sound payload info e = go (leb 18 (length payload)) (sound (infoOf payload)) refl e
-  where
-    go : (a b : Bool) → sound (infoOf payload) ≡ b → cond (a && b) (some (infoOf payload)) none ≡ some info → sound info ≡ true
-    go true true q e = let same : infoOf payload ≡ info = cc in rw same at q
-    go true false q e = absurd (let z : _≡_ {A = ℕ} 0 1 = cc in omega arith)
-    go false b q e = absurd (let z : _≡_ {A = ℕ} 0 1 = cc in omega arith)
 
 -- With these Erases left, and nothing written.
 record Erasing (info : Info) (image left : List ℕ) (past : Past) : Type 0 where
@@ -112,63 +90,6 @@ module _ (R : Past → Ask → Type 0) where
     unfolding eraseAll
     erase-all past h =
         always-unless R (λ p _. Left [] p) past (spansTooFar info) 19 [] _ (λ s. always-each R Left (eraseOne info) erase-one (eraseAddresses info) past (h, s))
-
--- The first of the offsets that are left.
-record First (c p o x : ℕ) (xs : List ℕ) : Type 0 where
-  inside : o < p
-  same : x ≡ o
-  tail : xs ≡ below c p (o + c)
-
-first : (c p o x : ℕ) (xs : List ℕ) → 0 < c → x ∷ xs ≡ below c p o → First c p o x xs
-first c p o x xs pc e = go (ltb o p) refl
-  where
-    go : (b : Bool) → ltb o p ≡ b → First c p o x xs
-    go true h =
-        let m : below c p o ≡ o ∷ below c p (o + c) = below-cons c p o pc (ltb-true o p h) in
-        record { inside = ltb-true o p h; same = cc; tail = cc }
-    go false h =
-        let m : below c p o ≡ [] = below-nil c p o (ltb-false o p h) in
-        let z : _≡_ {A = ℕ} 0 1 = cc in
-        absurd (omega arith)
-
-last : (c p o : ℕ) → 0 < c → [] ≡ below c p o → p ≤ o
-last c p o pc e = go (ltb o p) refl
-  where
-    go : (b : Bool) → ltb o p ≡ b → p ≤ o
-    go true h =
-        let m : below c p o ≡ o ∷ below c p (o + c) = below-cons c p o pc (ltb-true o p h) in
-        let z : _≡_ {A = ℕ} 0 1 = cc in
-        absurd (omega arith)
-    go false h = ltb-false o p h
-
-pub write-size : (info : Info) (n o : ℕ) → writeSize info n o ≡ min (chunk (info .maxPayload)) (padded n - o)
-write-size info n o = go (leb (chunk (info .maxPayload)) (padded n - o)) refl
-  where
-    c : ℕ
-    c = chunk (info .maxPayload)
-
-    go : (b : Bool) → leb c (padded n - o) ≡ b → cond b c (padded n - o) ≡ min c (padded n - o)
-    go true e = omega (arith, leb-true c (padded n - o) e)
-    go false e = omega (arith, leb-false c (padded n - o) e)
-
--- One more Write at x.
-at-most : (b : Bool) → cond b 1 0 ≤ 1
-at-most true = omega arith
-at-most false = omega arith
-
-counted : (x a k : ℕ) → (x ≡ a → k < 17) → k ≤ 17 → cond (eqb x a) 1 0 + k ≤ 17
-counted x a k h l = go (eqb x a) refl
-  where
-    go : (b : Bool) → eqb x a ≡ b → cond b 1 0 + k ≤ 17
-    go true e = omega (arith, h (eqb-true x a e))
-    go false e = omega arith
-
-uncounted : (x a k : ℕ) → x < a → cond (eqb x a) 1 0 + k ≡ k
-uncounted x a k l = go (eqb x a) refl
-  where
-    go : (b : Bool) → eqb x a ≡ b → cond b 1 0 + k ≡ k
-    go true e = absurd (omega (arith, eqb-true x a e))
-    go false e = omega arith
 
 module _ (n : ℕ) where
   passed-still : (x : Exchange) (past : Past) (info : Info) → Passed n past info → Passed n (x ∷ past) info
@@ -337,7 +258,7 @@ module _ (n : ℕ) where
         record {
           offset = 0;
           passed = record { image = image; tells = h .tells; fits = fits; suits = suits; spans = spans };
-          positive = omega (arith, chunk-positive info s);
+          positive = omega (arith, sound-chunk info s);
           cleared = sym (append-nil (erased past)) ∙ h .so-far;
           same = h .same;
           rest = refl;

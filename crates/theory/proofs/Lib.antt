@@ -19,6 +19,8 @@ pub mod Most
 pub mod Kept
 pub mod Refine
 pub mod Fits
+pub mod Infos
+pub mod Writes
 pub mod Conversations
 pub mod Resuming
 pub mod Working

@@ -23,8 +23,8 @@ use Rattle.lore.proofs.Rows.{below-cons, below-nil}
 use Rattle.theory.specs.Machine as Machine
 use Rattle.theory.specs.Machine.{going, ended}
 use Rattle.theory.specs.Phases.{Search, probing, parting, seeking, backing, walking, Purpose, tell, clear, load, Job, informing, erasing, writing, verifying, resetting, Phase, selecting, demanding, leaving, selected, demanded, request, Then, to, ends, refuses, Next, unlessLong, sought, backed, walked, hears, working, erases, judged, prepared, writes, cleared, erased, wrote, repeated, verified, accepted, declined, told, step, starting}
-use Rattle.theory.proofs.Images.{chunk-least}
 use Rattle.theory.proofs.Conversations.{bind-assoc}
+use Rattle.theory.proofs.Infos.{sound-sizes, sound-chunk}
 use Rattle.theory.proofs.Refine as Refine
 
 -- The device information of a job keeps the Info rule.
@@ -40,24 +40,8 @@ Sound (selecting s) = Unit {0}
 Sound (demanding j) = SoundJob j
 Sound (leaving bootloader baud) = Unit {0}
 
--- What the Info rule says.
-pub record Sizes (info : Info) : Type 0 where
-  pub eraseSize : 0 < info .eraseSize
-  pub capacity : 0 < info .capacity
-  pub maxPayload : 4 ≤ info .maxPayload
-
-pub sound-sizes : (info : Info) → sound info ≡ true → Sizes info
-unfolding sound
-sound-sizes info s = go (ltb 0 (info .eraseSize)) refl (ltb 0 (info .capacity)) refl (leb 4 (info .maxPayload)) refl s
-  where
-    go : (a : Bool) → ltb 0 (info .eraseSize) ≡ a → (b : Bool) → ltb 0 (info .capacity) ≡ b → (d : Bool) → leb 4 (info .maxPayload) ≡ d → (a && (b && d)) ≡ true → Sizes info
-    go true e true f true g s = record { eraseSize = ltb-true 0 (info .eraseSize) e; capacity = ltb-true 0 (info .capacity) f; maxPayload = leb-true 4 (info .maxPayload) g }
-    go true e true f false g s = absurd (let n : _≡_ {A = ℕ} 0 1 = cc in omega arith)
-    go true e false f d g s = absurd (let n : _≡_ {A = ℕ} 0 1 = cc in omega arith)
-    go false e b f d g s = absurd (let n : _≡_ {A = ℕ} 0 1 = cc in omega arith)
-
-sound-chunk : (info : Info) → sound info ≡ true → 0 < chunk (info .maxPayload)
-sound-chunk info s = omega (arith, chunk-least (info .maxPayload) (sound-sizes info s .maxPayload))
+has-chunk : (info : Info) → sound info ≡ true → 0 < chunk (info .maxPayload)
+has-chunk info s = omega (arith, sound-chunk info s)
 
 -- The end of an attach that several answered, and of a discovery.
 abbrev pub several : Option Id → Talk Outcome
@@ -179,7 +163,7 @@ module _ (info : Info) (s : sound info ≡ true) where
   more-writes : (n offset : ℕ) → offset < padded n → writesFrom n info offset ≡ resumeJob (writing n info offset 0)
   unfolding resumeJob each
   more-writes n offset l =
-      ap (λ (xs : List ℕ). each xs (writeOne info n) >> verifies n info) (below-cons (chunk (info .maxPayload)) (padded n) offset (sound-chunk info s) l)
+      ap (λ (xs : List ℕ). each xs (writeOne info n) >> verifies n info) (below-cons (chunk (info .maxPayload)) (padded n) offset (has-chunk info s) l)
       ∙ bind-assoc (writeOne info n offset) _ _
 
   no-writes : (n offset : ℕ) → padded n ≤ offset → writesFrom n info offset ≡ resumeJob (verifying n info)
