@@ -1,15 +1,15 @@
 -- Document 01, acceptance condition 2, the part that is proved: frames, checks, hearing, walk and flash order against the written definitions.
 -- Assumes nothing.
 use Prim.Native.Nat.{ℕ, _<_, _≤_}
-use mathlib.Core.Bool.{Bool, true}
-use mathlib.Core.List.{List, [], _++_, map}
+use mathlib.Core.Bool.{Bool, true, false}
+use mathlib.Core.List.{List, [], _∷_, _++_, map}
 use mathlib.Core.Option.{Option, none, some}
-use mathlib.Core.Path.{_≡_}
+use mathlib.Core.Path.{_≡_, refl}
 use lib.ListN.{length, drop}
-use Rattle.paper.specs.Answers.{Reply, answered, answer}
+use Rattle.paper.specs.Answers.{Reply, ok, answered, answerFrom, answer}
 use Rattle.paper.specs.Count.{All}
 use Rattle.paper.specs.Flash.{informOnly, erase, flash, reset}
-use Rattle.paper.specs.Frame.{Frame, whole, frameBytes, read}
+use Rattle.paper.specs.Frame.{number, crcBit, crcByte, crcFrom, check, Frame, whole, frameBytes, skipped, rightCheck, readSized, readSynced, read}
 use Rattle.paper.specs.Hearing.{Id}
 use Rattle.theory.specs.Clients.{Brief}
 use Rattle.theory.specs.FlashOrder.{Event, play, everything, told, writesAt, Kept, Stands, Allowed, Flashed, Fronts, Bounded, most, erasesMost, flashMost}
@@ -21,8 +21,10 @@ use Rattle.theory.proofs.Frames as Frames
 use Rattle.theory.proofs.Frames.{Fits}
 use Rattle.client.specs.declared.Client.{Client}
 use Rattle.client.specs.declared.Job.{Job}
+use Rattle.client.specs.declared.Job.the-variants.{Resetting}
 use Rattle.client.specs.declared.Phase.the-variants.{Demand}
 use Rattle.client.specs.declared.Turn.the-variants.{Waiting}
+use Rattle.client.specs.Clients.{turned, fresh}
 use Rattle.starting.specs.Starting.{startInfo, startErase, startFlash, startReset, startSetBaud}
 use Rattle.telling.specs.Telling.{record′}
 use Rattle.records.specs.Driven.{Round, driven, Lends, StandsAs}
@@ -95,3 +97,14 @@ module _ (c : Client) (j : Job) (out : c .turn ≡ Waiting (Demand j)) (image a 
 
   pub rest-either-way : drop (record′ c image (a ++ x) .rest) (a ++ x) ≡ drop (record′ c image a .rest) a ++ x
   rest-either-way = EitherWay.rest-either-way c j out image a x r end e
+
+-- Such a client and such a record there are: a Reset whose answer is awaited, and its answer.
+abbrev resetting : Client
+resetting = turned fresh (Waiting (Demand (Resetting (record { bootloader = true; given = false; baud = 0 }))))
+
+abbrev reset-answered : List ℕ
+reset-answered = 0xA5 ∷ 0x04 ∷ 0x01 ∷ 0x00 ∷ 0x00 ∷ 0x00 ∷ 0x00 ∷ 0x00 ∷ 0x00 ∷ 0x00 ∷ 0x4C ∷ 0x25 ∷ []
+
+pub reset-either-way : (x : List ℕ) → record′ resetting [] (reset-answered ++ x) ≡ record′ resetting [] reset-answered
+unfolding answer answerFrom read readSynced readSized rightCheck skipped number check crcFrom crcByte crcBit fresh
+reset-either-way x = record-either-way resetting (Resetting (record { bootloader = true; given = false; baud = 0 })) refl [] reset-answered x (ok []) 12 refl
