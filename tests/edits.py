@@ -1,9 +1,13 @@
-"""Every must-fail edit was refused because a fact no longer holds, and not because its proof file no longer fits the code.
+"""Every wrong version was refused because a fact no longer holds, and not because its proof file no longer fits the code.
 
-Reads the logs that `rt ci` leaves in target/must-fail. The first error of each must not be one on a need's name, nor on a name or a text
-that the checker cannot read. A function that is
-proved with no file has no error of its own: there the check names the facts that its search does not close, and the first error is that
-of a caller.
+A file of crates/NAME/must-fail has one or more wrong versions, each under a line `wrong: LABEL` with the rule that it breaks. They are
+tried at once, and judged apart: no two of a file are in one function (or one theorem), and each must be refused by an error on a fact in
+that function's own proof. A wrong version of a definition, on which many proofs rest, is alone in its file.
+
+Reads the logs that `rt ci` leaves in target/must-fail, and compares the table of docs/CONTRACTS.md with them.
+
+python3 tests/edits.py            the verdict
+python3 tests/edits.py --table    writes the table
 """
 import pathlib
 import re
@@ -12,22 +16,111 @@ import sys
 root = pathlib.Path(__file__).resolve().parent.parent
 unfit = re.compile(r"has no `Need-|expected type `tie\.Need-|is not in scope|is not a constructor|cannot be parsed|syntax")
 follows = re.compile(r"was not admitted")
-searched = re.compile(r"^fn \S+: no proof: .*`search` does not close", re.M)
-bad = []
-edits = sorted(root.glob("crates/*/must-fail/*.edit"))
-for edit in edits:
-    crate = edit.parent.parent.name
-    log = root / "target" / "must-fail" / crate / edit.stem / ".log"
+mark = "## Every wrong version\n"
+
+
+class Wrong:
+    """One wrong version: its label, the rule that it breaks, and where it is: a file, and a function or theorem of it."""
+
+    def __init__(self, crate, label):
+        self.crate, self.label, self.rule, self.file, self.place, self.fact = crate, label, "", None, None, None
+
+
+def enclosing(text, at, file):
+    """The function or theorem of a file in which a position stands; None for a definition."""
+    if file.startswith("specs/"):
+        return None
+    if file.startswith("proofs/"):
+        names = [m for m in re.finditer(r"(?m)^\s*(?:unfoldable |abbrev )?(?:pub )?([^\s:({]+) :", text) if m.start() <= at]
+        return names[-1].group(1)
+    name, owner = None, ""
+    for m in re.finditer(r"(?m)^(?:impl (\w+)|( *)(?:pub )?(?:extern \"C\" )?fn (\w+))", text):
+        if m.start() > at:
+            break
+        if m.group(1):
+            owner = m.group(1) + "/"
+        else:
+            name = (owner if m.group(2) else "") + m.group(3)
+    return name
+
+
+def read(edit):
+    """The wrong versions of one file."""
+    crate, found, old = edit.parent.parent.name, [], None
+    for line in edit.read_text().split("\n"):
+        if line.startswith("wrong: "):
+            found.append(Wrong(crate, line[7:]))
+        elif line.startswith("# "):
+            found[-1].rule = (found[-1].rule + " " + line[2:]).strip()
+        elif line.startswith("file: "):
+            found[-1].file = line[6:]
+        elif line.startswith("old: "):
+            text = (root / "crates" / crate / found[-1].file).read_text()
+            found[-1].place = enclosing(text, text.find(line[5:]), found[-1].file)
+    return found
+
+
+def refused(wrong, log):
+    """The fact at which a wrong version was refused; None if there is none."""
+    errors = [e for e in re.findall(r"(?m)^\S*?/((?:src|specs|proofs)/\S+?):\d+:\d+: error: (.*)$", log) if not follows.search(e[1])]
+    if wrong.place is None:
+        own = errors[:1]
+    elif wrong.file.startswith("proofs/"):
+        own = [e for e in errors if e[0] == wrong.file and e[1].startswith(f"`{wrong.place}`")]
+    else:
+        own = [e for e in errors if e[0] == f"proofs/{wrong.place}/Proof.antt"]
+        path = wrong.place.replace("/", "::")
+        if not own and (m := re.search(rf"(?m)^fn {wrong.crate}::{path}: no proof: .*`search` does not close (`[^`]*`)", log)):
+            return m.group(1)
+    if not own or unfit.search(own[0][1]):
+        return None
+    name = re.match(r"`([^`]*)`", own[0][1])
+    return (name.group(0) if name else "its statement") + (f" of `{own[0][0]}`" if wrong.place is None else "")
+
+
+def table(all_wrong):
+    """The lines of the table, a part for each crate."""
+    lines, crate = [mark], None
+    for w in all_wrong:
+        if w.crate != crate:
+            crate = w.crate
+            lines += ["", f"### `{crate}`", "", "| in | wrong version | breaks the rule | refused at |", "|---|---|---|---|"]
+        where = f"`{w.place.replace('/', '::')}`" if w.place else f"`{w.file}`"
+        lines.append(f"| {where} | `{w.crate}/{w.label}` | {w.rule} | {w.fact} |".replace("||", "\\|\\|"))
+    return "\n".join(lines) + "\n"
+
+
+everything, bad = [], []
+for edit in sorted(root.glob("crates/*/must-fail/*.edit")):
+    name = f"{edit.parent.parent.name}/{edit.stem}"
+    log = root / "target" / "must-fail" / edit.parent.parent.name / edit.stem / ".log"
+    wrongs = read(edit)
+    places = [(w.file, w.place) for w in wrongs]
+    if len(set(places)) < len(places) or (len(wrongs) > 1 and any(w.place is None for w in wrongs)):
+        bad.append(f"{name}: two wrong versions in one place, or a definition's beside others")
     if not log.exists():
-        bad.append(f"{crate}/{edit.stem}: no log")
+        bad.append(f"{name}: no log")
         continue
     text = log.read_text()
-    first = next((line for line in text.split("\n") if ": error" in line), None)
-    if first is None and not searched.search(text):
-        bad.append(f"{crate}/{edit.stem}: no error in its log")
-    elif first and (unfit.search(first) or (follows.search(first) and not searched.search(text))):
-        bad.append(f"{crate}/{edit.stem}: {first[:300]}")
+    for w in wrongs:
+        w.fact = refused(w, text)
+        if w.fact is None:
+            bad.append(f"{name}: {w.label} ({w.place}) is not refused at a fact")
+        if not w.rule:
+            bad.append(f"{name}: {w.label} does not say what rule it breaks")
+    everything += wrongs
+
+labels = [f"{w.crate}/{w.label}" for w in everything]
+bad += sorted({f"{label}: twice" for label in labels if labels.count(label) > 1})
+everything.sort(key=lambda w: (w.crate, w.place or "", w.label))
+document = root / "docs/CONTRACTS.md"
+text = document.read_text()
+written = text[: text.index(mark)] + table(everything)
+if sys.argv[1:] == ["--table"]:
+    document.write_text(written)
+elif text != written:
+    bad.append("docs/CONTRACTS.md: its table is not that of the edits; python3 tests/edits.py --table writes it")
 for line in bad:
     print(line)
-print(f"{len(edits)} edits, {len(bad)} refused for no fact")
-sys.exit(1 if bad or not edits else 0)
+print(f"{len(everything)} wrong versions, {len(bad)} faults")
+sys.exit(1 if bad or not everything else 0)
