@@ -1,6 +1,6 @@
 -- The ways through the writers of requests, from the facts that the code has.
 -- Assumes nothing.
-use Prim.Native.Nat.{ℕ, _+_, _-_, _/_, _%_, _^_, _≤_}
+use Prim.Native.Nat.{ℕ, _+_, _-_, _/_, _%_, _^_, _<_, _≤_}
 use mathlib.Core.Bool.{Bool, true, false, cond}
 use mathlib.Core.List.{List, [], _∷_, _++_}
 use mathlib.Core.Option.{none, some}
@@ -99,14 +99,23 @@ module _ (r : Written) (h : Head) (buf after : List ℕ) where
         ∙ written-cut (headFor 2 flags (o % 2 ^ 32)) o (payloadOf (piece o (writeSize info n o)) image) buf refl
         ∙ ap (λ (f : ℕ). written (frameOf (headFor 2 f o) (payloadOf (piece o (writeSize info n o)) image)) buf) (flags-are last flags el ef)
 
-module _ (reset : Reset) (flags : ℕ) where
-  pub flags-baud : flags ≡ cond (reset .bootloader) 1 0 → reset .given ≡ true → flags + 2 ≡ flagsOf reset
-  unfolding flagsOf resetFlags
-  flags-baud e g = rw (e, g)
+module _ (reset : Reset) (into baud : ℕ) (ei : into ≡ cond (reset .bootloader) 1 0) (eb : baud ≡ cond (reset .given) 2 0) where
+  pub flags-fit : into + baud < 256
+  flags-fit = rw (ei, eb) (go (reset .bootloader) (reset .given))
+    where
+      go : (a b : Bool) → cond a 1 0 + cond b 2 0 < 256
+      go true true = omega arith
+      go true false = omega arith
+      go false true = omega arith
+      go false false = omega arith
 
-  pub flags-plain : flags ≡ cond (reset .bootloader) 1 0 → reset .given ≡ false → flags ≡ flagsOf reset
+  pub flags-sum : into + baud ≡ flagsOf reset
   unfolding flagsOf resetFlags
-  flags-plain e g = rw g (e ∙ omega arith)
+  flags-sum = rw (ei, eb) (go (reset .given))
+    where
+      go : (b : Bool) → cond (reset .bootloader) 1 0 + cond b 2 0 ≡ cond (reset .bootloader) 1 0 + onSome (cond b (some (reset .baud)) none) 0 (λ given. 2)
+      go true = refl
+      go false = refl
 
 pub sent-reset : (r : Written) (h : Head) (buf after : List ℕ) (reset : Reset) (flags address : ℕ) → flags ≡ flagsOf reset → address ≡ cond (reset .given) (reset .baud) 0
     → h ≡ headFor 4 flags address → record { answer = r; bytes = after } ≡ written (frameOf h []) buf

@@ -5,6 +5,7 @@ use frame::Head;
 use image::Info;
 use wire::Written;
 ghost use mathlib.Core.Path.{_≡_};
+ghost use mathlib.Core.Bool.{cond};
 ghost use mathlib.Core.List.{[]};
 ghost use lib.ListN.{length};
 ghost use Rattle.paper.specs.Client.{demandFrame};
@@ -23,6 +24,16 @@ fn head(command: u8, flags: u8, address: u32) -> Head
         flags,
         address,
     }
+}
+
+// A flag that is set, or none.
+fn flag(on: bool, value: u8) -> u8
+    ensures { λ r. ⌜ r ≡ cond on value 0 ⌝ }
+{
+    if on {
+        return value;
+    }
+    0
 }
 
 pub fn write_info(buf: &mut [u8]) -> Written
@@ -48,7 +59,7 @@ pub fn write_write(info: Info, offset: u64, image: &[u8], buf: &mut [u8]) -> Wri
     let n = image.len();
     let size = pieces::size(info, n, offset);
     let held = pieces::image_bytes(n, offset, size);
-    let flags = if pieces::last(info, n, offset) { 1 } else { 0 };
+    let flags = flag(pieces::last(info, n, offset), 1);
     let part = pieces::part(image, offset, size);
     frame::write_frame(
         head(2, flags, (offset % 0x1_0000_0000) as u32),
@@ -70,14 +81,17 @@ pub fn write_verify(n: usize, buf: &mut [u8]) -> Written
 fn reset_flags(reset: Reset) -> u8
     ensures { λ r. ⌜ r ≡ flagsOf reset ⌝ }
 {
-    let mut flags = 0;
-    if reset.bootloader {
-        flags = 1;
-    }
+    flag(reset.bootloader, 1) + flag(reset.given, 2)
+}
+
+// The baud to store, or 0.
+fn address_of(reset: Reset) -> u32
+    ensures { λ r. ⌜ r ≡ cond (reset .given) (reset .baud) 0 ⌝ }
+{
     if reset.given {
-        flags += 2;
+        return reset.baud as u32;
     }
-    flags
+    0
 }
 
 pub fn write_reset(reset: Reset, buf: &mut [u8]) -> Written
@@ -85,8 +99,7 @@ pub fn write_reset(reset: Reset, buf: &mut [u8]) -> Written
 {
     let none = [0u8; 1];
     let flags = reset_flags(reset);
-    let address = if reset.given { reset.baud as u32 } else { 0 };
-    frame::write_frame(head(4, flags, address), &none[..0], 0, buf)
+    frame::write_frame(head(4, flags, address_of(reset)), &none[..0], 0, buf)
 }
 
 // The request of a job, with the image lent.

@@ -1,7 +1,5 @@
 -- `demands::write_reset` meets its contract.
 -- Assumes nothing.
-use mathlib.Core.Logic.{⊎-elim}
-use Rattle.lore.proofs.Choice.{ways}
 use Rattle.demands.proofs.Ways.{sent-reset}
 use borrow.Author.Needs.{needs}
 use Rattle.demands.proofs.write_reset.Statement.{statement}
@@ -10,8 +8,8 @@ use Rattle.demands.proofs.write_reset.Tie as tie
 reset-flags-requires : tie.Need-reset-flags-requires
 reset-flags-requires c κs = search needs
 
-cast-address : tie.Need-cast-address
-cast-address c = search needs
+address-of-requires : tie.Need-address-of-requires
+address-of-requires c κs = search needs
 
 head-requires : tie.Need-head-requires
 head-requires c κs = search needs
@@ -29,14 +27,14 @@ same-length : tie.Need-same-length
 same-length c = search needs
 
 returns : tie.Need-returns
-returns c = ⊎-elim (λ w. search (sent-reset, ways, needs)) (λ w. search (sent-reset, ways, needs)) (c .before .before .before .before .before .before .if1 .came)
+returns c = search (sent-reset, needs)
 
 pub write-reset-spec : {M : Type 1} → statement M
 write-reset-spec =
     tie.close
     (tie.spec
     reset-flags-requires
-    cast-address
+    address-of-requires
     head-requires
     array-share-prefix-none
     slice-aggregate-write-frame

@@ -1,7 +1,5 @@
 -- `demands::write_write` meets its contract.
 -- Assumes nothing.
-use mathlib.Core.Logic.{⊎-elim}
-use Rattle.lore.proofs.Choice.{ways}
 use Rattle.demands.proofs.Ways.{held-within, sent-write}
 use borrow.Author.Needs.{needs}
 use Rattle.demands.proofs.write_write.Statement.{statement}
@@ -15,6 +13,9 @@ image-bytes-requires c κs = search needs
 
 last-requires : tie.Need-last-requires
 last-requires c κs = search needs
+
+flag-requires : tie.Need-flag-requires
+flag-requires c κs = search needs
 
 part-requires : tie.Need-part-requires
 part-requires c κs = search needs
@@ -35,7 +36,7 @@ same-length : tie.Need-same-length
 same-length c = search needs
 
 returns : tie.Need-returns
-returns c = ⊎-elim (λ w. search (sent-write, ways, needs)) (λ w. search (sent-write, ways, needs)) (c .before .before .before .before .before .before .if1 .came)
+returns c = search (sent-write, needs)
 
 pub write-write-spec : {M : Type 1} → statement M
 write-write-spec =
@@ -44,6 +45,7 @@ write-write-spec =
     size-requires
     image-bytes-requires
     last-requires
+    flag-requires
     part-requires
     cast-head
     head-requires
