@@ -1,3 +1,5 @@
+-- `answering::goes` meets its contract.
+-- Assumes nothing.
 use Rattle.answering.proofs.Ways.{goes-on, goes-over, goes-refused}
 use borrow.Author.Needs.{needs}
 use Rattle.answering.proofs.goes.Statement.{statement}

@@ -1,3 +1,5 @@
+-- `answering::tells` meets its contract.
+-- Assumes nothing.
 use Rattle.answering.proofs.Ways.{payload-fits, payload-within, tells-lost, tells-device, tells-ok}
 use borrow.Author.Needs.{needs}
 use Rattle.answering.proofs.tells.Statement.{statement}

@@ -1,3 +1,5 @@
+-- `arrays::put_128` meets its contract.
+-- Assumes nothing.
 use Rattle.arrays.proofs.Ways.{put-array}
 use borrow.Author.Needs.{needs}
 use Rattle.arrays.proofs.put_128.Statement.{statement}

@@ -1,3 +1,5 @@
+-- `arrays::take_16` meets its contract.
+-- Assumes nothing.
 use Rattle.arrays.proofs.Ways.{taken}
 use borrow.Author.Needs.{needs}
 use Rattle.arrays.proofs.take_16.Statement.{statement}

@@ -1,3 +1,5 @@
+-- `client::number` meets its contract.
+-- Assumes nothing.
 use Rattle.client.proofs.Ways.{number-is}
 use Rattle.client.specs.Numbers.{numberOf}
 use borrow.Author.Needs.{needs}

@@ -1,3 +1,5 @@
+-- `client::running` meets its contract.
+-- Assumes nothing.
 use Rattle.client.proofs.Ways.{not-running, ready-runs, waiting-runs}
 use borrow.Author.Needs.{needs}
 use Rattle.client.proofs.running.Statement.{statement}

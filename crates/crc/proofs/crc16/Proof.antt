@@ -1,3 +1,5 @@
+-- `crc::crc16` meets its contract.
+-- Assumes nothing.
 use borrow.Author.Needs.{needs}
 use Rattle.crc.proofs.Steps.{further, done}
 use lib.ListN.{length, drop}

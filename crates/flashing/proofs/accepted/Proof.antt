@@ -1,3 +1,5 @@
+-- `flashing::accepted` meets its contract.
+-- Assumes nothing.
 use Rattle.flashing.proofs.Ways.{accepted-informing, accepted-erasing, accepted-writing, accepted-verifying, accepted-resetting}
 use borrow.Author.Needs.{needs}
 use Rattle.flashing.proofs.accepted.Statement.{statement}

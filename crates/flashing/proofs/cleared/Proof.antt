@@ -1,3 +1,5 @@
+-- `flashing::cleared` meets its contract.
+-- Assumes nothing.
 use Rattle.flashing.proofs.Ways.{cleared-tell, cleared-clear, cleared-load}
 use borrow.Author.Needs.{needs}
 use Rattle.flashing.proofs.cleared.Statement.{statement}

@@ -1,3 +1,5 @@
+-- `flashing::declined` meets its contract.
+-- Assumes nothing.
 use Rattle.flashing.proofs.Ways.{declined-other, declined-busy, declined-write}
 use borrow.Author.Needs.{needs}
 use Rattle.flashing.proofs.declined.Statement.{statement}

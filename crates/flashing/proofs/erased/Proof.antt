@@ -1,3 +1,5 @@
+-- `flashing::erased` meets its contract.
+-- Assumes nothing.
 use Rattle.flashing.proofs.Ways.{erased-on, erased-last}
 use borrow.Author.Needs.{needs}
 use Rattle.flashing.proofs.erased.Statement.{statement}

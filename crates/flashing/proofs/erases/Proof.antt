@@ -1,3 +1,5 @@
+-- `flashing::erases` meets its contract.
+-- Assumes nothing.
 use Rattle.flashing.proofs.Ways.{spans, first-erase}
 use borrow.Author.Needs.{needs}
 use Rattle.flashing.proofs.erases.Statement.{statement}

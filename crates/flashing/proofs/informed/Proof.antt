@@ -1,3 +1,5 @@
+-- `flashing::informed` meets its contract.
+-- Assumes nothing.
 use Rattle.flashing.proofs.Ways.{informed-sound, informed-bad}
 use borrow.Author.Needs.{needs}
 use Rattle.flashing.proofs.informed.Statement.{statement}

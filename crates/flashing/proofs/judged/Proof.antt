@@ -1,3 +1,5 @@
+-- `flashing::judged` meets its contract.
+-- Assumes nothing.
 use Rattle.flashing.proofs.Ways.{large, other-key, taken}
 use borrow.Author.Needs.{needs}
 use Rattle.flashing.proofs.judged.Statement.{statement}

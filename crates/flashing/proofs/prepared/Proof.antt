@@ -1,3 +1,5 @@
+-- `flashing::prepared` meets its contract.
+-- Assumes nothing.
 use Rattle.flashing.proofs.Ways.{prepared-tell, prepared-clear, prepared-load}
 use borrow.Author.Needs.{needs}
 use Rattle.flashing.proofs.prepared.Statement.{statement}

@@ -1,3 +1,5 @@
+-- `flashing::repeated` meets its contract.
+-- Assumes nothing.
 use Rattle.flashing.proofs.Ways.{again, spent}
 use borrow.Author.Needs.{needs}
 use Rattle.flashing.proofs.repeated.Statement.{statement}

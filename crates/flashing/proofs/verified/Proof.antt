@@ -1,3 +1,5 @@
+-- `flashing::verified` meets its contract.
+-- Assumes nothing.
 use Rattle.flashing.proofs.Ways.{short-verify, same-check, other-check}
 use borrow.Author.Needs.{needs}
 use Rattle.flashing.proofs.verified.Statement.{statement}

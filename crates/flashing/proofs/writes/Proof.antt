@@ -1,3 +1,5 @@
+-- `flashing::writes` meets its contract.
+-- Assumes nothing.
 use borrow.Author.Needs.{needs}
 use Rattle.flashing.proofs.Ways.{no-writes, first-write}
 use Rattle.flashing.proofs.writes.Statement.{statement}

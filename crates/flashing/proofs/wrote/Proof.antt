@@ -1,3 +1,5 @@
+-- `flashing::wrote` meets its contract.
+-- Assumes nothing.
 use Rattle.flashing.proofs.Ways.{wrote-last, next-fits, wrote-on}
 use borrow.Author.Needs.{needs}
 use Rattle.flashing.proofs.wrote.Statement.{statement}

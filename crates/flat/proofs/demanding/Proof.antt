@@ -1,3 +1,5 @@
+-- `flat::demanding` meets its contract.
+-- Assumes nothing.
 use borrow.Author.Needs.{needs}
 use Rattle.flat.specs.Turns.{demanding}
 use Rattle.flat.proofs.demanding.Statement.{statement}

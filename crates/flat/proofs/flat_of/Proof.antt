@@ -1,3 +1,5 @@
+-- `flat::flat_of` meets its contract.
+-- Assumes nothing.
 use Rattle.flat.proofs.Ways.{at-turn}
 use Rattle.flat.specs.Turns.{flatOf}
 use borrow.Author.Needs.{needs}

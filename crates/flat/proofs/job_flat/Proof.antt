@@ -1,3 +1,5 @@
+-- `flat::job_flat` meets its contract.
+-- Assumes nothing.
 use Rattle.flat.proofs.Ways.{at-case, demanding-neither, demanding-unreset, demanding-uninformed}
 use Rattle.flat.specs.Turns.{jobFlat}
 use borrow.Author.Needs.{needs}

@@ -1,3 +1,5 @@
+-- `flat::job_of` meets its contract.
+-- Assumes nothing.
 use Rattle.flat.proofs.Ways.{other-case}
 use Rattle.flat.specs.Turns.{jobOf}
 use Rattle.lore.proofs.Choice.{ways}

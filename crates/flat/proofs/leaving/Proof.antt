@@ -1,3 +1,5 @@
+-- `flat::leaving` meets its contract.
+-- Assumes nothing.
 use Rattle.flat.proofs.Ways.{leaving-is}
 use borrow.Author.Needs.{needs}
 use Rattle.flat.proofs.leaving.Statement.{statement}

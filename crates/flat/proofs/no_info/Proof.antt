@@ -1,3 +1,5 @@
+-- `flat::no_info` meets its contract.
+-- Assumes nothing.
 use borrow.Author.Needs.{needs}
 use Rattle.flat.specs.Turns.{noInfo}
 use Rattle.flat.proofs.no_info.Statement.{statement}

@@ -1,3 +1,5 @@
+-- `flat::no_reset` meets its contract.
+-- Assumes nothing.
 use borrow.Author.Needs.{needs}
 use Rattle.flat.specs.Turns.{noReset}
 use Rattle.flat.proofs.no_reset.Statement.{statement}

@@ -1,3 +1,5 @@
+-- `flat::phase_of` meets its contract.
+-- Assumes nothing.
 use Rattle.flat.proofs.Ways.{other-case}
 use Rattle.flat.specs.Turns.{phaseOf}
 use Rattle.lore.proofs.Choice.{ways}

@@ -1,3 +1,5 @@
+-- `flat::search_flat` meets its contract.
+-- Assumes nothing.
 use Rattle.flat.proofs.Ways.{at-case}
 use Rattle.flat.specs.Turns.{searchFlat}
 use borrow.Author.Needs.{needs}

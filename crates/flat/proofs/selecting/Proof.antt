@@ -1,3 +1,5 @@
+-- `flat::selecting` meets its contract.
+-- Assumes nothing.
 use Rattle.flat.proofs.Ways.{selecting-is}
 use borrow.Author.Needs.{needs}
 use Rattle.flat.proofs.selecting.Statement.{statement}

@@ -1,3 +1,5 @@
+-- `flat::size_of` meets its contract.
+-- Assumes nothing.
 use Rattle.flat.specs.Turns.{sizeOf}
 use borrow.Author.Needs.{needs}
 use Rattle.flat.proofs.size_of.Statement.{statement}

@@ -1,3 +1,5 @@
+-- `flat::step_of` meets its contract.
+-- Assumes nothing.
 use Rattle.flat.proofs.Ways.{other-case}
 use borrow.Author.Needs.{needs}
 use Rattle.flat.specs.Turns.{stepOf}

@@ -1,3 +1,5 @@
+-- `flat::tag_of` meets its contract.
+-- Assumes nothing.
 use Rattle.flat.specs.Turns.{tagOf}
 use borrow.Author.Needs.{needs}
 use Rattle.flat.proofs.tag_of.Statement.{statement}

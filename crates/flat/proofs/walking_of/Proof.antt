@@ -1,3 +1,5 @@
+-- `flat::walking_of` meets its contract.
+-- Assumes nothing.
 use Rattle.flat.proofs.Ways.{at-case}
 use Rattle.flat.specs.Turns.{walkingOf}
 use borrow.Author.Needs.{needs}

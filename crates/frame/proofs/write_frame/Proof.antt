@@ -1,3 +1,5 @@
+-- `frame::write_frame` meets its contract.
+-- Assumes nothing.
 use Rattle.frame.proofs.Writes.{long-bytes, long-padding, no-room, wrote}
 use borrow.Author.Needs.{needs}
 use Rattle.frame.proofs.write_frame.Statement.{statement}

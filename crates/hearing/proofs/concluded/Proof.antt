@@ -1,3 +1,5 @@
+-- `hearing::concluded` meets its contract.
+-- Assumes nothing.
 use Rattle.hearing.proofs.Ways.{within-one, none-concluded, several-concluded, ok-concluded, unsupported-concluded, other-concluded}
 use borrow.Author.Needs.{needs}
 use Rattle.hearing.proofs.concluded.Statement.{statement}

@@ -1,3 +1,5 @@
+-- `hearing::one_heard` meets its contract.
+-- Assumes nothing.
 use Rattle.hearing.proofs.Ways.{heard-too-long, heard-one}
 use borrow.Author.Needs.{needs}
 use Rattle.hearing.proofs.one_heard.Statement.{statement}

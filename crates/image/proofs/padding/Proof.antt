@@ -1,3 +1,5 @@
+-- `image::padding` meets its contract.
+-- Assumes nothing.
 use Rattle.paper.specs.Answers.{padding}
 use mathlib.Core.Path.{refl}
 use borrow.Author.Needs.{needs}

@@ -1,3 +1,5 @@
+-- `image::reported` meets its contract.
+-- Assumes nothing.
 use Rattle.paper.specs.Answers.{reported}
 use Rattle.lore.proofs.Choice.{ways}
 use borrow.Author.Needs.{needs}

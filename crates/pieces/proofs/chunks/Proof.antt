@@ -1,3 +1,5 @@
+-- `pieces::chunks` meets its contract.
+-- Assumes nothing.
 use Rattle.pieces.proofs.Ways.{none-at-all, sum-fits, all-of-them}
 use borrow.Author.Needs.{needs}
 use Rattle.pieces.proofs.chunks.Statement.{statement}

@@ -1,3 +1,5 @@
+-- `pieces::chunks_to` meets its contract.
+-- Assumes nothing.
 use Rattle.pieces.proofs.Ways.{no-chunks, next-fits, so-many}
 use borrow.Author.Needs.{needs}
 use Rattle.pieces.proofs.chunks_to.Statement.{statement}

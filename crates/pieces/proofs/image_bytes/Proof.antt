@@ -1,3 +1,5 @@
+-- `pieces::image_bytes` meets its contract.
+-- Assumes nothing.
 use Rattle.pieces.proofs.Ways.{past-end, all-held, some-held}
 use borrow.Author.Needs.{needs}
 use Rattle.pieces.proofs.image_bytes.Statement.{statement}

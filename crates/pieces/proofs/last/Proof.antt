@@ -1,3 +1,5 @@
+-- `pieces::last` meets its contract.
+-- Assumes nothing.
 use Rattle.pieces.proofs.Ways.{last-is}
 use borrow.Author.Needs.{needs}
 use Rattle.pieces.proofs.last.Statement.{statement}

@@ -1,3 +1,5 @@
+-- `pieces::left` meets its contract.
+-- Assumes nothing.
 use Rattle.pieces.proofs.Ways.{padded-fits}
 use borrow.Author.Needs.{needs}
 use Rattle.pieces.proofs.left.Statement.{statement}

@@ -1,3 +1,5 @@
+-- `pieces::part` meets its contract.
+-- Assumes nothing.
 use Rattle.pieces.proofs.Ways.{part-none, part-fits, part-within, part-held}
 use borrow.Author.Needs.{needs}
 use Rattle.pieces.proofs.part.Statement.{statement}

@@ -1,3 +1,5 @@
+-- `pieces::size` meets its contract.
+-- Assumes nothing.
 use Rattle.pieces.proofs.Ways.{size-chunk, size-rest}
 use borrow.Author.Needs.{needs}
 use Rattle.pieces.proofs.size.Statement.{statement}

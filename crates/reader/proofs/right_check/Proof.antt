@@ -1,3 +1,5 @@
+-- `reader::right_check` meets its contract.
+-- Assumes nothing.
 use native.Mathlib.Omega.{arith}
 use lib.ListN.{length-take}
 use Rattle.reader.proofs.Ways.{checked}

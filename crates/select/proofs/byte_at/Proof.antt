@@ -1,3 +1,5 @@
+-- `select::byte_at` meets its contract.
+-- Assumes nothing.
 use Rattle.lore.proofs.Choice.{ways}
 use Rattle.select.specs.Selects.{byteAt}
 use borrow.Author.Needs.{needs}

@@ -1,3 +1,5 @@
+-- `select::lowest` meets its contract.
+-- Assumes nothing.
 use Rattle.lore.proofs.Choice.{ways}
 use Rattle.select.specs.Selects.{lowest}
 use Rattle.select.proofs.Ways.{whole-byte}

@@ -1,3 +1,5 @@
+-- `select::put_pair` meets its contract.
+-- Assumes nothing.
 use mathlib.Core.List.{[], _∷_}
 use lib.Seq.{sets-eq}
 use lib.ListN.{length-set}

@@ -1,3 +1,5 @@
+-- `state::load` meets its contract.
+-- Assumes nothing.
 use Rattle.state.proofs.Ways.{client-loaded}
 use borrow.Author.Needs.{needs}
 use Rattle.state.proofs.load.Statement.{statement}

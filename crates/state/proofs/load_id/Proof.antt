@@ -1,3 +1,5 @@
+-- `state::load_id` meets its contract.
+-- Assumes nothing.
 use Rattle.state.proofs.Ways.{id-loaded}
 use borrow.Author.Needs.{needs}
 use Rattle.state.proofs.load_id.Statement.{statement}

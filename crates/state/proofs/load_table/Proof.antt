@@ -1,3 +1,5 @@
+-- `state::load_table` meets its contract.
+-- Assumes nothing.
 use Rattle.state.proofs.Ways.{table-loaded}
 use borrow.Author.Needs.{needs}
 use Rattle.state.proofs.load_table.Statement.{statement}

@@ -1,3 +1,5 @@
+-- `state::load_walk` meets its contract.
+-- Assumes nothing.
 use Rattle.state.proofs.Ways.{walk-loaded}
 use borrow.Author.Needs.{needs}
 use Rattle.state.proofs.load_walk.Statement.{statement}

@@ -1,3 +1,5 @@
+-- `state::save` meets its contract.
+-- Assumes nothing.
 use Rattle.state.proofs.Ways.{put-client}
 use borrow.Author.Needs.{needs}
 use Rattle.state.proofs.save.Statement.{statement}

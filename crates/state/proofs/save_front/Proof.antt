@@ -1,3 +1,5 @@
+-- `state::save_front` meets its contract.
+-- Assumes nothing.
 use Rattle.state.proofs.Ways.{put-front, front-length}
 use borrow.Author.Needs.{needs}
 use Rattle.state.proofs.save_front.Statement.{statement}

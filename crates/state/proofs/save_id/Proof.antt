@@ -1,3 +1,5 @@
+-- `state::save_id` meets its contract.
+-- Assumes nothing.
 use Rattle.state.proofs.Ways.{put-id, id-length}
 use borrow.Author.Needs.{needs}
 use Rattle.state.proofs.save_id.Statement.{statement}

@@ -1,3 +1,5 @@
+-- `state::save_table` meets its contract.
+-- Assumes nothing.
 use Rattle.state.proofs.Ways.{put-table, table-length}
 use borrow.Author.Needs.{needs}
 use Rattle.state.proofs.save_table.Statement.{statement}

@@ -1,3 +1,5 @@
+-- `state::save_walk` meets its contract.
+-- Assumes nothing.
 use Rattle.state.proofs.Ways.{put-walk, walk-length}
 use borrow.Author.Needs.{needs}
 use Rattle.state.proofs.save_walk.Statement.{statement}

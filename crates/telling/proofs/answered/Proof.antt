@@ -1,3 +1,5 @@
+-- `telling::answered` meets its contract.
+-- Assumes nothing.
 use Rattle.telling.proofs.Ways.{answered-select, answered-demand, answered-leave}
 use borrow.Author.Needs.{needs}
 use Rattle.telling.proofs.answered.Statement.{statement}

@@ -1,3 +1,5 @@
+-- `telling::attaches` meets its contract.
+-- Assumes nothing.
 use Rattle.telling.proofs.Ways.{attaches-is}
 use borrow.Author.Needs.{needs}
 use Rattle.telling.proofs.attaches.Statement.{statement}

@@ -1,3 +1,5 @@
+-- `telling::backed` meets its contract.
+-- Assumes nothing.
 use Rattle.telling.proofs.Ways.{backed-given, backed-none}
 use borrow.Author.Needs.{needs}
 use Rattle.telling.proofs.backed.Statement.{statement}

@@ -1,3 +1,5 @@
+-- `telling::hears` meets its contract.
+-- Assumes nothing.
 use Rattle.telling.proofs.Ways.{hears-probing, hears-parting, hears-seeking, hears-backing, hears-walking}
 use borrow.Author.Needs.{needs}
 use Rattle.telling.proofs.hears.Statement.{statement}

@@ -1,3 +1,5 @@
+-- `telling::link_failed` meets its contract.
+-- Assumes nothing.
 use Rattle.telling.proofs.Ways.{failed-idle, failed-ready, failed-out}
 use borrow.Author.Needs.{needs}
 use Rattle.telling.proofs.link_failed.Statement.{statement}

@@ -1,3 +1,5 @@
+-- `telling::met` meets its contract.
+-- Assumes nothing.
 use Rattle.telling.proofs.Ways.{met-nothing-given, met-nothing, met-one, met-long, met-unaddressed-given, met-unaddressed, met-garble}
 use borrow.Author.Needs.{needs}
 use Rattle.telling.proofs.met.Statement.{statement}

@@ -1,3 +1,5 @@
+-- `telling::probed` meets its contract.
+-- Assumes nothing.
 use Rattle.telling.proofs.Ways.{probed-long, probed-heard}
 use borrow.Author.Needs.{needs}
 use Rattle.telling.proofs.probed.Statement.{statement}

@@ -1,3 +1,5 @@
+-- `telling::record` meets its contract.
+-- Assumes nothing.
 use Rattle.telling.proofs.Ways.{record-other, record-idle, record-ready, record-heard}
 use borrow.Author.Needs.{needs}
 use Rattle.telling.proofs.record.Statement.{statement}

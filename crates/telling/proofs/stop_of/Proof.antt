@@ -1,3 +1,5 @@
+-- `telling::stop_of` meets its contract.
+-- Assumes nothing.
 use borrow.Author.Needs.{needs}
 use Rattle.telling.proofs.Ways.{stop-12, stop-14, stop-15, stop-23}
 use Rattle.telling.proofs.stop_of.Statement.{statement}

@@ -1,3 +1,5 @@
+-- `telling::walked` meets its contract.
+-- Assumes nothing.
 use Rattle.telling.proofs.Ways.{walked-on, walked-done, walked-stopped}
 use borrow.Author.Needs.{needs}
 use Rattle.telling.proofs.walked.Statement.{statement}

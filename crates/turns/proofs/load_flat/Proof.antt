@@ -1,3 +1,5 @@
+-- `turns::load_flat` meets its contract.
+-- Assumes nothing.
 use Rattle.turns.proofs.Ways.{flat-loaded}
 use borrow.Author.Needs.{needs}
 use Rattle.turns.proofs.load_flat.Statement.{statement}

@@ -1,3 +1,5 @@
+-- `turns::load_info` meets its contract.
+-- Assumes nothing.
 use Rattle.turns.proofs.Ways.{info-loaded}
 use borrow.Author.Needs.{needs}
 use Rattle.turns.proofs.load_info.Statement.{statement}

@@ -1,3 +1,5 @@
+-- `turns::load_reset` meets its contract.
+-- Assumes nothing.
 use Rattle.turns.specs.Flats.{loadedReset}
 use borrow.Author.Needs.{needs}
 use Rattle.turns.proofs.load_reset.Statement.{statement}

@@ -1,3 +1,5 @@
+-- `turns::save_flat` meets its contract.
+-- Assumes nothing.
 use Rattle.turns.proofs.Ways.{put-flat}
 use borrow.Author.Needs.{needs}
 use Rattle.turns.proofs.save_flat.Statement.{statement}

@@ -1,3 +1,5 @@
+-- `turns::save_geometry` meets its contract.
+-- Assumes nothing.
 use Rattle.turns.proofs.Ways.{put-geometry}
 use borrow.Author.Needs.{needs}
 use Rattle.turns.proofs.save_geometry.Statement.{statement}

@@ -1,3 +1,5 @@
+-- `turns::save_info` meets its contract.
+-- Assumes nothing.
 use Rattle.turns.proofs.Ways.{put-info}
 use borrow.Author.Needs.{needs}
 use Rattle.turns.proofs.save_info.Statement.{statement}

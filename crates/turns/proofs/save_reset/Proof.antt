@@ -1,3 +1,5 @@
+-- `turns::save_reset` meets its contract.
+-- Assumes nothing.
 use Rattle.turns.proofs.Ways.{put-reset}
 use borrow.Author.Needs.{needs}
 use Rattle.turns.proofs.save_reset.Statement.{statement}

@@ -1,3 +1,5 @@
+-- `turns::save_tags` meets its contract.
+-- Assumes nothing.
 use Rattle.turns.proofs.Ways.{put-tags}
 use borrow.Author.Needs.{needs}
 use Rattle.turns.proofs.save_tags.Statement.{statement}

@@ -1,3 +1,5 @@
+-- `turns::save_work` meets its contract.
+-- Assumes nothing.
 use Rattle.turns.proofs.Ways.{put-work}
 use borrow.Author.Needs.{needs}
 use Rattle.turns.proofs.save_work.Statement.{statement}

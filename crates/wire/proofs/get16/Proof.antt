@@ -1,3 +1,5 @@
+-- `wire::get16` meets its contract.
+-- Assumes nothing.
 use Rattle.lore.proofs.Words.{field-2}
 use borrow.Author.Needs.{needs}
 use Rattle.wire.proofs.get16.Statement.{statement}

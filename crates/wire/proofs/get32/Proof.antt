@@ -1,3 +1,5 @@
+-- `wire::get32` meets its contract.
+-- Assumes nothing.
 use Rattle.lore.proofs.Words.{field-4}
 use borrow.Author.Needs.{needs}
 use Rattle.wire.proofs.get32.Statement.{statement}

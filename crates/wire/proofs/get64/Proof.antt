@@ -1,3 +1,5 @@
+-- `wire::get64` meets its contract.
+-- Assumes nothing.
 use Rattle.lore.proofs.Words.{field-8}
 use borrow.Author.Needs.{needs}
 use Rattle.wire.proofs.get64.Statement.{statement}

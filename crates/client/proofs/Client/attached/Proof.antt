@@ -1,3 +1,5 @@
+-- `client::Client::attached` meets its contract.
+-- Assumes nothing.
 use borrow.Author.Needs.{needs}
 use Rattle.client.proofs.Ways.{attached-is}
 use Rattle.client.proofs.Client.attached.Statement.{statement}

@@ -1,3 +1,5 @@
+-- `client::Client::cleared` meets its contract.
+-- Assumes nothing.
 use Rattle.client.proofs.Ways.{cleared-is}
 use borrow.Author.Needs.{needs}
 use Rattle.client.proofs.Client.cleared.Statement.{statement}

@@ -1,3 +1,5 @@
+-- `client::Client::idle` meets its contract.
+-- Assumes nothing.
 use Rattle.client.proofs.Ways.{idle-is}
 use borrow.Author.Needs.{needs}
 use Rattle.client.proofs.Client.idle.Statement.{statement}

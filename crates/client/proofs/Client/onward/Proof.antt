@@ -1,3 +1,5 @@
+-- `client::Client::onward` meets its contract.
+-- Assumes nothing.
 use Rattle.client.proofs.Ways.{onward-is}
 use borrow.Author.Needs.{needs}
 use Rattle.client.proofs.Client.onward.Statement.{statement}

@@ -1,3 +1,5 @@
+-- `client::Client::over` meets its contract.
+-- Assumes nothing.
 use Rattle.client.proofs.Ways.{over-is}
 use borrow.Author.Needs.{needs}
 use Rattle.client.proofs.Client.over.Statement.{statement}

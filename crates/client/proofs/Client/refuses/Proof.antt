@@ -1,3 +1,5 @@
+-- `client::Client::refuses` meets its contract.
+-- Assumes nothing.
 use Rattle.client.proofs.Ways.{refuses-is}
 use borrow.Author.Needs.{needs}
 use Rattle.client.proofs.Client.refuses.Statement.{statement}

@@ -1,3 +1,5 @@
+-- `client::Client::stops` meets its contract.
+-- Assumes nothing.
 use Rattle.client.proofs.Ways.{stops-is}
 use borrow.Author.Needs.{needs}
 use Rattle.client.proofs.Client.stops.Statement.{statement}
