@@ -1,6 +1,6 @@
-"""The documents name what is there: each theorem, contract, file and must-fail edit that docs/ cites exists, and each edit is cited.
+"""The documents name what is there: each theorem, file and wrong version that docs/ cites exists, and README counts the lines right.
 
-A theorem is cited as `file.antt: name` in docs/THEOREMS.md; an edit as `crate/label` in docs/CONTRACTS.md.
+A theorem is cited as `file.antt: name` in docs/THEOREMS.md; a wrong version as `crate/label`.
 """
 import pathlib
 import re
@@ -21,15 +21,20 @@ for path, names in cited:
         if not re.search(rf"^\s*(?:abbrev |unfoldable )?pub (?:record |data )?{re.escape(name)}\b", text, re.M):
             bad.append(f"THEOREMS.md: {path} has no public {name}")
 
-contracts = (root / "docs/CONTRACTS.md").read_text()
-edits = {f"{e.parent.parent.name}/{e.stem}" for e in root.glob("crates/*/must-fail/*.edit")}
-named = set(re.findall(r"`(\w+/\w+)`", contracts))
+wrong = {f"{e.parent.parent.name}/{label}" for e in root.glob("crates/*/must-fail/*.edit") for label in re.findall(r"(?m)^wrong: (.*)$", e.read_text())}
 crates = {c.name for c in (root / "crates").iterdir()}
-for edit in sorted(named - edits):
-    if edit.split("/")[0] in crates:
-        bad.append(f"CONTRACTS.md: no edit {edit}")
-for edit in sorted(edits - named):
-    bad.append(f"CONTRACTS.md does not name {edit}")
+for doc in sorted(root.glob("docs/*.md")):
+    for label in re.findall(r"`(\w+/\w+)`", doc.read_text()):
+        if label.split("/")[0] in crates and label not in wrong:
+            bad.append(f"{doc.name}: no wrong version {label}")
+
+readme = (root / "README.md").read_text()
+for path, count in re.findall(r"`([\w/.]+)` \(([\d,]+) lines\)", readme):
+    file = root / path
+    files = file.glob("*.antt") if file.is_dir() else [file]
+    lines = sum(len(f.read_text().splitlines()) for f in files)
+    if lines != int(count.replace(",", "")):
+        bad.append(f"README.md: {path} has {lines:,} lines")
 
 for doc in root.glob("docs/*.md"):
     for path in re.findall(r"`((?:crates|tests|docs)/[\w/.]+\.\w+)`", doc.read_text()):
@@ -38,5 +43,5 @@ for doc in root.glob("docs/*.md"):
 
 for line in bad:
     print(line)
-print(f"{len(cited)} citations of theorems, {len(edits)} edits, {len(bad)} faults")
+print(f"{len(cited)} citations of theorems, {len(wrong)} wrong versions, {len(bad)} faults")
 sys.exit(1 if bad or not cited else 0)
