@@ -8,25 +8,25 @@ use lib.Dec.{leb, ltb, eqb}
 use lib.ListN.{length, drop}
 use Rattle.paper.specs.Frame.{field, Frame, size, most, onReading, read, status-Request, status-Ok, status-CrcMismatch, Info, infoOf, unset}
 
--- "Read frames, skipping every frame of status Request, even with a bad check, to the first other one. Short or too long, of any status:
--- 1. Bad check: 2 with status 3. Status other than Ok: 2 with it."
-
+-- "Status other than Ok: 2 with it": the payload that came with Ok, or the status.
 pub data Reply : Type 0 where
   ok : List ℕ → Reply
   device : ℕ → Reply
 
--- No frame answers; or one does, and the unread rest begins at a place.
+-- "to the first other one": no frame answers; or one does, and the unread rest begins at a place.
 pub data Answer : Type 0 where
   lost : Answer
   answered : Reply → ℕ → Answer
 
+-- "Status other than Ok: 2 with it."
 abbrev pub replyOf : Frame → Reply
 replyOf f = cond (eqb (f .status) status-Ok) (ok (f .payload)) (device (f .status))
 
+-- "skipping every frame of status Request, even with a bad check".
 abbrev pub unlessEcho : Frame → Answer → Answer → Answer
 unlessEcho f more this = cond (eqb (f .status) status-Request) more this
 
--- From a place on, within n frames.
+-- "Short or too long, of any status: 1. Bad check: 2 with status 3. Status other than Ok: 2 with it": from a place on, within n frames.
 unfoldable pub answerFrom : ℕ → ℕ → List ℕ → Answer
 answerFrom zero at bytes = lost
 answerFrom (suc n) at bytes =
@@ -34,6 +34,7 @@ answerFrom (suc n) at bytes =
     (λ k f. unlessEcho f (answerFrom n (at + (k + size f)) bytes) (answered (device status-CrcMismatch) (at + (k + size f))))
     (λ k f. unlessEcho f (answerFrom n (at + (k + size f)) bytes) (answered (replyOf f) (at + (k + size f))))
 
+-- "Read frames, skipping every frame of status Request, even with a bad check, to the first other one."
 unfoldable pub answer : List ℕ → Answer
 answer bytes = answerFrom (length bytes) 0 bytes
 
@@ -41,14 +42,15 @@ answer bytes = answerFrom (length bytes) 0 bytes
 abbrev pub rest : List ℕ → ℕ → List ℕ
 rest bytes at = drop at bytes
 
--- "Info: payload under 18, or erase_size 0, capacity 0, or max_payload under 4: 5."
+-- Of the next: all but the payload's length.
 unfoldable pub sound : Info → Bool
 sound info = ltb 0 (info .eraseSize) && (ltb 0 (info .capacity) && leb 4 (info .maxPayload))
 
+-- "Info: payload under 18, or erase_size 0, capacity 0, or max_payload under 4: 5": none then.
 unfoldable pub informed : List ℕ → Option Info
 informed payload = cond (leb 18 (length payload) && sound (infoOf payload)) (some (infoOf payload)) none
 
--- How many steps of e cover c.
+-- Of the next: how many steps of e cover c.
 unfoldable pub steps : ℕ → ℕ → ℕ
 steps e c = (c + (e - 1)) / e
 
@@ -56,12 +58,12 @@ steps e c = (c + (e - 1)) / e
 unfoldable pub spansTooFar : Info → Bool
 spansTooFar info = ltb 0xFFFFFFFF (steps (info .eraseSize) (info .capacity) * info .eraseSize)
 
--- k numbers from a on, e apart.
+-- Of the next: k numbers from a on, e apart.
 unfoldable pub apart : ℕ → ℕ → ℕ → List ℕ
 apart e zero a = []
 apart e (suc k) a = a ∷ apart e k (a + e)
 
--- a, a + e, a + 2e .. below c.
+-- Of the next: a, a + e, a + 2e .. below c.
 unfoldable pub below : ℕ → ℕ → ℕ → List ℕ
 below e c a = apart e (steps e (c - a)) a
 
@@ -73,10 +75,11 @@ eraseAddresses info = below (info .eraseSize) (info .capacity) 0
 abbrev pub eraseProgress : Info → ℕ → ℕ
 eraseProgress info address = address + info .eraseSize
 
--- "3 if the image exceeds capacity (lengths from 2^32 on report 4,294,967,295)".
+-- "3 if the image exceeds capacity".
 unfoldable pub tooLarge : Info → ℕ → Bool
 tooLarge info n = ltb (info .capacity) n
 
+-- "lengths from 2^32 on report 4,294,967,295".
 unfoldable pub reported : ℕ → ℕ
 reported n = cond (leb n 0xFFFFFFFF) n 0xFFFFFFFF
 
@@ -84,6 +87,7 @@ reported n = cond (leb n 0xFFFFFFFF) n 0xFFFFFFFF
 unfoldable pub key : List ℕ → Option ℕ
 key image = cond (leb 6 (length image) && eqb (length image % 4) 2) (some (field (length image - 6) 4 image)) none
 
+-- Of the next: whether there is a key, and it is the device's.
 abbrev pub sameKey : ℕ → Option ℕ → Bool
 sameKey compat none = false
 sameKey compat (some k) = eqb k compat
@@ -96,9 +100,10 @@ incompatible info image = not (eqb (info .compat) unset) && not (sameKey (info .
 unfoldable pub chunk : ℕ → ℕ
 chunk maxPayload = cond (leb maxPayload most) maxPayload most / 4 * 4
 
--- "The image is padded with FF to a multiple of 4."
+-- "The image is padded with FF to a multiple of 4": by so many.
 unfoldable pub padding : ℕ → ℕ
 padding n = (4 - n % 4) % 4
 
+-- "the padded length".
 abbrev pub padded : ℕ → ℕ
 padded n = n + padding n

@@ -7,21 +7,21 @@ use Rattle.paper.specs.Walk as Walk
 use Rattle.paper.specs.Walk.{nobody}
 use Rattle.paper.specs.Talk.{Ask, select, Talk, return, stop, ask, _>>=_, _>>_, walking, Outcome, quiet, heard, attached, found}
 
--- "An id over 16 bytes gives refusal 14."
+-- "An id over 16 bytes gives refusal 14": a Select, and what it hears.
 unfoldable pub listen : Prefix → Talk Heard
 listen p = walking (Walk.ask p)
 
--- The plain select succeeds with what it heard.
+-- "The plain select", of these bits: it succeeds with what it heard.
 unfoldable pub selectOnly : Prefix → Talk Outcome
 selectOnly p = do
   h ← listen p
   return (heard h)
 
--- "Deselect is a Select of 129 zero bits"; its record is ignored.
+-- "Deselect is a Select of 129 zero bits"; "a deselect, whose record is ignored".
 unfoldable pub deselect : Talk Outcome
 deselect = ask (select nobody) (λ _. return quiet)
 
--- "Select the prefix (empty if none given)."
+-- "the prefix (empty if none given)".
 abbrev pub prefixOf : Option Id → Prefix
 prefixOf uid = onSome uid [] bitsOf
 
@@ -35,12 +35,13 @@ met uid garble = do
   deselect
   onSome uid (stop 8 []) (λ given. stop 10 given)
 
+-- "Select the prefix"; "A given empty prefix counts as given."
 unfoldable pub attach : Option Id → Talk Outcome
 attach uid = do
   h ← listen (prefixOf uid)
   met uid h
 
--- Discovery under a prefix of whole bytes.
+-- "The walk", under a prefix of whole bytes.
 unfoldable pub discover : Id → Talk Outcome
 discover given = do
   ids ← walking (Walk.discover (bitsOf given))

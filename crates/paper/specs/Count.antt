@@ -9,30 +9,32 @@ use lib.ListN.{length, take}
 use Rattle.paper.specs.Hearing.{Id, Prefix, bitsOf, matches, Heard, nothing, one, garble}
 use Rattle.paper.specs.Walk.{_▹_, Wire}
 
--- The ids that match a prefix, in their order.
+-- "ids matching the given prefix": in their order.
 unfoldable pub matching : Prefix → List Id → List Id
 matching q [] = []
 matching q (x ∷ xs) = cond (matches q x) (x ∷ matching q xs) (matching q xs)
 
--- The honest wire of some ids: silence, the one id that matches, or garble.
+-- Of the next: silence, the one id, or garble.
 unfoldable pub heardOf : List Id → Heard
 heardOf [] = nothing
 heardOf (x ∷ []) = one x
 heardOf (x ∷ y ∷ zs) = garble
 
+-- "an honest wire": it is heard as the ids that match the prefix asked.
 unfoldable pub honest : List Id → Wire
 honest ids k q = heardOf (matching q ids)
 
--- P holds of every member.
+-- Of the next: P holds of every member.
 abbrev pub All : {A : Type 0} → (A → Type 0) → List A → Type 0
 All P [] = Unit {0}
 All P (x ∷ xs) = P x × All P xs
 
+-- "distinct".
 abbrev pub Distinct : List Id → Type 0
 Distinct [] = Unit {0}
 Distinct (x ∷ xs) = All (λ y. ¬ (x ≡ y)) xs × Distinct xs
 
--- At most 64 distinct ids, each of L bytes, L at most 16.
+-- "ids matching the given prefix are distinct and of equal length", L bytes; "ids to 16 bytes, at most 64 ids".
 pub record Pods (L : ℕ) (ids : List Id) : Type 0 where
   pub few : length ids ≤ 64
   pub distinct : Distinct ids
@@ -40,21 +42,22 @@ pub record Pods (L : ℕ) (ids : List Id) : Type 0 where
   pub bytes : All (λ id. All (λ b. b < 256) id) ids
   pub short : L ≤ 16
 
--- How many of the ids match a prefix.
+-- "that several ids match": how many match.
 abbrev pub count : List Id → Prefix → ℕ
 count ids q = length (matching q ids)
 
--- Some number below n passes the test.
+-- "under some prefix": some number below n passes the test.
 unfoldable pub some : ℕ → (ℕ → Bool) → Bool
 some zero test = false
 some (suc n) test = test n || some n test
 
--- The sum of f over a list.
+-- "plus 2 for each id": the sum of f over a list.
 unfoldable pub sumOver : (Id → ℕ) → List Id → ℕ
 sumOver f [] = 0
 sumOver f (x ∷ xs) = f x + sumOver f xs
 
--- The sum of f over every prefix that extends q by fewer than d bits, q itself among them.
+-- "plus for every prefix of p bits or more that extends the given one": the sum of f over those that extend q by fewer than d bits, q
+-- itself among them.
 unfoldable pub sumUnder : ℕ → Prefix → (Prefix → ℕ) → ℕ
 sumUnder zero q f = 0
 sumUnder (suc d) q f = f q + (sumUnder d (q ▹ false) f + sumUnder d (q ▹ true) f)
@@ -63,15 +66,15 @@ sumUnder (suc d) q f = f q + (sumUnder d (q ▹ false) f + sumUnder d (q ▹ tru
 unfoldable pub alone : List Id → ℕ → ℕ → Id → ℕ
 alone ids p n x = cond (some (n - p) (λ i. eqb (count ids (take (p + i) (bitsOf x))) 1)) 2 0
 
--- "for every prefix .. that several ids match: 2 if some id matches its zero child, else 1."
+-- "that several ids match: 2 if some id matches its zero child, else 1."
 unfoldable pub forked : List Id → Prefix → ℕ
 forked ids q = cond (ltb 1 (count ids q)) (cond (ltb 0 (count ids (q ▹ false))) 2 1) 0
 
--- "2, plus 2 for each id .. plus for every prefix of p bits or more that extends the given one ..". A prefix of more than 128 bits matches no id.
+-- "Count for an honest wire .. 2, plus 2 for each id .. plus for every prefix". A prefix of more than 128 bits matches no id.
 unfoldable pub selects : List Id → ℕ → Prefix → ℕ
 selects ids L prefix =
     2 + (sumOver (alone ids (length prefix) (8 * L)) (matching prefix ids) + sumUnder (129 - length prefix) prefix (forked ids))
 
--- "ends after at most 132 + 260 × (128 − p) Selects" (condition 3).
+-- "the bare bound" (of "Holding the contracts to account") on the Selects of a discovery: condition 3's number.
 abbrev pub limit : Prefix → ℕ
 limit prefix = 132 + 260 * (128 - length prefix)

@@ -13,13 +13,15 @@ use Rattle.paper.specs.Talk.{these, piece, Demand, demand, leave, Talk, 
 
 -- The requests.
 
+-- Of the next: a request with these bytes for its payload.
 abbrev pub plain : ℕ → ℕ → ℕ → List ℕ → Demand
 plain command flags address bytes = record { command = command; flags = flags; address = address; payload = these bytes }
 
+-- "Info payload": the request for it. Here and below, addresses and flags that document 01 leaves open are the Rust's.
 abbrev pub infoRequest : Demand
 infoRequest = plain command-Info 0 0 []
 
--- "payload e as 2 bytes".
+-- "addresses 0, e, 2e... below capacity, payload e as 2 bytes".
 abbrev pub eraseRequest : Info → ℕ → Demand
 eraseRequest info address = plain command-Erase 0 address (le 2 (info .eraseSize))
 
@@ -31,7 +33,7 @@ writeSize info n offset = cond (leb (chunk (info .maxPayload)) (padded n - offse
 abbrev pub writeFlags : Info → ℕ → ℕ → ℕ
 writeFlags info n offset = cond (leb (padded n) (offset + chunk (info .maxPayload))) flag-FLUSH 0
 
--- "each Write carries the image from its offset on", for an image of n bytes.
+-- "each Write carries the image from its offset on": of an image of n bytes.
 abbrev pub writeRequest : Info → ℕ → ℕ → Demand
 writeRequest info n offset =
     record { command = command-Write; flags = writeFlags info n offset; address = offset; payload = piece offset (writeSize info n offset) }
@@ -40,33 +42,37 @@ writeRequest info n offset =
 abbrev pub verifyRequest : ℕ → Demand
 verifyRequest n = plain command-Verify 0 n []
 
--- "Reset: address is the baud or 0, BAUD set if one was given."
+-- "Flags: .. BOOTLOADER 1, BAUD 2."; "BAUD set if one was given".
 unfoldable pub resetFlags : Bool → Option ℕ → ℕ
 resetFlags bootloader baud = cond bootloader flag-BOOTLOADER 0 + onSome baud 0 (λ given. flag-BAUD)
 
+-- "Reset: address is the baud or 0, BAUD set if one was given."
 abbrev pub resetRequest : Bool → Option ℕ → Demand
 resetRequest bootloader baud = plain command-Reset (resetFlags bootloader baud) (onSome baud 0 (λ given. given)) []
 
 -- The conversations.
 
--- "Status other than Ok: 2 with it." Else the answer's payload, and the image lent with it.
+-- "Status other than Ok: 2 with it": else the answer's payload, and the image lent with it.
 unfoldable pub accepted : Reply → List ℕ → Talk (List ℕ × List ℕ)
 accepted (ok payload) image = return (payload, image)
 accepted (device status) image = stop 2 (status ∷ [])
 
+-- "Requests with one answer": one of them, and its answer.
 unfoldable pub transact : Demand → Talk (List ℕ × List ℕ)
 transact d = ask (demand d) (λ a. accepted (a .reply) (a .image))
 
--- On if the test does not hold, else a refusal.
+-- "Requests with one answer": a refusal where the test holds, else on.
 unfoldable pub unless : Bool → ℕ → List ℕ → Talk (Unit {0})
 unless true n carries = stop n carries
 unless false n carries = return tt
 
+-- "Info: payload under 18, or erase_size 0, capacity 0, or max_payload under 4: 5."
 unfoldable pub inform : Talk (Info × List ℕ)
 inform = do
   (payload, image) ← transact infoRequest
   onSome (informed payload) (stop 5 []) (λ info. return (info, image))
 
+-- "payload e as 2 bytes; progress is the address plus e, uncut": one Erase.
 unfoldable pub eraseOne : Info → ℕ → Talk (Unit {0})
 eraseOne info address = do
   transact (eraseRequest info address)
@@ -78,11 +84,11 @@ eraseAll info = do
   unless (spansTooFar info) 19 []
   each (eraseAddresses info) (eraseOne info)
 
--- Both keys, or the device's alone.
+-- "both keys": the device's, then the image's, or the device's alone where that is missing.
 abbrev pub keys : Info → List ℕ → List ℕ
 keys info image = info .compat ∷ onSome (key image) [] (λ k. k ∷ [])
 
--- "3 if the image exceeds capacity ..; 6 if compat is set and the image's key is missing or different; 19; all Erases".
+-- "Info; 3 if the image exceeds capacity .. 6 if compat is set and the image's key is missing or different; 19; all Erases".
 unfoldable pub prepare : ℕ → Talk Info
 prepare n = do
   (info, image) ← inform
@@ -91,33 +97,36 @@ prepare n = do
   eraseAll info
   return info
 
--- "Status 3 repeats the same Write; the 17th in a row for one offset gives 17."
+-- Of the next: "Status 3 repeats the same Write", another ends it.
 unfoldable pub repeated : Reply → Talk (Unit {0}) → Talk (Unit {0})
 repeated (ok payload) again = return tt
 repeated (device status) again = cond (eqb status status-CrcMismatch) again (stop 2 (status ∷ []))
 
+-- "Status 3 repeats the same Write; the 17th in a row for one offset gives 17": a request that may go out so many times.
 unfoldable pub persist : ℕ → Demand → Talk (Unit {0})
 persist zero d = stop 17 []
 persist (suc times) d = ask (demand d) (λ a. repeated (a .reply) (persist times d))
 
--- "Write progress: chunks answered Ok, and their total."
+-- "Write progress: chunks answered Ok, and their total": one Write, which may go out so many times.
 unfoldable pub writeWithin : ℕ → Info → ℕ → ℕ → Talk (Unit {0})
 writeWithin times info n offset = do
   persist times (writeRequest info n offset)
   report (offset / chunk (info .maxPayload) + 1) (steps (chunk (info .maxPayload)) (padded n)) (return tt)
 
+-- "the 17th in a row for one offset gives 17".
 abbrev pub writeOne : Info → ℕ → ℕ → Talk (Unit {0})
 writeOne info n offset = writeWithin 17 info n offset
 
--- The offsets of the Writes.
+-- "each Write's address": for all of them.
 unfoldable pub offsets : Info → ℕ → List ℕ
 offsets info n = below (chunk (info .maxPayload)) (padded n) 0
 
+-- "all Erases; Writes; Verify": all Writes.
 unfoldable pub writeAll : Info → ℕ → Talk (Unit {0})
 writeAll info n = each (offsets info n) (writeOne info n)
 
--- "its reply's first two bytes are the check, else 4; under two bytes is 18"; "the check expected is that of the image lent with the Verify
--- reply".
+-- "the check expected is that of the image lent with the Verify reply"; "its reply's first two bytes are the check, else 4; under two
+-- bytes is 18".
 unfoldable pub verify : ℕ → Talk (Unit {0})
 verify n = do
   (payload, image) ← transact (verifyRequest n)
@@ -126,21 +135,24 @@ verify n = do
 
 -- The operations.
 
+-- Of the next: success with the device information.
 abbrev pub known : Info → Talk Outcome
 known info = return (knows info)
 
+-- "Requests with one answer": Info as an operation.
 unfoldable pub informOnly : Talk Outcome
 informOnly = do
   (info, image) ← inform
   known info
 
+-- "Erase: Info, then 19, then addresses 0, e, 2e... below capacity".
 unfoldable pub erase : Talk Outcome
 erase = do
   (info, image) ← inform
   eraseAll info
   known info
 
--- "Flash, in order: Info; ..; all Erases; Writes; Verify", of an image of n bytes.
+-- "Flash, in order: Info .. all Erases; Writes; Verify": of an image of n bytes.
 unfoldable pub flash : ℕ → Talk Outcome
 flash n = do
   info ← prepare n

@@ -1,4 +1,4 @@
--- Document 01, "Bench frame": numbers in bytes, the check, how a frame is written, and how one is read.
+-- Document 01, "Bench frame": numbers in bytes, how a frame is written, its check, how a frame is read, and the Info payload.
 -- Assumes nothing.
 use Prim.Native.Nat.{ℕ, zero, suc, _+_, _*_, _/_, _%_}
 use mathlib.Core.Bool.{Bool, cond}
@@ -7,86 +7,25 @@ use lib.Bits.{bitXor}
 use lib.Dec.{ltb, eqb}
 use lib.ListN.{length, getD, take, drop}
 
--- "Numbers are little-endian."
-
--- x in k bytes.
+-- "Numbers are little-endian": x in k bytes.
 unfoldable pub le : ℕ → ℕ → List ℕ
 le zero x = []
 le (suc k) x = x % 256 ∷ le k (x / 256)
 
--- The number that bytes hold.
+-- "Numbers are little-endian": the number that bytes hold.
 unfoldable pub number : List ℕ → ℕ
 number [] = 0
 number (b ∷ bs) = b + 256 * number bs
 
+-- "Bench frame": the byte at a place, 0 past the end.
 abbrev pub byte : ℕ → List ℕ → ℕ
 byte at bytes = getD bytes at 0
 
--- The number in k bytes from a place on.
+-- "Numbers are little-endian": the number in k bytes from a place on.
 abbrev pub field : ℕ → ℕ → List ℕ → ℕ
 field at k bytes = number (take k (drop at bytes))
 
--- "The check is CRC-16/IBM-3740 of the public CRC catalogue: polynomial 1021, start FFFF, no reflection, no final change."
-
--- One bit: the register shifts left, and where a 1 was shifted out the polynomial is added.
-unfoldable pub crcBit : ℕ → ℕ
-crcBit c = cond (ltb c 0x8000) (c * 2) (bitXor (c * 2 % 0x10000) 0x1021)
-
--- One byte enters at the top, and eight bits are shifted.
-unfoldable pub crcByte : ℕ → ℕ → ℕ
-crcByte c b = crcBit (crcBit (crcBit (crcBit (crcBit (crcBit (crcBit (crcBit (bitXor c (b * 256)))))))))
-
-unfoldable pub crcFrom : ℕ → List ℕ → ℕ
-crcFrom c [] = c
-crcFrom c (b ∷ bs) = crcFrom (crcByte c b) bs
-
-unfoldable pub check : List ℕ → ℕ
-check bytes = crcFrom 0xFFFF bytes
-
--- "Commands .. Statuses .. Flags .."
-
-abbrev pub command-Info : ℕ
-command-Info = 0
-
-abbrev pub command-Erase : ℕ
-command-Erase = 1
-
-abbrev pub command-Write : ℕ
-command-Write = 2
-
-abbrev pub command-Verify : ℕ
-command-Verify = 3
-
-abbrev pub command-Reset : ℕ
-command-Reset = 4
-
-abbrev pub command-Select : ℕ
-command-Select = 5
-
-abbrev pub status-Request : ℕ
-status-Request = 0
-
-abbrev pub status-Ok : ℕ
-status-Ok = 1
-
-abbrev pub status-Unsupported : ℕ
-status-Unsupported = 2
-
-abbrev pub status-CrcMismatch : ℕ
-status-CrcMismatch = 3
-
-abbrev pub flag-FLUSH : ℕ
-flag-FLUSH = 1
-
-abbrev pub flag-BOOTLOADER : ℕ
-flag-BOOTLOADER = 1
-
-abbrev pub flag-BAUD : ℕ
-flag-BAUD = 2
-
--- "Byte 0 is A5; 1, 2, 3 command, status, flags; 4-7 address; 8-9 payload length n, 0 to 1,024; from 10 the payload; the last 2 the
--- check of all bytes before it, A5 included."
-
+-- "1, 2, 3 command, status, flags; 4-7 address; 8-9 payload length n .. from 10 the payload".
 pub record Frame : Type 0 where
   pub command : ℕ
   pub status : ℕ
@@ -94,36 +33,108 @@ pub record Frame : Type 0 where
   pub address : ℕ
   pub payload : List ℕ
 
+-- "payload length n, 0 to 1,024".
 abbrev pub most : ℕ
 most = 1024
 
+-- "from 10 the payload; the last 2 the check": the bytes of a frame.
 abbrev pub size : Frame → ℕ
 size f = 12 + length (f .payload)
 
+-- "Byte 0 is A5; 1, 2, 3 command, status, flags; 4-7 address; 8-9 payload length n".
 unfoldable pub frameHead : Frame → List ℕ
 frameHead f = (0xA5 ∷ f .command ∷ f .status ∷ f .flags ∷ []) ++ le 4 (f .address) ++ le 2 (length (f .payload))
 
+-- "from 10 the payload".
 unfoldable pub frameBody : Frame → List ℕ
 frameBody f = frameHead f ++ f .payload
 
+-- "polynomial 1021 .. no reflection": one bit. The register shifts left, and where a 1 was shifted out the polynomial is added.
+unfoldable pub crcBit : ℕ → ℕ
+crcBit c = cond (ltb c 0x8000) (c * 2) (bitXor (c * 2 % 0x10000) 0x1021)
+
+-- Of the next: one byte enters at the top, and eight bits are shifted.
+unfoldable pub crcByte : ℕ → ℕ → ℕ
+crcByte c b = crcBit (crcBit (crcBit (crcBit (crcBit (crcBit (crcBit (crcBit (bitXor c (b * 256)))))))))
+
+-- Of the next: byte by byte, from a register on.
+unfoldable pub crcFrom : ℕ → List ℕ → ℕ
+crcFrom c [] = c
+crcFrom c (b ∷ bs) = crcFrom (crcByte c b) bs
+
+-- "The check is CRC-16/IBM-3740 of the public CRC catalogue: polynomial 1021, start FFFF, no reflection, no final change."
+unfoldable pub check : List ℕ → ℕ
+check bytes = crcFrom 0xFFFF bytes
+
+-- "the last 2 the check of all bytes before it, A5 included".
 unfoldable pub frameBytes : Frame → List ℕ
 frameBytes f = frameBody f ++ le 2 (check (frameBody f))
 
--- "Reading skips to the next A5. No A5, or fewer than 10 bytes from it: short. Then a length over 1,024: too long. Then bytes missing:
--- short. A wrong check: bad check, fields still read. Else whole."
+-- "Commands: Info 0".
+abbrev pub command-Info : ℕ
+command-Info = 0
 
--- With a frame, the number of bytes skipped before it.
+-- "Commands: .. Erase 1".
+abbrev pub command-Erase : ℕ
+command-Erase = 1
+
+-- "Commands: .. Write 2".
+abbrev pub command-Write : ℕ
+command-Write = 2
+
+-- "Commands: .. Verify 3".
+abbrev pub command-Verify : ℕ
+command-Verify = 3
+
+-- "Commands: .. Reset 4".
+abbrev pub command-Reset : ℕ
+command-Reset = 4
+
+-- "Commands: .. Select 5".
+abbrev pub command-Select : ℕ
+command-Select = 5
+
+-- "Statuses: Request 0".
+abbrev pub status-Request : ℕ
+status-Request = 0
+
+-- "Statuses: .. Ok 1".
+abbrev pub status-Ok : ℕ
+status-Ok = 1
+
+-- "Statuses: .. Unsupported 2".
+abbrev pub status-Unsupported : ℕ
+status-Unsupported = 2
+
+-- "Statuses: .. CrcMismatch 3".
+abbrev pub status-CrcMismatch : ℕ
+status-CrcMismatch = 3
+
+-- "Flags: FLUSH 1".
+abbrev pub flag-FLUSH : ℕ
+flag-FLUSH = 1
+
+-- "Flags: .. BOOTLOADER 1".
+abbrev pub flag-BOOTLOADER : ℕ
+flag-BOOTLOADER = 1
+
+-- "Flags: .. BAUD 2".
+abbrev pub flag-BAUD : ℕ
+flag-BAUD = 2
+
+-- "short .. too long .. bad check, fields still read. Else whole": with a frame, the number of bytes skipped before it.
 pub data Reading : Type 0 where
   short : Reading
   tooLong : Reading
   badCheck : ℕ → Frame → Reading
   whole : ℕ → Frame → Reading
 
+-- "Reading skips to the next A5": the bytes before it, all where there is none.
 unfoldable pub skipped : List ℕ → ℕ
 skipped [] = 0
 skipped (b ∷ bs) = cond (eqb b 0xA5) 0 (1 + skipped bs)
 
--- The fields of a frame with n bytes of payload, from its A5 on.
+-- "fields still read": those of a frame with n bytes of payload, from its A5 on.
 abbrev pub fields : ℕ → List ℕ → Frame
 fields n bytes = record {
   command = byte 1 bytes;
@@ -133,21 +144,26 @@ fields n bytes = record {
   payload = take n (drop 10 bytes);
 }
 
+-- "the check of all bytes before it, A5 included": whether it is right after n bytes of payload.
 unfoldable pub rightCheck : ℕ → List ℕ → Bool
 rightCheck n bytes = eqb (check (take (10 + n) bytes)) (field (10 + n) 2 bytes)
 
+-- "Then a length over 1,024: too long. Then bytes missing: short. A wrong check: bad check, fields still read. Else whole."
 unfoldable pub readSized : ℕ → ℕ → List ℕ → Reading
 readSized skip n bytes =
     cond (ltb most n) tooLong
     (cond (ltb (length bytes) (12 + n)) short
     (cond (rightCheck n bytes) (whole skip (fields n bytes)) (badCheck skip (fields n bytes))))
 
+-- "fewer than 10 bytes from it: short".
 unfoldable pub readSynced : ℕ → List ℕ → Reading
 readSynced skip bytes = cond (ltb (length bytes) 10) short (readSized skip (field 8 2 bytes) bytes)
 
+-- "Reading skips to the next A5. No A5, or fewer than 10 bytes from it: short."
 unfoldable pub read : List ℕ → Reading
 read bytes = readSynced (skipped bytes) (drop (skipped bytes) bytes)
 
+-- "Bench frame": what follows from a reading, case by case.
 abbrev pub onReading {ℓ} : {A : Type ℓ} → Reading → A → A → (ℕ → Frame → A) → (ℕ → Frame → A) → A
 onReading short s l b w = s
 onReading tooLong s l b w = l
@@ -155,7 +171,6 @@ onReading (badCheck k f) s l b w = b k f
 onReading (whole k f) s l b w = w k f
 
 -- "Info payload, 18 bytes: capacity 4, erase_size 2, boot_version 2, app_version 2, mode 1, boot_baud 1, compat 4, max_payload 2."
-
 pub record Info : Type 0 where
   pub capacity : ℕ
   pub eraseSize : ℕ
@@ -166,6 +181,7 @@ pub record Info : Type 0 where
   pub compat : ℕ
   pub maxPayload : ℕ
 
+-- "Info payload, 18 bytes .. Longer is allowed."
 unfoldable pub infoOf : List ℕ → Info
 infoOf payload = record {
   capacity = field 0 4 payload;

@@ -8,9 +8,11 @@ use lib.Dec.{ltb, eqb}
 use lib.ListN.{length, take, drop}
 use Rattle.paper.specs.Frame.{byte, Frame, size, Reading, short, tooLong, badCheck, whole, read, command-Select, status-Request, status-Ok, status-Unsupported}
 
+-- "Ids and hearing": an id is its bytes.
 abbrev pub Id : Type 0
 Id = List ℕ
 
+-- "A prefix of k bits": these bits, in their order.
 abbrev pub Prefix : Type 0
 Prefix = List Bool
 
@@ -18,62 +20,57 @@ Prefix = List Bool
 unfoldable pub bit : Id → ℕ → Bool
 bit id k = eqb (byte (k / 8) id / 2 ^ (k % 8) % 2) 1
 
--- f k, f (k + 1), .. for n numbers.
+-- Of the next: f k, f (k + 1), .. for n numbers.
 unfoldable pub counting : {A : Type 0} → (ℕ → A) → ℕ → ℕ → List A
 counting f k zero = []
 counting f k (suc n) = f k ∷ counting f (suc k) n
 
+-- "id 05: bits 1,0,1,0,0,0,0,0": all bits of an id.
 unfoldable pub bitsOf : Id → List Bool
 bitsOf id = counting (bit id) 0 (8 * length id)
 
--- "A prefix of k bits matches an id that has at least k bits and begins with them."
+-- Of the next: whether bits begin with those of a prefix.
 unfoldable pub begins : Prefix → List Bool → Bool
 begins [] bits = true
 begins (p ∷ ps) [] = false
 begins (p ∷ ps) (b ∷ bits) = Bool·beq p b && begins ps bits
 
+-- "A prefix of k bits matches an id that has at least k bits and begins with them."
 abbrev pub matches : Prefix → Id → Bool
 matches prefix id = begins prefix (bitsOf id)
 
--- "by bytes, a shorter id before one that it begins" (of "The walk").
-unfoldable pub before : Id → Id → Bool
-before [] ys = true
-before (x ∷ xs) [] = false
-before (x ∷ xs) (y ∷ ys) = ltb x y || (eqb x y && before xs ys)
-
--- "payload: seed, bit count, then the bits in as few bytes as hold them, spare bits 0."
-
--- The number of some bits, least significant first.
+-- "least significant first": the number of some bits.
 unfoldable pub binary : List Bool → ℕ
 binary [] = 0
 binary (b ∷ bits) = cond b 1 0 + 2 * binary bits
 
+-- Of the next: bits in k bytes.
 unfoldable pub packed : ℕ → Prefix → List ℕ
 packed zero bits = []
 packed (suc k) bits = binary (take 8 bits) ∷ packed k (drop 8 bits)
 
+-- "payload: seed, bit count, then the bits in as few bytes as hold them, spare bits 0."
 unfoldable pub selectPayload : ℕ → Prefix → List ℕ
 selectPayload seed bits = seed ∷ length bits ∷ packed ((length bits + 7) / 8) bits
 
--- "Address and flags 0".
+-- "Address and flags 0"; "Requests have status 0."
 abbrev pub selectFrame : ℕ → Prefix → Frame
 selectFrame seed p = record { command = command-Select; status = status-Request; flags = 0; address = 0; payload = selectPayload seed p }
 
--- "Hearing reads frames until no byte is left (an empty record holds none): if any frame is short, too long or of bad check, or bytes
--- were skipped, it is Garble."
-
--- A frame that is whole and has no byte skipped before it.
+-- "short, too long or of bad check, or bytes were skipped": none of a frame that is so.
 unfoldable pub clean : Reading → Option Frame
 clean short = none
 clean tooLong = none
 clean (badCheck k f) = none
 clean (whole k f) = cond (eqb k 0) (some f) none
 
+-- "Ids and hearing": what follows from none, and from some.
 abbrev pub onSome : {A B : Type 0} → Option A → B → (A → B) → B
 onSome none b f = b
 onSome (some a) b f = f a
 
--- The frames of a record, if all are clean. Each takes a byte at least, so there are no more than n, the record's length.
+-- "Hearing reads frames until no byte is left (an empty record holds none)": those of a record, if all are clean. Each takes a byte at
+-- least, so there are no more than n, the record's length.
 unfoldable pub frames : ℕ → List ℕ → Option (List Frame)
 frames zero bytes = some []
 frames (suc n) [] = some []
@@ -85,22 +82,30 @@ unfoldable pub replies : List Frame → List Frame
 replies [] = []
 replies (f ∷ fs) = cond (eqb (f .status) status-Request) (replies fs) (f ∷ replies fs)
 
--- "None left: Nothing. One of status Ok: One with its payload as id. One of Unsupported: Unaddressed. Anything else: Garble. The command
--- isn't looked at."
+-- "Nothing .. One with its payload as id .. Unaddressed .. Garble".
 pub data Heard : Type 0 where
   nothing : Heard
   one : Id → Heard
   unaddressed : Heard
   garble : Heard
 
+-- "None left: Nothing. One of status Ok: One with its payload as id. One of Unsupported: Unaddressed. Anything else: Garble. The command
+-- isn't looked at."
 unfoldable pub alone : List Frame → Heard
 alone [] = nothing
 alone (f ∷ []) = cond (eqb (f .status) status-Ok) (one (f .payload)) (cond (eqb (f .status) status-Unsupported) unaddressed garble)
 alone (f ∷ g ∷ fs) = garble
 
+-- "if any frame is short, too long or of bad check, or bytes were skipped, it is Garble. Else drop frames of status Request."
 unfoldable pub hear : List ℕ → Heard
 hear bytes = onSome (frames (length bytes) bytes) garble (λ fs. alone (replies fs))
 
--- "An id over 16 bytes gives refusal 14."
+-- "An id over 16 bytes".
 abbrev pub longest : ℕ
 longest = 16
+
+-- "by bytes, a shorter id before one that it begins" (of "The walk").
+unfoldable pub before : Id → Id → Bool
+before [] ys = true
+before (x ∷ xs) [] = false
+before (x ∷ xs) (y ∷ ys) = ltb x y || (eqb x y && before xs ys)

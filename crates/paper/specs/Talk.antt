@@ -9,35 +9,37 @@ use Rattle.paper.specs.Answers.{Reply}
 use Rattle.paper.specs.Walk as Walk
 use Rattle.paper.specs.Walk.{Walk}
 
--- The payload of a request: these bytes; or so many of the image lent with it, from an offset on.
+-- "each Write carries the image from its offset on": these bytes; or so many of the image lent with the request, from an offset on.
 pub data Payload : Type 0 where
   these : List ℕ → Payload
   piece : ℕ → ℕ → Payload
 
--- A request that is no Select.
+-- "Requests with one answer": a request that is no Select.
 pub record Demand : Type 0 where
   pub command : ℕ
   pub flags : ℕ
   pub address : ℕ
   pub payload : Payload
 
--- A Select of a prefix, whose seed is no part of it; a request with one answer; a request whose answer is not awaited.
+-- "asks for a request": a Select of a prefix, whose seed is no part of it; a request with one answer; one whose answer is not awaited.
 pub data Ask : Type 0 where
   select : Prefix → Ask
   demand : Demand → Ask
   leave : Demand → Ask
 
--- What the one answer says, and the image lent with it.
+-- "The image is lent to each call anew": what the one answer says, and the image lent with it.
 pub record Answered : Type 0 where
   pub reply : Reply
   pub image : List ℕ
 
+-- "hands back the bytes heard": what they say to each kind of request.
 abbrev pub Answer : Ask → Type 0
 Answer (select p) = Heard
 Answer (demand d) = Answered
 Answer (leave d) = Unit {0}
 
--- It returns a value, ends the operation with a refusal's number and what that carries, reports progress, or asks.
+-- "We add a step machine": a conversation returns a value, ends the operation with a refusal's number and what that carries, reports
+-- progress, or asks.
 pub data Talk (A : Type 0) : Type 0 where
   return : A → Talk A
   stop : ℕ → List ℕ → Talk A
@@ -45,6 +47,7 @@ pub data Talk (A : Type 0) : Type 0 where
   ask : (q : Ask) → (Answer q → Talk A) → Talk A
 
 infixl 20 _>>=_
+-- "The port and its edges": a conversation, then another from its value; where the first stops, both do.
 unfoldable pub _>>=_ : {A B : Type 0} → Talk A → (A → Talk B) → Talk B
 return a >>= f = f a
 stop c carries >>= f = stop c carries
@@ -52,21 +55,22 @@ report a b m >>= f = report a b (m >>= f)
 ask q g >>= f = ask q (λ x. g x >>= f)
 
 infixl 20 _>>_
+-- "The port and its edges": a conversation, then another.
 abbrev pub _>>_ : {A B : Type 0} → Talk A → Talk B → Talk B
 m >> k = m >>= λ _. k
 
--- The same for each number of a list, in its order.
+-- "The port and its edges": the same for each number of a list, in its order.
 unfoldable pub each : List ℕ → (ℕ → Talk (Unit {0})) → Talk (Unit {0})
 each [] f = return tt
 each (x ∷ xs) f = f x >> each xs f
 
--- A walk is a conversation that only selects.
+-- "The walk": a conversation that only selects, as one of these.
 unfoldable pub walking : {A : Type 0} → Walk A → Talk A
 walking (Walk.return a) = return a
 walking (Walk.stop c) = stop c []
 walking (Walk.select p f) = ask (select p) (λ h. walking (f h))
 
--- What an operation succeeds with: nothing, what a Select heard, the attached id or none, the ids found, the device information.
+-- "the operation succeeds": with nothing, what a Select heard, the attached id or none, the ids found, the device information.
 pub data Outcome : Type 0 where
   quiet : Outcome
   heard : Heard → Outcome

@@ -8,53 +8,58 @@ use lib.ListN.{length, drop, replicate}
 use Rattle.paper.specs.Hearing.{Id, Prefix, longest, bitsOf, matches, before, Heard, nothing, one, unaddressed, garble}
 
 infixl 60 _▹_
--- A prefix with one bit more.
+-- "prefix plus the id's next bit": a prefix with one bit more.
 abbrev pub _▹_ : Prefix → Bool → Prefix
 prefix ▹ b = prefix ++ (b ∷ [])
 
--- A conversation that only selects: it returns a value, ends the operation with an answer number, or sends a Select and goes on from what
--- is heard.
+-- "The walk": a conversation that only selects. It returns a value, ends the operation with an answer number, or sends a Select and goes
+-- on from what is heard.
 pub data Walk (A : Type 0) : Type 0 where
   return : A → Walk A
   stop : ℕ → Walk A
   select : Prefix → (Heard → Walk A) → Walk A
 
 infixl 20 _>>=_
+-- "The walk": a conversation, then another from its value; where the first stops, both do.
 unfoldable pub _>>=_ : {A B : Type 0} → Walk A → (A → Walk B) → Walk B
 return a >>= f = f a
 stop c >>= f = stop c
 select p g >>= f = select p (λ h. g h >>= f)
 
--- "An id over 16 bytes gives refusal 14."
+-- Of the next: whether an id is heard that is too long.
 unfoldable pub long : Heard → Bool
 long nothing = false
 long (one id) = ltb longest (length id)
 long unaddressed = false
 long garble = false
 
+-- "An id over 16 bytes gives refusal 14": a Select, and what it hears.
 unfoldable pub ask : Prefix → Walk Heard
 ask prefix = select prefix (λ h. cond (long h) (stop 14) (return h))
 
+-- "If that is Nothing".
 unfoldable pub isNothing : Heard → Bool
 isNothing nothing = true
 isNothing (one id) = false
 isNothing unaddressed = false
 isNothing garble = false
 
+-- Of the next: whether two ids are one.
 unfoldable pub sameId : Id → Id → Bool
 sameId [] [] = true
 sameId [] (y ∷ ys) = false
 sameId (x ∷ xs) [] = false
 sameId (x ∷ xs) (y ∷ ys) = eqb x y && sameId xs ys
 
+-- "hears the same id".
 unfoldable pub isOne : Id → Heard → Bool
 isOne id nothing = false
 isOne id (one x) = sameId x id
 isOne id unaddressed = false
 isOne id garble = false
 
--- "One: confirm. If the id does not begin with the prefix, it fails. If it has no further bit, it holds, without a probe. Else Select prefix
--- plus the id's next bit, then prefix plus the other bit, always both; it holds if the first hears the same id and the second Nothing."
+-- "If it has no further bit, it holds, without a probe. Else Select prefix plus the id's next bit, then prefix plus the other bit,
+-- always both; it holds if the first hears the same id and the second Nothing."
 unfoldable pub confirmRest : Prefix → Id → List Bool → Walk Bool
 confirmRest prefix id [] = return true
 confirmRest prefix id (b ∷ bits) = do
@@ -62,14 +67,16 @@ confirmRest prefix id (b ∷ bits) = do
   other ← ask (prefix ▹ not b)
   return (isOne id mine && isNothing other)
 
+-- "If the id does not begin with the prefix, it fails."
 unfoldable pub confirm : Prefix → Id → Walk Bool
 confirm prefix id = cond (matches prefix id) (confirmRest prefix id (drop (length prefix) (bitsOf id))) (return false)
 
--- "Held: the id is kept." "A 65th kept id gives 15."
+-- "Held: the id is kept."; "A 65th kept id gives 15."
 unfoldable pub keep : List Id → Id → Walk (List Id)
 keep ids id = cond (ltb (length ids) 64) (return (ids ++ (id ∷ []))) (stop 15)
 
--- "Nothing: the branch ends. Unaddressed: the discovery ends with outcome 23, no ids, no deselect. One: confirm. Else descend."
+-- "Nothing: the branch ends. Unaddressed: the discovery ends with outcome 23, no ids, no deselect. One: confirm. .. Held: the id is kept.
+-- Else descend".
 unfoldable pub judge : Prefix → List Id → Heard → Walk (List Id) → Walk (List Id)
 judge prefix ids nothing descend = return ids
 judge prefix ids (one id) descend = do
@@ -78,8 +85,8 @@ judge prefix ids (one id) descend = do
 judge prefix ids unaddressed descend = stop 23
 judge prefix ids garble descend = descend
 
--- "descend: at 128 bits give 12. Select the zero child. If that is Nothing, the one child counts as Garble with no probe. Walk the zero
--- child, then the one child." The prefix can grow by n bits.
+-- "at 128 bits give 12. Select the zero child. If that is Nothing, the one child counts as Garble with no probe. Walk the zero child, then
+-- the one child." What the prefix holds is known, and it can grow by n bits.
 unfoldable pub walk : ℕ → Prefix → List Id → Heard → Walk (List Id)
 walk zero prefix ids heard = judge prefix ids heard (stop 12)
 walk (suc n) prefix ids heard = judge prefix ids heard (do
@@ -88,35 +95,37 @@ walk (suc n) prefix ids heard = judge prefix ids heard (do
   ones ← cond (isNothing zeros) (return garble) (ask (prefix ▹ true))
   walk n (prefix ▹ true) ids₁ ones)
 
--- "sort by bytes, a shorter id before one that it begins."
+-- Of the next: an id in its place.
 unfoldable pub insert : Id → List Id → List Id
 insert x [] = x ∷ []
 insert x (y ∷ ys) = cond (before x y) (x ∷ y ∷ ys) (y ∷ insert x ys)
 
+-- "sort by bytes, a shorter id before one that it begins."
 unfoldable pub sort : List Id → List Id
 sort [] = []
 sort (x ∷ xs) = insert x (sort xs)
 
--- "Deselect is a Select of 129 zero bits."
+-- "Deselect is a Select of 129 zero bits".
 unfoldable pub nobody : Prefix
 nobody = replicate 129 false
 
--- "At the end deselect and sort."
+-- "Probe the prefix"; "At the end deselect and sort".
 unfoldable pub discover : Prefix → Walk (List Id)
 discover prefix = do
   heard ← ask prefix
   ids ← walk (128 - length prefix) prefix [] heard
   select nobody (λ _. return (sort ids))
 
--- What is heard: by how many Selects went before, and by the prefix asked.
+-- "The walk": what is heard, by how many Selects went before and by the prefix asked.
 abbrev pub Wire : Type 0
 Wire = ℕ → Prefix → Heard
 
+-- "The walk": how a conversation ends, with a value or with an answer number.
 pub data Ended (A : Type 0) : Type 0 where
   done : A → Ended A
   stopped : ℕ → Ended A
 
--- A conversation over a wire, after k Selects: how it ends, and the Selects by then.
+-- "The walk": a conversation over a wire, after k Selects: how it ends, and the Selects by then.
 unfoldable pub run : {A : Type 0} → Wire → ℕ → Walk A → Ended A × ℕ
 run wire k (return a) = (done a, k)
 run wire k (stop c) = (stopped c, k)
