@@ -1,8 +1,9 @@
 /* Fahireky: the host side of a pod bootloader. Every function here is proved against written definitions; this header is not.
  *
  * The client lives in a buffer of FAHIREKY_STATE bytes that the host lends. All zero is a fresh client. Any bytes whatever are some
- * client: nothing that is done to them can make a call misbehave. A call keeps no pointer, uses no heap and no global state. Buffers that
- * are lent to one call must not overlap.
+ * client: nothing that is done to them can make a call misbehave. (Bytes that no call left may come back, even from a call that changes
+ * nothing, as other bytes of the same client; and their answers may show an id where none is attached, or an id's length above 16.) A
+ * call keeps no pointer, uses no heap and no global state. Buffers that are lent to one call must not overlap.
  *
  * A host starts an operation, then, until it has ended, asks for a request, sends its bytes, and hands in the bytes heard, or says that
  * the link failed. Bytes after the frame that answered stay unread: the answer says where they begin, and the host puts them before the
@@ -99,7 +100,8 @@ uint64_t fahireky_request(uint8_t *state, size_t state_len, const uint8_t *image
 /* What was heard after the request. 21 with no request out, 20; else it goes on, has ended, or is refused and has ended. */
 uint64_t fahireky_record(uint8_t *state, size_t state_len, const uint8_t *image, size_t image_len, const uint8_t *record, size_t record_len,
                          uint8_t *answer, size_t answer_len);
-/* The link failed; after a Select only if sending failed. 21 with no request out, else 1. */
+/* The link failed; after a Select only if sending failed. 21 with no request out, else 1, and what was kept of earlier records is to be
+ * dropped. */
 uint64_t fahireky_link_failed(uint8_t *state, size_t state_len, uint8_t *answer, size_t answer_len);
 /* The attached id: an answer that has ended with it, or with none. */
 uint64_t fahireky_attached(const uint8_t *state, size_t state_len, uint8_t *answer, size_t answer_len);

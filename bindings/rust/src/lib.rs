@@ -304,7 +304,7 @@ impl Client {
         self.told(|s, a| raw::record(s, image, bytes, a))
     }
 
-    /// The link failed: of a Select, only where sending failed.
+    /// The link failed: of a Select, only where sending failed. What was kept of earlier records is to be dropped.
     pub fn link_failed(&mut self) -> Told {
         self.told(raw::link_failed)
     }
