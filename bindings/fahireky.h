@@ -2,7 +2,7 @@
  *
  * The client lives in a buffer of FAHIREKY_STATE bytes that the host lends. All zero is a fresh client. Any bytes whatever are some
  * client: nothing that is done to them can make a call misbehave. (Bytes that no call left may come back, even from a call that changes
- * nothing, as other bytes of the same client; and their answers may show an id where none is attached, or an id's length above 16.) A
+ * nothing, as other bytes of the same client; and their answers may show an id where none is attached, or an id's length above 16, which counts as 16.) A
  * call keeps no pointer, uses no heap and no global state. Buffers that are lent to one call must not overlap.
  *
  * A host starts an operation, then, until it has ended, asks for a request, sends its bytes, and hands in the bytes heard, or says that
