@@ -2,6 +2,9 @@
 ghost use mathlib.Core.Path.{_≡_};
 ghost use Rattle.paper.specs.Frame.{crcByte, crcFrom};
 
+// What the check of a frame or an image starts from.
+pub const START: u16 = 0xFFFF;
+
 // Eight bits at once: of the byte shifted out, with the one that enters, what the polynomial adds.
 pub fn crc_byte(c: u16, b: u8) -> u16
     ensures { λ r. ⌜ r ≡ crcByte c b ⌝ }

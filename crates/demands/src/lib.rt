@@ -14,13 +14,13 @@ ghost use Rattle.image.specs.Images.{paperInfo};
 ghost use Rattle.frame.specs.Writing.{written};
 ghost use Rattle.demands.specs.Demands.{headFor, flagsOf, resetOf, demandOf};
 
-// Requests have status 0.
+// The first fields of a request.
 fn head(command: u8, flags: u8, address: u32) -> Head
     ensures { λ r. ⌜ r ≡ headFor command flags address ⌝ }
 {
     Head {
         command,
-        status: 0,
+        status: wire::REQUEST,
         flags,
         address,
     }
@@ -40,7 +40,7 @@ pub fn write_info(buf: &mut [u8]) -> Written
     ensures { λ r. ⌜ record { answer = r; bytes = now (buf .exit) } ≡ written (demandFrame infoRequest []) (now (buf .entry)) ⌝ }
 {
     let none = [0u8; 1];
-    frame::write_frame(head(0, 0, 0), &none[..0], 0, buf)
+    frame::write_frame(head(wire::INFO, 0, 0), &none[..0], 0, buf)
 }
 
 // The payload is the erase size.
@@ -49,7 +49,7 @@ pub fn write_erase(info: Info, address: u32, buf: &mut [u8]) -> Written
 {
     let e = info.erase_size;
     let size = [(e % 0x100) as u8, (e / 0x100 % 0x100) as u8];
-    frame::write_frame(head(1, 0, address), &size, 0, buf)
+    frame::write_frame(head(wire::ERASE, 0, address), &size, 0, buf)
 }
 
 // The image from the offset to the chunk's end, then FF; FLUSH on the last.
@@ -59,10 +59,10 @@ pub fn write_write(info: Info, offset: u64, image: &[u8], buf: &mut [u8]) -> Wri
     let n = image.len();
     let size = pieces::size(info, n, offset);
     let held = pieces::image_bytes(n, offset, size);
-    let flags = flag(pieces::last(info, n, offset), 1);
+    let flags = flag(pieces::last(info, n, offset), wire::FLUSH);
     let part = pieces::part(image, offset, size);
     frame::write_frame(
-        head(2, flags, (offset % 0x1_0000_0000) as u32),
+        head(wire::WRITE, flags, (offset % 0x1_0000_0000) as u32),
         part,
         size - held,
         buf,
@@ -74,14 +74,19 @@ pub fn write_verify(n: usize, buf: &mut [u8]) -> Written
     ensures { λ r. ⌜ record { answer = r; bytes = now (buf .exit) } ≡ written (demandFrame (verifyRequest n) []) (now (buf .entry)) ⌝ }
 {
     let none = [0u8; 1];
-    frame::write_frame(head(3, 0, (n % 0x1_0000_0000) as u32), &none[..0], 0, buf)
+    frame::write_frame(
+        head(wire::VERIFY, 0, (n % 0x1_0000_0000) as u32),
+        &none[..0],
+        0,
+        buf,
+    )
 }
 
-// BOOTLOADER is 1, BAUD is 2.
+// BOOTLOADER and BAUD, each if it is wanted.
 fn reset_flags(reset: Reset) -> u8
     ensures { λ r. ⌜ r ≡ flagsOf reset ⌝ }
 {
-    flag(reset.bootloader, 1) + flag(reset.given, 2)
+    flag(reset.bootloader, wire::BOOTLOADER) + flag(reset.given, wire::BAUD)
 }
 
 // The baud to store, or 0.
@@ -99,7 +104,12 @@ pub fn write_reset(reset: Reset, buf: &mut [u8]) -> Written
 {
     let none = [0u8; 1];
     let flags = reset_flags(reset);
-    frame::write_frame(head(4, flags, address_of(reset)), &none[..0], 0, buf)
+    frame::write_frame(
+        head(wire::RESET, flags, address_of(reset)),
+        &none[..0],
+        0,
+        buf,
+    )
 }
 
 // The request of a job, with the image lent.

@@ -45,7 +45,7 @@ fn print_heard(bytes: &[u8], n: usize) {
 
 fn main() {
     show::print(b"check of 123456789: ");
-    let c = crc::crc16(0xFFFF, b"123456789");
+    let c = crc::crc16(crc::START, b"123456789");
     show::print_number(c as u64, 4);
     show::print(b"\n");
     print_frame(b"Info request: ", 0, 0, b"", 0);

@@ -11,7 +11,7 @@ use wire::Written;
 fn reply(command: u8, payload: &[u8], room: &mut [u8]) -> usize {
     let head = Head {
         command,
-        status: 1,
+        status: wire::OK,
         flags: 0,
         address: 0,
     };
@@ -25,18 +25,18 @@ fn reply(command: u8, payload: &[u8], room: &mut [u8]) -> usize {
 
 // The pod: capacity 6, erase size 4, payloads of 4 bytes, no key; and the check of what was sent to it.
 fn pod(command: u8, room: &mut [u8]) -> usize {
-    if command == 0 {
+    if command == wire::INFO {
         return reply(
-            0,
+            wire::INFO,
             b"\x06\x00\x00\x00\x04\x00\x01\x00\x02\x00\x00\xff\xff\xff\xff\xff\x04\x00",
             room,
         );
     }
-    if command == 3 {
-        let c = crc::crc16(0xFFFF, b"abcde");
+    if command == wire::VERIFY {
+        let c = crc::crc16(crc::START, b"abcde");
         let mut check = [0u8; 2];
         wire::put16(&mut check, 0, c);
-        return reply(3, &check, room);
+        return reply(wire::VERIFY, &check, room);
     }
     reply(command, b"", room)
 }

@@ -161,7 +161,7 @@ fn verified(info: Info, payload: &[u8], image: &[u8]) -> Then
     if payload.len() < 2 {
         return Then::Refused(Refusal::ShortVerify);
     }
-    let expected = crc::crc16(0xFFFF, image);
+    let expected = crc::crc16(crc::START, image);
     let actual = wire::get16(payload, 0);
     if expected == actual {
         return Then::Over(Outcome::Knows(info));
@@ -189,7 +189,7 @@ pub fn declined(job: Job, status: u8) -> Next
     let Job::Writing(n, info, offset, retries) = job else {
         return refusing(Refusal::Device(status));
     };
-    if status == 3 {
+    if status == wire::CRC_MISMATCH {
         return quietly(repeated(n, info, offset, retries));
     }
     refusing(Refusal::Device(status))

@@ -50,7 +50,7 @@ pub fn seal(buf: &mut [u8], n: usize)
     requires { ⌜ n + 2 ≤ length (now buf) ⌝ }
     ensures { λ _. ⌜ now (buf .exit) ≡ take n (now (buf .entry)) ++ le 2 (check (take n (now (buf .entry)))) ++ drop (n + 2) (now (buf .entry)) ⌝ }
 {
-    let c = crc::crc16(0xFFFF, &buf[..n]);
+    let c = crc::crc16(crc::START, &buf[..n]);
     wire::put16(buf, n, c);
 }
 

@@ -49,7 +49,7 @@ pub fn heard_as(heard: Heard) -> Hearing
 pub fn noted(replies: Replies, f: Frame) -> Replies
     ensures { λ r. ⌜ r ≡ noted replies f ⌝ }
 {
-    if f.status == 0 {
+    if f.status == wire::REQUEST {
         return replies;
     }
     match replies {
@@ -83,10 +83,10 @@ fn concluded(bytes: &[u8], replies: Replies) -> Hearing
         Replies::None => heard_as(Heard::Nothing),
         Replies::Several => heard_as(Heard::Garble),
         Replies::One(f) => {
-            if f.status == 1 {
+            if f.status == wire::OK {
                 return one_heard(bytes, f.payload, f.len);
             }
-            if f.status == 2 {
+            if f.status == wire::UNSUPPORTED {
                 return heard_as(Heard::Unaddressed);
             }
             heard_as(Heard::Garble)
@@ -125,13 +125,13 @@ pub fn answer(bytes: &[u8]) -> Answered
             Reading::Short => break Answered::Lost,
             Reading::TooLong => break Answered::Lost,
             Reading::BadCheck(bad) => {
-                if bad.status != 0 {
-                    break Answered::Device(3, bad.end);
+                if bad.status != wire::REQUEST {
+                    break Answered::Device(wire::CRC_MISMATCH, bad.end);
                 }
                 at = bad.end;
             }
             Reading::Whole(f) => {
-                if f.status != 0 {
+                if f.status != wire::REQUEST {
                     break replied(f);
                 }
                 at = f.end;
@@ -145,7 +145,7 @@ pub fn answer(bytes: &[u8]) -> Answered
 fn replied(f: Frame) -> Answered
     ensures { λ r. ⌜ r ≡ repliedBy f ⌝ }
 {
-    if f.status != 1 {
+    if f.status != wire::OK {
         return Answered::Device(f.status, f.end);
     }
     Answered::Ok(f.payload, f.len, f.end)

@@ -76,8 +76,8 @@ pub fn write_select(seed: u8, bits: [u8; 16], count: u8, buf: &mut [u8]) -> Writ
         return Written::Short(n + 12);
     }
     let head = Head {
-        command: 5,
-        status: 0,
+        command: wire::SELECT,
+        status: wire::REQUEST,
         flags: 0,
         address: 0,
     };

@@ -19,6 +19,8 @@ pub struct Parsed {
     pub id: Id,
 }
 
+// Characters: '0' to '9' are 48 to 57, 'A' to 'F' 65 to 70, 'a' to 'f' 97 to 102.
+
 // The lower case digit of a value below 16.
 pub fn hex_digit(v: u8) -> u8
     requires { ⌜ v < 16 ⌝ }

@@ -1,9 +1,38 @@
-// Little-endian numbers in slices, bytes copied and filled, and the answer of every writer into a lent buffer.
+// What both sides of the wire share: document 01's numbers, little-endian numbers in slices, bytes copied and filled, a writer's answer.
 ghost use mathlib.Core.Path.{_≡_};
 ghost use mathlib.Core.List.{[], _∷_, _++_};
 ghost use Prim.Native.Nat.{_+_, _≤_, _<_};
 ghost use lib.ListN.{length, take, drop, replicate};
 ghost use Rattle.paper.specs.Frame.{le, field};
+
+// The commands.
+pub const INFO: u8 = 0;
+
+pub const ERASE: u8 = 1;
+
+pub const WRITE: u8 = 2;
+
+pub const VERIFY: u8 = 3;
+
+pub const RESET: u8 = 4;
+
+pub const SELECT: u8 = 5;
+
+// The statuses.
+pub const REQUEST: u8 = 0;
+
+pub const OK: u8 = 1;
+
+pub const UNSUPPORTED: u8 = 2;
+
+pub const CRC_MISMATCH: u8 = 3;
+
+// The flags: of the last Write; of a Reset.
+pub const FLUSH: u8 = 1;
+
+pub const BOOTLOADER: u8 = 1;
+
+pub const BAUD: u8 = 2;
 
 // What a writer answers: the bytes written at the buffer's front; the length that the buffer lacks; that no buffer would do.
 pub enum Written {
