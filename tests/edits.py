@@ -75,7 +75,7 @@ def refused(wrong, log):
         path = wrong.place.replace("/", "::")
         if not own and (m := re.search(rf"(?m)^fn {wrong.crate}::{path}: no proof: .*`search` does not close (`[^`]*`)", log)):
             return m.group(1)
-    if not own or unfit.search(own[0][1]):
+    if not own or any(unfit.search(e[1]) for e in own):
         return None
     name = re.match(r"`([^`]*)`", own[0][1])
     return (name.group(0) if name else "its statement") + (f" of `{own[0][0]}`" if wrong.place is None else "")
