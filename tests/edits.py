@@ -16,7 +16,7 @@ import sys
 root = pathlib.Path(__file__).resolve().parent.parent
 unfit = re.compile(
     r"has no `Need-|has no `Tie`|expected type `tie\.Need-|is not in scope|is not a constructor|cannot be parsed|syntax"
-    r"|computed as far as they go, the two types are|replace that `_` with the term"
+    r"|give the call less to do|computed as far as they go, the two types are|replace that `_` with the term"
 )
 follows = re.compile(r"was not admitted")
 mark = "## Every wrong version\n"
