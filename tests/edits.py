@@ -2,7 +2,8 @@
 
 A file of crates/NAME/must-fail has one or more wrong versions, each under a line `wrong: LABEL` with the rule that it breaks. They are
 tried at once, and judged apart: no two of a file are in one function (or one theorem), and each must be refused by an error on a fact in
-that function's own proof. A wrong version of a definition, on which many proofs rest, is alone in its file.
+that function's own proof. Of a table of theorems each field is one; a premise of several theorems is tried with no other of its file. A
+wrong version of a definition, on which many proofs rest, is alone in its file.
 
 Reads the logs that `rt ci` leaves in target/must-fail, and compares the table of docs/CONTRACTS.md with them.
 
@@ -30,10 +31,12 @@ class Wrong:
 
 
 def enclosing(text, at, file):
-    """The function or theorem of a file in which a position stands; None for a definition."""
+    """The function, theorem or field of a table in which a position stands; "module" for a premise of several theorems; None for a definition."""
     if file.startswith("specs/"):
         return None
     if file.startswith("proofs/"):
+        if text[text.rfind("\n", 0, at) + 1 : at].lstrip().startswith("module "):
+            return "module"
         names = [m for m in re.finditer(r"(?m)^\s*(?:unfoldable |abbrev )?(?:pub )?([^\s:({]+) :", text) if m.start() <= at]
         return names[-1].group(1)
     name, owner = None, ""
@@ -49,7 +52,7 @@ def enclosing(text, at, file):
 
 def read(edit):
     """The wrong versions of one file."""
-    crate, found, old = edit.parent.parent.name, [], None
+    crate, found = edit.parent.parent.name, []
     for line in edit.read_text().split("\n"):
         if line.startswith("wrong: "):
             found.append(Wrong(crate, line[7:]))
@@ -65,19 +68,25 @@ def read(edit):
 
 def refused(wrong, log):
     """The fact at which a wrong version was refused; None if there is none."""
-    errors = [e for e in re.findall(r"(?m)^\S*?/((?:src|specs|proofs)/\S+?):\d+:\d+: error: (.*)$", log) if not follows.search(e[1])]
+    errors = [e for e in re.findall(r"(?m)^\S*?/((?:src|specs|proofs)/\S+?):(\d+):\d+: error: (.*)$", log) if not follows.search(e[2])]
     if wrong.place is None:
         own = errors[:1]
     elif wrong.file.startswith("proofs/"):
-        own = [e for e in errors if e[0] == wrong.file and e[1].startswith(f"`{wrong.place}`")]
+        lines = (root / "crates" / wrong.crate / wrong.file).read_text().split("\n")
+
+        def of_it(error):
+            field = lines[int(error[1]) - 1].strip().startswith(f"{wrong.place} = ")
+            return wrong.place == "module" or field or error[2].startswith(f"`{wrong.place}`")
+
+        own = [e for e in errors if e[0] == wrong.file and of_it(e)]
     else:
         own = [e for e in errors if e[0] == f"proofs/{wrong.place}/Proof.antt"]
         path = wrong.place.replace("/", "::")
         if not own and (m := re.search(rf"(?m)^fn {wrong.crate}::{path}: no proof: .*`search` does not close (`[^`]*`)", log)):
             return m.group(1)
-    if not own or any(unfit.search(e[1]) for e in own):
+    if not own or unfit.search(own[0][2]):
         return None
-    name = re.match(r"`([^`]*)`", own[0][1])
+    name = re.match(r"`([^`]*)`", own[0][2])
     return (name.group(0) if name else "its statement") + (f" of `{own[0][0]}`" if wrong.place is None else "")
 
 

@@ -4,3 +4,4 @@ pub mod Condition2
 pub mod Condition3
 pub mod Calls
 pub mod BenchLog
+pub mod Instances

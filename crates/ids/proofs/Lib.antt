@@ -1,3 +1,4 @@
 pub mod Shift
 pub mod Laws
 pub mod Ways
+pub mod Instances

@@ -11,3 +11,4 @@ pub mod Frames
 pub mod Readings
 pub mod Answered
 pub mod Packed
+pub mod Instances

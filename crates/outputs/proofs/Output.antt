@@ -8,8 +8,7 @@ use mathlib.Core.Path.{_≡_, refl, sym, _∙_, ap, subst}
 use native.Mathlib.Omega.{arith}
 use lib.Dec.{leb, ltb, eqb}
 use lib.ListN.{length}
-use borrow.Author.Tests.{leb-true, ltb-false}
-use Rattle.lore.proofs.Bits.{bits-length}
+use borrow.Author.Tests.{ltb-false}
 use Rattle.paper.specs.Count.{All}
 use Rattle.paper.specs.Client.{short}
 use Rattle.paper.specs.Hearing.{Id, bitsOf, onSome, longest}
@@ -143,7 +142,7 @@ module _ (given : Id) (bytes : All (λ b. b < 256) given) (rs : Records) where
   begins true e =
       ap (λ (t : Started). text (answer (talk (from t) rs))) (started ∙ ap startedAs (short-starts e))
       ∙ closed-text (talk (Replays.asked (clientOf first) 0) rs) ((over (discover (bitsOf given)) rs 0) .0) ((over (discover (bitsOf given)) rs 0) .1)
-      (few-selects (bitsOf given) (omega (arith, leb-true (length given) 16 e, bits-length given)) rs)
+      (few-selects (bitsOf given) rs)
       (rw (resume-start (bitsOf given)) (talks rs (Replays.asked (clientOf first) 0) (going (starting (bitsOf given))) 0 (asked-stands 0 none (starting (bitsOf given)) (first-fits e) 0 0 refl)))
   begins false e =
       ap (λ (t : Started). text (answer (talk (from t) rs))) (started ∙ ap startedAs (long-starts e))

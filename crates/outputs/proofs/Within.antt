@@ -3,7 +3,6 @@
 use Prim.Native.Nat.{ℕ, zero, suc, _+_, _-_, _≤_, _<_}
 use mathlib.Core.Path.{_≡_, refl, _∙_, ap}
 use native.Mathlib.Omega.{arith}
-use lib.ListN.{length}
 use Rattle.paper.specs.Hearing.{Prefix, Heard, nothing, hear}
 use Rattle.paper.specs.Log.{Records, missing, spoilt, next, over}
 use Rattle.paper.specs.Walk.{Walk, return, stop, select, Wire, run, discover}
@@ -59,5 +58,5 @@ within-run (select p f) (next bytes rs) k = omega (arith, within-run (f (hear by
             two : j ≡ suc k + j - suc k
             two = omega arith
 
-pub few-selects : (pre : Prefix) → length pre ≤ 128 → (rs : Records) → (over (discover pre) rs 0) .1 < 65536
-few-selects pre h rs = omega (arith, within-run (discover pre) rs 0, discover-bound (wireOf rs 0) pre h)
+pub few-selects : (pre : Prefix) (rs : Records) → (over (discover pre) rs 0) .1 < 65536
+few-selects pre rs = omega (arith, within-run (discover pre) rs 0, discover-bound (wireOf rs 0) pre)

@@ -187,7 +187,7 @@ call-bytes c b (startFlash image) g = startFlash-holds Bytes c b image
 call-bytes c b (startReset bootloader inBoot) g = startReset-holds Bytes c b bootloader inBoot
 call-bytes c b (startSetBaud baud bootloader inBoot) g = startSetBaud-holds Bytes c b baud bootloader inBoot
 call-bytes c b (request image buffer) g = request-holds Bytes c b image buffer
-call-bytes c b (record′ image bytes) g = record-holds Bytes c b image bytes (heard-bytes bytes (g .1))
+call-bytes c b (record′ image bytes) g = record-holds Bytes c b image bytes (heard-bytes bytes g)
 call-bytes c b linkFailed g = linkFailed-holds Bytes c b
 
 attached-back : (c : Machine.Client) → Fits c → attachedTo (clientOf c) ≡ c .id

@@ -60,7 +60,7 @@ follows n wire pre le = drive-sim n wire 0 (start pre) (start-fits pre le)
 -- Whatever is heard: it ends within the limit, as document 01's discovery ends and after as many Selects.
 pub ends : (wire : Wire) (pre : Prefix) → length pre ≤ 128
     → (driven (limit pre) wire 0 (begun pre) ≡ (nextOf (ended ((run wire 0 (discover pre)) .0)), (run wire 0 (discover pre)) .1)) × ((run wire 0 (discover pre)) .1 ≤ limit pre)
-ends wire pre le = (follows (limit pre) wire pre le ∙ ap (λ r. (nextOf (r .0), r .1)) ((Machine.ends wire pre le) .0), (Machine.ends wire pre le) .1)
+ends wire pre le = (follows (limit pre) wire pre le ∙ ap (λ r. (nextOf (r .0), r .1)) ((Machine.ends wire pre) .0), (Machine.ends wire pre) .1)
 
 -- On an honest wire: exactly the ids that match, sorted, after exactly the Selects counted with each id's own length, and those are few.
 pub finds-apart : (wire : Wire) (S : List Id) (L : ℕ) (pre : Prefix) → ((k : ℕ) (q : Prefix) → wire k q ≡ heardOf (matching q S)) → length pre ≤ 128 → Apart (matching pre S)

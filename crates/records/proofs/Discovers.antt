@@ -117,7 +117,7 @@ module _ (buffer : List ℕ) (room : 31 ≤ length buffer) (wire : Wire) (seed :
 
   drives : drive (limit (bitsOf given)) (heardBy wire seed) 0 (Walk.start (bitsOf given)) ≡ (ended (ended-as .0), ended-as .1)
   unfolding ended-as
-  drives = (Machine₂.ends (heardBy wire seed) (bitsOf given) room-bits) .0
+  drives = (Machine₂.ends (heardBy wire seed) (bitsOf given)) .0
 
   stands : Stands buffer room wire seed id brief (discovered buffer wire (resting seed id) given) (ended (ended-as .0), ended-as .1)
   unfolding discovered
@@ -151,7 +151,7 @@ module _ (buffer : List ℕ) (room : 31 ≤ length buffer) (wire : Wire) (seed :
   unfolding ended-as
   ends-within = (
     rw (stands .told) (ended-onward buffer room wire seed id brief (paper .1) (paper .0) (stands .at)),
-    rw (stands .count) ((Machine₂.ends (heardBy wire seed) (bitsOf given) room-bits) .1),
+    rw (stands .count) ((Machine₂.ends (heardBy wire seed) (bitsOf given)) .1),
   )
 
   -- On the wire of some devices: exactly the ids that match, sorted, after exactly document 01's count of Selects, and those are few.

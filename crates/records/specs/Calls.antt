@@ -37,7 +37,7 @@ pub data Call : Type 0 where
   record′ : List ℕ → List ℕ → Call
   linkFailed : Call
 
--- A call whose bytes are bytes.
+-- A call whose prefix or record is bytes; of an image, a buffer and a baud nothing is asked.
 abbrev pub Good : Call → Type 0
 Good (startSelect bytes bits) = Bytes bytes
 Good startDeselect = Unit {0}
@@ -45,11 +45,11 @@ Good (startAttach uid) = OfAny Bytes uid
 Good (startDiscover given) = Bytes given
 Good startInfo = Unit {0}
 Good startErase = Unit {0}
-Good (startFlash image) = Bytes image
+Good (startFlash image) = Unit {0}
 Good (startReset bootloader inBoot) = Unit {0}
-Good (startSetBaud baud bootloader inBoot) = baud < 256
-Good (request image buffer) = Bytes image × Bytes buffer
-Good (record′ image bytes) = Bytes image × Bytes bytes
+Good (startSetBaud baud bootloader inBoot) = Unit {0}
+Good (request image buffer) = Unit {0}
+Good (record′ image bytes) = Bytes bytes
 Good linkFailed = Unit {0}
 
 -- What is answered: what is said, where the unread rest begins, the buffer after a request.

@@ -116,9 +116,9 @@ unfolding down Spent
 walk-bound zero k pre ids h le e = rw (walk-judge zero pre ids h) (judge-bound zero k pre ids h (stop 12) le e (λ c. omega arith))
 walk-bound (suc n) k pre ids h le e = rw (walk-judge (suc n) pre ids h) (judge-bound (suc n) k pre ids h _ le e (λ c. down-bound n c pre ids le (walk-bound n)))
 
-pub discover-bound : (wire : Wire) (pre : Prefix) → length pre ≤ 128 → (run wire 0 (discover pre)) .1 ≤ limit pre
+pub discover-bound : (wire : Wire) (pre : Prefix) → (run wire 0 (discover pre)) .1 ≤ limit pre
 unfolding discover Spent Within isNothing _>>=_
-discover-bound wire pre le = always-run (Within m) wire 0 (discover pre) (always-ask (Within m) 0 pre _ (λ h l. heard h) (omega arith))
+discover-bound wire pre = always-run (Within m) wire 0 (discover pre) (always-ask (Within m) 0 pre _ (λ h l. heard h) (omega arith))
   where
     n : ℕ
     n = 128 - length pre

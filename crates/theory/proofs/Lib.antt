@@ -36,3 +36,4 @@ pub mod FlashBound
 pub mod FlashBytes
 pub mod FlashVerify
 pub mod Rests
+pub mod Instances

@@ -214,6 +214,6 @@ drive-run (suc n) wire k (going s) h =
     drive-run n wire (suc k) (step s (wire k (request s))) (omega arith) ∙ ap (λ r. (ended (r .0), r .1)) (sym (drive-select wire k s))
 
 -- On every wire the machine ends as the discovery does, after the same Selects, which are within the limit.
-pub machine-discovers : (wire : Wire) (pre : Prefix) → length pre ≤ 128
+pub machine-discovers : (wire : Wire) (pre : Prefix)
     → drive (limit pre) wire 0 (start pre) ≡ (ended ((run wire 0 (discover pre)) .0), (run wire 0 (discover pre)) .1)
-machine-discovers wire pre le = rw (resume-start pre) (drive-run (limit pre) wire 0 (start pre) (rw (← resume-start pre) (omega (arith, discover-bound wire pre le))))
+machine-discovers wire pre = rw (resume-start pre) (drive-run (limit pre) wire 0 (start pre) (rw (← resume-start pre) (omega (arith, discover-bound wire pre))))
