@@ -44,7 +44,7 @@ elif sys.argv[1:] == ["--compare"]:
     cargo("run", "-p", "differential", "--bin", "differential", "--", runs, seed)
     with tempfile.TemporaryDirectory() as folder:
         made(folder)
-        for name in ("runs.in", "runs.out"):
+        for name in ("runs.in", "runs.out", "clients.in", "clients.out", "texts"):
             if (pathlib.Path(folder) / name).read_bytes() != (stored / name).read_bytes():
                 sys.exit(f"tests/oracle/{name} is not what the Rust gives")
 elif sys.argv[1:] == ["--store"]:
