@@ -98,7 +98,7 @@ either : {A : Type 0} (P : A → Type 0) (b : Bool) (x y : A) → P x → P y �
 either P true x y p q = p
 either P false x y p q = q
 
-no-info-fits : InfoFits noInfo
+pub no-info-fits : InfoFits noInfo
 unfolding noInfo
 no-info-fits = record { capacity = omega arith; erase = omega arith; boot = omega arith; app = omega arith; mode = omega arith; baud = omega arith; compat = omega arith; payload = omega arith }
 
@@ -120,7 +120,7 @@ module _ (turn : ℕ) (small : turn < 2 ^ 8) where
     baud = omega arith;
   }
 
-  demanding-fits : (job purpose size address offset retries : ℕ) (i : Info) (z : Reset) → job < 2 ^ 8 → purpose < 2 ^ 8 → size < 2 ^ 64 → InfoFits i
+  pub demanding-fits : (job purpose size address offset retries : ℕ) (i : Info) (z : Reset) → job < 2 ^ 8 → purpose < 2 ^ 8 → size < 2 ^ 64 → InfoFits i
       → address < 2 ^ 32 → offset < 2 ^ 64 → retries < 2 ^ 8 → z .baud < 2 ^ 8 → FlatFits (demanding turn job purpose size i address offset retries z)
   unfolding demanding
   demanding-fits job purpose size address offset retries i z hj hp hs hi ha ho hr hz = record {
@@ -138,7 +138,7 @@ module _ (turn : ℕ) (small : turn < 2 ^ 8) where
     baud = hz;
   }
 
-  leaving-fits : (z : Reset) → z .baud < 2 ^ 8 → FlatFits (leaving turn z)
+  pub leaving-fits : (z : Reset) → z .baud < 2 ^ 8 → FlatFits (leaving turn z)
   unfolding leaving
   leaving-fits z hz = record {
     turn = small;

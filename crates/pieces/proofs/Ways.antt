@@ -23,7 +23,7 @@ padding-small n = mod-lt (4 - n % 4) (omega arith)
 pub padded-fits : (n p : ℕ) → n < 2 ^ 63 → p ≡ padding n → n + p < 2 ^ 64
 padded-fits n p h e = omega (arith, padding-small n)
 
-chunk-small : (m : ℕ) → chunk m ≤ 1024
+pub chunk-small : (m : ℕ) → chunk m ≤ 1024
 unfolding chunk
 chunk-small m = go (leb m 1024) refl
   where
@@ -32,7 +32,7 @@ chunk-small m = go (leb m 1024) refl
     go false e = omega arith
 
 -- A chunk is none, or four bytes and more.
-chunk-four : (m : ℕ) → (chunk m ≡ 0 → ⊥) → 4 ≤ chunk m
+pub chunk-four : (m : ℕ) → (chunk m ≡ 0 → ⊥) → 4 ≤ chunk m
 unfolding chunk
 chunk-four m h = go (leb m 1024) h
   where

@@ -43,13 +43,13 @@ module _ (c : Client) (h : Fits c) where
 
 -- What was saved is found again.
 module _ (at : ℕ) (b : List ℕ) where
-  id-back : (x : Id) → IdFits x → take 17 (drop at b) ≡ savedId x → loadedId at b ≡ x
+  pub id-back : (x : Id) → IdFits x → take 17 (drop at b) ≡ savedId x → loadedId at b ≡ x
   unfolding savedId loadedId
   id-back x h e =
       let s = spread at b ((1, x .len ∷ []) ∷ []) (x .bytes) 16 (h .bytes .0) (refl, tt) e in
       rw (s .0, byte-at (at + 16) 1 (x .len ∷ []) b (omega arith) (s .1 .0))
 
-  table-back : (t : Table) → TableFits t → take 1096 (drop at b) ≡ savedTable t → loadedTable at b ≡ t
+  pub table-back : (t : Table) → TableFits t → take 1096 (drop at b) ≡ savedTable t → loadedTable at b ≡ t
   unfolding savedTable loadedTable
   table-back t h e =
       let s = spread at b ((64, t .lens) ∷ (8, le 8 (t .count)) ∷ []) (t .ids) 1024 (h .ids .0) (h .lens .0, (le-length 8 (t .count), tt)) e in
@@ -126,7 +126,7 @@ module _ (b : List ℕ) (hb : Bytes b) where
   }
 
 -- A fresh client is all zero.
-zero-bytes : (n : ℕ) → Bytes (replicate n 0)
+pub zero-bytes : (n : ℕ) → Bytes (replicate n 0)
 zero-bytes zero = tt
 zero-bytes (suc n) = (omega arith, zero-bytes n)
 
@@ -155,15 +155,15 @@ fresh-is-zero =
 zero-array : (n : ℕ) → Array n (replicate n 0)
 zero-array n = (length-replicate n 0, zero-bytes n)
 
-no-id-fits : IdFits noId
+pub no-id-fits : IdFits noId
 unfolding noId
 no-id-fits = record { bytes = zero-array 16; len = omega arith }
 
-no-table-fits : TableFits noTable
+pub no-table-fits : TableFits noTable
 unfolding noTable
 no-table-fits = record { ids = zero-array 1024; lens = zero-array 64; count = omega arith }
 
-no-walk-fits : WalkFits noWalk
+pub no-walk-fits : WalkFits noWalk
 unfolding noWalk
 no-walk-fits = record { path = zero-array 16; depth = omega arith; marks = zero-array 128; found = no-table-fits; candidate = no-id-fits }
 

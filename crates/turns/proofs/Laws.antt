@@ -25,7 +25,7 @@ unfolding savedFlat tags savedInfo geometry work savedReset le
 flat-length f = refl
 
 module _ (at : ℕ) (b : List ℕ) where
-  info-back : (i : Info) → InfoFits i → take 18 (drop at b) ≡ savedInfo i → loadedInfo at b ≡ i
+  pub info-back : (i : Info) → InfoFits i → take 18 (drop at b) ≡ savedInfo i → loadedInfo at b ≡ i
   unfolding savedInfo geometry loadedInfo
   info-back i h e =
       let s = spread at b ((1, i .mode ∷ []) ∷ (1, i .«boot_baud» ∷ []) ∷ (4, le 4 (i .compat)) ∷ (2, le 2 (i .«max_payload»)) ∷ []) (geometry i) 10 (geometry-length i)

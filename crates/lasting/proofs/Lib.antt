@@ -1,0 +1,9 @@
+pub mod Arrays
+pub mod Tables
+pub mod Walks
+pub mod Turns
+pub mod Notes
+pub mod Jobs
+pub mod Fits
+pub mod Readings
+pub mod Chain
