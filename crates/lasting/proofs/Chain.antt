@@ -42,9 +42,9 @@ made-fits c h startInfo g l = started-fits _ (info-fits c h)
 made-fits c h startErase g l = started-fits _ (erase-fits c h)
 made-fits c h (startFlash image) g l = started-fits _ (flash-fits c h image l)
 made-fits c h (startReset bootloader inBoot) g l = started-fits _ (reset-fits c h bootloader inBoot)
-made-fits c h (startSetBaud baud bootloader inBoot) g l = started-fits _ (set-baud-fits c h baud bootloader inBoot g)
+made-fits c h (startSetBaud baud bootloader inBoot) g l = started-fits _ (set-baud-fits c h baud bootloader inBoot l)
 made-fits c h (request image buffer) g l = started-fits _ (request-fits c h image buffer)
-made-fits c h (record′ image bytes) g l = record-fits c h image bytes (l .0) (l .1) (g .0) (g .1)
+made-fits c h (record′ image bytes) g l = record-fits c h image bytes (l .0 .0) (l .1) (l .0 .1) g
 made-fits c h linkFailed g l = failed-fits c h
 
 -- The client after a call is the one that the call leads to, and its answer is read as that call's.

@@ -6,6 +6,7 @@ use mathlib.Core.Option.{none, some}
 use mathlib.Core.Path.{_≡_}
 use lib.ListN.{length, drop}
 use Rattle.paper.specs.Frame.{byte, field}
+use Rattle.lore.proofs.Words.{Bytes}
 use Rattle.client.specs.declared.Client.{Client}
 use Rattle.client.specs.declared.Started.{Started}
 use Rattle.client.specs.declared.Told.{Told}
@@ -25,7 +26,7 @@ use Rattle.answers.specs.Answers.{shown}
 use Rattle.codes.specs.Codes.{coded}
 use Rattle.lent.specs.Hosts.{codeOf, Exported, Requested, toldBy, tells, starts, handed, requests}
 
--- An image or a record that is lent has a length of 64 bits.
+-- What the types of the arguments give: an image or a record that is lent has a length of 64 bits, and an image and a baud are bytes.
 abbrev pub Lent : Call → Type 0
 Lent (startSelect bytes bits) = Unit {0}
 Lent startDeselect = Unit {0}
@@ -35,9 +36,9 @@ Lent startInfo = Unit {0}
 Lent startErase = Unit {0}
 Lent (startFlash image) = length image < 2 ^ 64
 Lent (startReset bootloader inBoot) = Unit {0}
-Lent (startSetBaud baud bootloader inBoot) = Unit {0}
+Lent (startSetBaud baud bootloader inBoot) = baud < 256
 Lent (request image buffer) = length image < 2 ^ 64
-Lent (record′ image bytes) = (length image < 2 ^ 64) × (length bytes < 2 ^ 64)
+Lent (record′ image bytes) = ((length image < 2 ^ 64) × Bytes image) × (length bytes < 2 ^ 64)
 Lent linkFailed = Unit {0}
 
 -- What the exported function of a call leaves of a state, of an answer's buffer and of the request's.
