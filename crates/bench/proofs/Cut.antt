@@ -8,7 +8,6 @@ use native.Mathlib.Omega.{arith}
 use lib.ListN.{length, drop, length-drop, drop-of-length-le}
 use lib.Seq.{drop-drop}
 use Rattle.lines.specs.declared.Reader.{Reader}
-use Rattle.lines.specs.declared.Fed.{Fed}
 use Rattle.lines.specs.declared.Event.{Event}
 use Rattle.lines.specs.declared.Event.the-variants.{More, Line, Empty, Bad}
 use Rattle.lines.specs.Reading.{Stepped, step, halts, feed, went, Read}
@@ -18,7 +17,9 @@ use Rattle.replay.specs.declared.Replay.{Replay}
 use Rattle.replay.specs.Replays.{isEnded}
 use Rattle.events.specs.declared.Log.{Log}
 use Rattle.events.specs.Events.{lined, met, logOf}
-use Rattle.bench.specs.Machine.{Logged, byte, piece, more, joins}
+use Rattle.lore.proofs.Choice.{by-test}
+use Rattle.bench.specs.declared.Span.{Span}
+use Rattle.bench.specs.Machine.{Logged, byte, piece, more, joins, Spanned, reached, stretch}
 
 abbrev pub at : Reader → Replay → List ℕ → Logged
 at r v buf = record { log = logOf r v; bytes = buf }
@@ -121,40 +122,56 @@ cut (b ∷ bs) i r v buf run = go (cut bs (i + 1) (step r buf b .step .reader) v
     go c true q = stopped v run b bs i r buf q
     go c false q = onto v run b bs i r buf q c
 
--- As the loop has the facts.
-module _ (xs buf₀ buf buf′ : List ℕ) (w₀ w : Log) (i : ℕ) (f : Fed) (j done : Bool) (q : piece (record { log = w; bytes = buf }) (drop i xs) ≡ piece (record { log = w₀; bytes = buf₀ }) xs)
-    (ed : done ≡ isEnded (w .replay .stage)) (run : done ≡ false) (ej : j ≡ joins (w .replay .stage)) (e : record { fed = f; bytes = buf′ } ≡ feed j i (w .reader) buf (drop i xs))
-    (room : i ≤ length xs) where
-  abbrev c : Cut (drop i xs) i (w .reader) (w .replay) buf
-  c = cut (drop i xs) i (w .reader) (w .replay) buf (sym ed ∙ run)
+-- A stretch from a place on, and what is left to do after it.
+record Onward (xs : List ℕ) (i : ℕ) (w : Log) (buf : List ℕ) (s : Spanned) : Type 0 where
+  within : s .span .at ≤ length xs
+  same : piece (record { log = s .span .log; bytes = s .bytes }) (drop (s .span .at) xs) ≡ piece (record { log = w; bytes = buf }) (drop i xs)
+  all : s .span .done ≡ true → record { log = s .span .log; bytes = s .bytes } ≡ piece (record { log = w; bytes = buf }) (drop i xs)
+  some : s .span .done ≡ false → length xs - s .span .at < length xs - i
 
-  same-read : record { fed = f; bytes = buf′ } ≡ feed (joins (w .replay .stage)) i (w .reader) buf (drop i xs)
-  same-read = e ∙ ap (λ (j : Bool). feed j i (w .reader) buf (drop i xs)) ej
+module _ (xs : List ℕ) (i : ℕ) (w : Log) (buf : List ℕ) (room : i ≤ length xs) where
+  ended : isEnded (w .replay .stage) ≡ true → Onward xs i w buf (record { span = record { log = w; at = i; done = true }; bytes = buf })
+  ended e = record { within = room; same = refl; all = λ d. sym (still (w .reader) (w .replay) buf e (drop i xs)); some = λ d. absurd (false≢true (sym d)) }
 
-  place : f .at ≡ i + c .k
-  place = ap (λ (F : Read). F .fed .at) same-read ∙ c .place
+  module _ (run : isEnded (w .replay .stage) ≡ false) where
+    abbrev c : Cut (drop i xs) i (w .reader) (w .replay) buf
+    c = cut (drop i xs) i (w .reader) (w .replay) buf run
 
-  pub within : f .at ≤ length xs
-  within = omega (arith, place, c .inside, length-drop i xs)
+    abbrev f : Read
+    f = feed (joins (w .replay .stage)) i (w .reader) buf (drop i xs)
 
-  module _ (u : Log) (eu : u ≡ met (w .replay) (f .reader) (f .event) buf′) (m : Bool) (em : m ≡ more (f .event)) where
-    pub onward : piece (record { log = u; bytes = buf′ }) (drop (f .at) xs) ≡ piece (record { log = w₀; bytes = buf₀ }) xs
-    onward =
-        ap (λ (u : Log). piece (record { log = u; bytes = buf′ }) (drop (f .at) xs)) eu
-        ∙ ap (λ (l : List ℕ). piece (record { log = met (w .replay) (f .reader) (f .event) buf′; bytes = buf′ }) l) (ap (λ (j : ℕ). drop j xs) place ∙ sym (drop-drop (c .k) i xs))
-        ∙ ap (λ (F : Read). piece (on (w .replay) F) (drop (c .k) (drop i xs))) same-read
-        ∙ sym (c .same) ∙ q
+    onto-end : piece (on (w .replay) f) (drop (f .fed .at) xs) ≡ piece (record { log = w; bytes = buf }) (drop i xs)
+    onto-end =
+        ap (λ (l : List ℕ). piece (on (w .replay) f) l) (ap (λ (j : ℕ). drop j xs) (c .place) ∙ sym (drop-drop (c .k) i xs))
+        ∙ sym (c .same)
 
-    pub less : m ≡ false → length xs - f .at < length xs - i
-    less h = omega (arith, place, c .inside, length-drop i xs, c .some (sym (ap (λ (F : Read). more (F .fed .event)) same-read) ∙ sym em ∙ h))
-
-    pub to-end : m ≡ true → record { log = u; bytes = buf′ } ≡ piece (record { log = w₀; bytes = buf₀ }) xs
+    running-on : Onward xs i w buf (reached (w .replay) f)
     unfolding piece
-    to-end h = rw end at onward
-      where
-        end : drop (f .at) xs ≡ []
-        end = drop-of-length-le xs {i = f .at} (omega (arith, place, length-drop i xs, c .all (sym (ap (λ (F : Read). more (F .fed .event)) same-read) ∙ sym em ∙ h)))
+    running-on = record {
+      within = omega (arith, c .place, c .inside, length-drop i xs);
+      same = onto-end;
+      all = λ d. rw (drop-of-length-le xs {i = f .fed .at} (omega (arith, c .place, length-drop i xs, c .all d))) at onto-end;
+      some = λ d. omega (arith, c .place, c .inside, length-drop i xs, c .some d);
+    }
 
-pub on-ended : (xs buf₀ buf : List ℕ) (w₀ w : Log) (i : ℕ) (done : Bool) → piece (record { log = w; bytes = buf }) (drop i xs) ≡ piece (record { log = w₀; bytes = buf₀ }) xs
-    → done ≡ isEnded (w .replay .stage) → done ≡ true → record { log = w; bytes = buf } ≡ piece (record { log = w₀; bytes = buf₀ }) xs
-on-ended xs buf₀ buf w₀ w i done q ed e = sym (still (w .reader) (w .replay) buf (sym ed ∙ e) (drop i xs)) ∙ q
+  onward : Onward xs i w buf (stretch w buf i (drop i xs))
+  unfolding stretch
+  onward = by-test (Onward xs i w buf) (isEnded (w .replay .stage)) ended running-on
+
+-- As the loop has the facts.
+module _ (xs buf₀ buf buf′ : List ℕ) (w₀ w : Log) (i : ℕ) (s : Span) (q : piece (record { log = w; bytes = buf }) (drop i xs) ≡ piece (record { log = w₀; bytes = buf₀ }) xs)
+    (room : i ≤ length xs) (e : record { span = s; bytes = buf′ } ≡ stretch w buf i (drop i xs)) where
+  o : Onward xs i w buf (record { span = s; bytes = buf′ })
+  o = rw e (onward xs i w buf room)
+
+  pub within : s .at ≤ length xs
+  within = o .within
+
+  pub further : piece (record { log = s .log; bytes = buf′ }) (drop (s .at) xs) ≡ piece (record { log = w₀; bytes = buf₀ }) xs
+  further = o .same ∙ q
+
+  pub less : s .done ≡ false → length xs - s .at < length xs - i
+  less h = o .some h
+
+  pub to-end : s .done ≡ true → record { log = s .log; bytes = buf′ } ≡ piece (record { log = w₀; bytes = buf₀ }) xs
+  to-end h = o .all h ∙ q

@@ -5,17 +5,30 @@ use mathlib.Core.Bool.{Bool, true, false}
 use mathlib.Core.List.{List, [], _∷_}
 use mathlib.Core.Path.{_≡_, sym, _∙_, ap}
 use Rattle.lines.specs.declared.Reader.{Reader}
+use Rattle.lines.specs.declared.Fed.{Fed}
+use Rattle.lines.specs.Reading.{feed}
 use Rattle.replay.specs.declared.Replay.{Replay}
 use Rattle.replay.specs.Replays as Replays
-use Rattle.replay.specs.Replays.{answer}
+use Rattle.replay.specs.Replays.{answer, isEnded}
 use Rattle.listing.specs.declared.Answer.{Answer}
 use Rattle.events.specs.declared.Log.{Log}
-use Rattle.events.specs.Events.{idle, logOf}
-use Rattle.bench.specs.Machine.{inside, begun, Logged, piece, lastLine}
+use Rattle.events.specs.Events.{idle, logOf, met}
+use Rattle.bench.specs.Machine.{joins, inside, more, begun, Logged, reached, stretch, piece, lastLine}
 
 pub began : (w : Log) (r : Reader) (v : Replay) → r ≡ idle → v ≡ Replays.begun → w ≡ logOf r v → w ≡ begun
 unfolding begun
 began w r v er ev ew = ew ∙ rw (er, ev)
+
+module _ (w : Log) (buf xs : List ℕ) (i : ℕ) (done : Bool) (ed : done ≡ isEnded (w .replay .stage)) where
+  pub no-stretch : done ≡ true → record { span = record { log = w; at = i; done = true }; bytes = buf } ≡ stretch w buf i xs
+  unfolding stretch
+  no-stretch h = rw (sym ed ∙ h)
+
+  pub stretched : (f : Fed) (buf′ : List ℕ) (j m : Bool) (u : Log) → done ≡ false → j ≡ joins (w .replay .stage)
+      → record { fed = f; bytes = buf′ } ≡ feed j i (w .reader) buf xs → u ≡ met (w .replay) (f .reader) (f .event) buf′ → m ≡ more (f .event)
+      → record { span = record { log = u; at = f .at; done = m }; bytes = buf′ } ≡ stretch w buf i xs
+  unfolding stretch
+  stretched f buf′ j m u h ej e eu em = rw (eu, em, sym ed ∙ h) (ap (reached (w .replay)) (rw ej at e))
 
 module _ (w : Log) (buf : List ℕ) (b : Bool) (e : b ≡ inside (w .reader .place)) where
   pub closed : (x : Log) (buf′ : List ℕ) → b ≡ true → record { log = x; bytes = buf′ } ≡ piece (record { log = w; bytes = buf }) (10 ∷ [])

@@ -5,13 +5,14 @@ use mathlib.Core.Bool.{Bool, true, false, cond}
 use mathlib.Core.List.{List, [], _∷_}
 use Rattle.lines.specs.declared.Place.{Place}
 use Rattle.lines.specs.declared.Event.{Event}
-use Rattle.lines.specs.Reading.{Stepped, step, onEvent, onPlace}
+use Rattle.lines.specs.Reading.{Stepped, step, Read, feed, onEvent, onPlace}
 use Rattle.replay.specs.declared.Stage.{Stage}
 use Rattle.replay.specs.declared.Replay.{Replay}
 use Rattle.replay.specs.Replays as Replays
 use Rattle.replay.specs.Replays.{onStage, isEnded}
 use Rattle.events.specs.declared.Log.{Log}
 use Rattle.events.specs.Events.{idle, logOf, met}
+use Rattle.bench.specs.declared.Span.{Span}
 
 -- Whether lines are joined to a record.
 abbrev pub joins : Stage → Bool
@@ -39,6 +40,19 @@ byte s b = cond (isEnded (s .log .replay .stage)) s (after (s .log .replay) (ste
 unfoldable pub piece : Logged → List ℕ → Logged
 piece s [] = s
 piece s (b ∷ bs) = piece (byte s b) bs
+
+-- The rest of a piece from a place on, read up to an event.
+pub record Spanned : Type 0 where
+  pub span : Span
+  pub bytes : List ℕ
+
+abbrev pub reached : Replay → Read → Spanned
+reached v f = record { span = record { log = met v (f .fed .reader) (f .fed .event) (f .bytes); at = f .fed .at; done = more (f .fed .event) }; bytes = f .bytes }
+
+unfoldable pub stretch : Log → List ℕ → ℕ → List ℕ → Spanned
+stretch w buf i xs =
+    cond (isEnded (w .replay .stage)) (record { span = record { log = w; at = i; done = true }; bytes = buf })
+    (reached (w .replay) (feed (joins (w .replay .stage)) i (w .reader) buf xs))
 
 unfoldable pub begun : Log
 begun = logOf idle Replays.begun

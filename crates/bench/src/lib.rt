@@ -5,8 +5,16 @@ use lines::Place;
 use listing::Answer;
 use replay::Stage;
 ghost use mathlib.Core.Path.{_≡_};
+ghost use lib.ListN.{drop};
 ghost use Rattle.replay.specs.Replays.{answer};
-ghost use Rattle.bench.specs.Machine.{joins, inside, more, begun, Logged, piece, lastLine};
+ghost use Rattle.bench.specs.Machine.{joins, inside, more, begun, Logged, stretch, piece, lastLine};
+
+// A log after a stretch of a piece: how far the piece was read, and whether nothing of it is left to read.
+struct Span {
+    pub log: Log,
+    pub at: usize,
+    pub done: bool,
+}
 
 // Whether lines are joined to a record.
 fn joins(stage: Stage) -> bool
@@ -50,6 +58,29 @@ pub fn begun() -> Log
     events::log_of(reader, replay)
 }
 
+// One stretch of a piece: up to the next event in it, or to its end.
+fn stretch(log: Log, from: usize, bytes: &[u8], buf: &mut [u8]) -> Span
+    ensures { λ r. ⌜ record { span = r; bytes = now (buf .exit) } ≡ stretch log (now (buf .entry)) from (drop from (now (bytes .entry))) ⌝ }
+{
+    let v = log.replay;
+    let s = v.stage;
+    if replay::is_ended(s) {
+        return Span {
+            log,
+            at: from,
+            done: true,
+        };
+    }
+    let r = log.reader;
+    let f = r.feed(joins(s), from, bytes, buf);
+    let e = f.event;
+    Span {
+        log: events::met(v, f.reader, e, buf),
+        at: f.at,
+        done: more(e),
+    }
+}
+
 // A piece of the input, of any length. The buffer holds a record, or line one, between one piece and the next.
 pub fn feed(log: Log, bytes: &[u8], buf: &mut [u8]) -> Log
     ensures { λ r. ⌜ record { log = r; bytes = now (buf .exit) } ≡ piece (record { log = log; bytes = now (buf .entry) }) (now (bytes .entry)) ⌝ }
@@ -57,18 +88,10 @@ pub fn feed(log: Log, bytes: &[u8], buf: &mut [u8]) -> Log
     let mut w = log;
     let mut i = 0;
     loop {
-        let v = w.replay;
-        let s = v.stage;
-        if replay::is_ended(s) {
-            break;
-        }
-        let r = w.reader;
-        let f = r.feed(joins(s), i, bytes, buf);
-        i = f.at;
-        let q = f.reader;
-        let e = f.event;
-        w = events::met(v, q, e, buf);
-        if more(e) {
+        let s = stretch(w, i, bytes, buf);
+        w = s.log;
+        i = s.at;
+        if s.done {
             break;
         }
     }

@@ -8,7 +8,7 @@ use lib.ListN.{length, take, drop}
 use borrow.Author.Tests.{lt-ltb, le-ltb}
 use Rattle.ids.specs.declared.Id.{Id}
 use Rattle.ids.specs.Ids.{idOf}
-use Rattle.listing.proofs.Ways.{held, id-part}
+use Rattle.ids.proofs.Laws.{held, id-part}
 use Rattle.text.specs.declared.Parsed.{Parsed}
 use Rattle.text.specs.declared.Parse.{Parse}
 use Rattle.text.specs.declared.Parse.the-variants.{Uid, BadText}

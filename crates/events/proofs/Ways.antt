@@ -11,7 +11,6 @@ use Rattle.lines.specs.declared.Reader.{Reader}
 use Rattle.replay.specs.declared.Stage.{Stage}
 use Rattle.replay.specs.declared.Stage.the-variants.{First, Running, Ended}
 use Rattle.replay.specs.declared.Replay.{Replay}
-use Rattle.replay.specs.Replays as Replays
 use Rattle.replay.specs.Replays.{onStage, stops, opens, takes}
 use Rattle.events.specs.declared.Log.{Log}
 use Rattle.events.specs.Events.{idle, logOf, lined, emptied, met}

@@ -1,10 +1,11 @@
 -- A turn's numbers are read as that turn, and the turn of numbers that fit has numbers that fit.
 -- Assumes nothing.
 use Prim.Native.Nat.{ℕ, _<_, _^_}
-use mathlib.Core.Bool.{Bool, true, false, cond}
+use mathlib.Core.Bool.{Bool, false, cond}
 use mathlib.Core.Path.{_≡_, refl, _∙_, ap}
 use lib.Dec.{eqb}
 use native.Mathlib.Omega.{arith}
+use Rattle.lore.proofs.Choice.{either}
 use Rattle.walk.specs.declared.Phase as Walk
 use Rattle.walk.specs.declared.Phase.the-variants.{Asked, Mine, Other, Leaving}
 use Rattle.image.specs.declared.Info.{Info}
@@ -20,7 +21,7 @@ use Rattle.client.specs.declared.Phase.the-variants.{Select, Demand, Leave}
 use Rattle.client.specs.declared.Turn.{Turn}
 use Rattle.client.specs.declared.Turn.the-variants.{Idle, Ready, Waiting}
 use Rattle.flat.specs.declared.Flat.{Flat}
-use Rattle.flat.specs.Turns.{noInfo, noReset, selecting, demanding, leaving, tagOf, sizeOf, walkingOf, searchFlat, jobFlat, phaseFlat, flatOf, purposeOf, stepOf, searchOf, jobOf, phaseOf, turnOf, InfoFits, FlatFits}
+use Rattle.flat.specs.Turns.{noInfo, noReset, jobless, selecting, demanding, leaving, tagOf, sizeOf, walkingOf, searchFlat, jobFlat, phaseFlat, flatOf, purposeOf, stepOf, searchOf, jobOf, phaseOf, turnOf, InfoFits, FlatFits}
 
 purpose-of-flat : (why : Purpose) → purposeOf (tagOf why) (sizeOf why) ≡ why
 unfolding purposeOf tagOf sizeOf
@@ -93,21 +94,16 @@ turn-of-flat Idle = refl
 turn-of-flat (Ready p) = turn-by (phaseFlat 1 p) 1 (phase-turn 1 p) ∙ ap Ready (phase-of-flat 1 p)
 turn-of-flat (Waiting p) = turn-by (phaseFlat 2 p) 2 (phase-turn 2 p) ∙ ap Waiting (phase-of-flat 2 p)
 
--- What holds of both holds of the one that a test chooses.
-either : {A : Type 0} (P : A → Type 0) (b : Bool) (x y : A) → P x → P y → P (cond b x y)
-either P true x y p q = p
-either P false x y p q = q
-
 pub no-info-fits : InfoFits noInfo
 unfolding noInfo
 no-info-fits = record { capacity = omega arith; erase = omega arith; boot = omega arith; app = omega arith; mode = omega arith; baud = omega arith; compat = omega arith; payload = omega arith }
 
 module _ (turn : ℕ) (small : turn < 2 ^ 8) where
-  pub selecting-fits : (search step : ℕ) (given other : Bool) → search < 2 ^ 8 → step < 2 ^ 8 → FlatFits (selecting turn search given step other)
-  unfolding selecting noReset
-  selecting-fits search step given other hs ht = record {
+  jobless-fits : (kind search step : ℕ) (given other : Bool) (z : Reset) → kind < 2 ^ 8 → search < 2 ^ 8 → step < 2 ^ 8 → z .baud < 2 ^ 8
+      → FlatFits (jobless turn kind search given step other z)
+  jobless-fits kind search step given other z hk hs ht hz = record {
     turn = small;
-    kind = omega arith;
+    kind = hk;
     search = hs;
     step = ht;
     job = omega arith;
@@ -117,8 +113,16 @@ module _ (turn : ℕ) (small : turn < 2 ^ 8) where
     address = omega arith;
     offset = omega arith;
     retries = omega arith;
-    baud = omega arith;
+    baud = hz;
   }
+
+  pub selecting-fits : (search step : ℕ) (given other : Bool) → search < 2 ^ 8 → step < 2 ^ 8 → FlatFits (selecting turn search given step other)
+  unfolding selecting noReset
+  selecting-fits search step given other hs ht = jobless-fits 0 search step given other noReset (omega arith) hs ht (omega arith)
+
+  pub leaving-fits : (z : Reset) → z .baud < 2 ^ 8 → FlatFits (leaving turn z)
+  unfolding leaving
+  leaving-fits z hz = jobless-fits 2 0 0 false false z (omega arith) (omega arith) (omega arith) hz
 
   pub demanding-fits : (job purpose size address offset retries : ℕ) (i : Info) (z : Reset) → job < 2 ^ 8 → purpose < 2 ^ 8 → size < 2 ^ 64 → InfoFits i
       → address < 2 ^ 32 → offset < 2 ^ 64 → retries < 2 ^ 8 → z .baud < 2 ^ 8 → FlatFits (demanding turn job purpose size i address offset retries z)
@@ -138,23 +142,6 @@ module _ (turn : ℕ) (small : turn < 2 ^ 8) where
     baud = hz;
   }
 
-  pub leaving-fits : (z : Reset) → z .baud < 2 ^ 8 → FlatFits (leaving turn z)
-  unfolding leaving
-  leaving-fits z hz = record {
-    turn = small;
-    kind = omega arith;
-    search = omega arith;
-    step = omega arith;
-    job = omega arith;
-    purpose = omega arith;
-    size = omega arith;
-    info = no-info-fits;
-    address = omega arith;
-    offset = omega arith;
-    retries = omega arith;
-    baud = hz;
-  }
-
 -- The numbers of the turn that numbers stand for.
 module _ (f : Flat) (h : FlatFits f) where
   purpose-fits : (tagOf (purposeOf (f .purpose) (f .size)) < 2 ^ 8) × (sizeOf (purposeOf (f .purpose) (f .size)) < 2 ^ 64)
@@ -162,7 +149,7 @@ module _ (f : Flat) (h : FlatFits f) where
   purpose-fits = pick (eqb (f .purpose) 1) _ _ (omega arith, omega arith) (pick (eqb (f .purpose) 2) _ _ (omega arith, h .size) (omega arith, omega arith))
     where
       pick : (b : Bool) (x y : Purpose) → (tagOf x < 2 ^ 8) × (sizeOf x < 2 ^ 64) → (tagOf y < 2 ^ 8) × (sizeOf y < 2 ^ 64) → (tagOf (cond b x y) < 2 ^ 8) × (sizeOf (cond b x y) < 2 ^ 64)
-      pick = either (λ (w : Purpose). (tagOf w < 2 ^ 8) × (sizeOf w < 2 ^ 64))
+      pick b x y = either (λ (w : Purpose). (tagOf w < 2 ^ 8) × (sizeOf w < 2 ^ 64)) b
 
   module _ (turn : ℕ) (small : turn < 2 ^ 8) where
     step-fits : FlatFits (walkingOf turn (stepOf (f .step) (f .other)))
@@ -170,7 +157,7 @@ module _ (f : Flat) (h : FlatFits f) where
     step-fits = pick (eqb (f .step) 1) _ _ (one 1 false (omega arith)) (pick (eqb (f .step) 2) _ _ (one 2 (f .other) (omega arith)) (pick (eqb (f .step) 3) _ _ (one 3 false (omega arith)) (one 0 false (omega arith))))
       where
         pick : (b : Bool) (x y : Walk.Phase) → FlatFits (walkingOf turn x) → FlatFits (walkingOf turn y) → FlatFits (walkingOf turn (cond b x y))
-        pick = either (λ (w : Walk.Phase). FlatFits (walkingOf turn w))
+        pick b x y = either (λ (w : Walk.Phase). FlatFits (walkingOf turn w)) b
 
         one : (step : ℕ) (other : Bool) → step < 2 ^ 8 → FlatFits (selecting turn 4 false step other)
         one step other ht = selecting-fits turn small 4 step false other (omega arith) ht
@@ -184,7 +171,7 @@ module _ (f : Flat) (h : FlatFits f) where
         (pick (eqb (f .search) 4) _ _ step-fits (one 0 false (omega arith)))))
       where
         pick : (b : Bool) (x y : Search) → FlatFits (searchFlat turn x) → FlatFits (searchFlat turn y) → FlatFits (searchFlat turn (cond b x y))
-        pick = either (λ (s : Search). FlatFits (searchFlat turn s))
+        pick b x y = either (λ (s : Search). FlatFits (searchFlat turn s)) b
 
         one : (search : ℕ) (given : Bool) → search < 2 ^ 8 → FlatFits (selecting turn search given 0 false)
         one search given hs = selecting-fits turn small search 0 given false hs (omega arith)
@@ -199,18 +186,18 @@ module _ (f : Flat) (h : FlatFits f) where
         (demanding-fits turn small 0 _ _ 0 0 0 noInfo noReset (omega arith) (purpose-fits .0) (purpose-fits .1) no-info-fits (omega arith) (omega arith) (omega arith) (omega arith)))))
       where
         pick : (b : Bool) (x y : Job) → FlatFits (jobFlat turn x) → FlatFits (jobFlat turn y) → FlatFits (jobFlat turn (cond b x y))
-        pick = either (λ (j : Job). FlatFits (jobFlat turn j))
+        pick b x y = either (λ (j : Job). FlatFits (jobFlat turn j)) b
 
     phase-fits : FlatFits (phaseFlat turn (phaseOf f))
     unfolding phaseOf phaseFlat
     phase-fits = pick (eqb (f .kind) 1) _ _ job-fits (pick (eqb (f .kind) 2) _ _ (leaving-fits turn small (f .reset) (h .baud)) search-fits)
       where
         pick : (b : Bool) (x y : Phase) → FlatFits (phaseFlat turn x) → FlatFits (phaseFlat turn y) → FlatFits (phaseFlat turn (cond b x y))
-        pick = either (λ (p : Phase). FlatFits (phaseFlat turn p))
+        pick b x y = either (λ (p : Phase). FlatFits (phaseFlat turn p)) b
 
   pub turn-fits : FlatFits (flatOf (turnOf f))
   unfolding turnOf flatOf
   turn-fits = pick (eqb (f .turn) 1) _ _ (phase-fits 1 (omega arith)) (pick (eqb (f .turn) 2) _ _ (phase-fits 2 (omega arith)) (selecting-fits 0 (omega arith) 0 0 false false (omega arith) (omega arith)))
     where
       pick : (b : Bool) (x y : Turn) → FlatFits (flatOf x) → FlatFits (flatOf y) → FlatFits (flatOf (cond b x y))
-      pick = either (λ (t : Turn). FlatFits (flatOf t))
+      pick b x y = either (λ (t : Turn). FlatFits (flatOf t)) b

@@ -8,7 +8,7 @@ use Rattle.image.specs.declared.Info.{Info}
 use Rattle.client.specs.declared.Reset.{Reset}
 use Rattle.client.specs.declared.Turn.{Turn}
 use Rattle.flat.specs.declared.Flat.{Flat}
-use Rattle.flat.specs.Turns.{noInfo, noReset, selecting, demanding, leaving, flatOf}
+use Rattle.flat.specs.Turns.{noInfo, noReset, jobless, selecting, demanding, flatOf}
 
 -- A number that is one case's is no other's.
 pub other-case : (x n m : ℕ) → x ≡ n → eqb n m ≡ false → eqb x m ≡ false
@@ -22,19 +22,16 @@ module _ {A B C : Type 0} (f : A → B → C) where
 pub at-turn : (t u : Turn) (r : Flat) → t ≡ u → r ≡ flatOf u → r ≡ flatOf t
 at-turn t u r e h = rw e h
 
-pub selecting-is : (turn search step : ℕ) (given other : Bool) (i : Info) (z : Reset) → i ≡ noInfo → z ≡ noReset
+pub jobless-is : (turn kind search step : ℕ) (given other : Bool) (i : Info) (z : Reset) → i ≡ noInfo
     → _≡_ {A = Flat}
-    (record { turn = turn; kind = 0; search = search; given = given; step = step; other = other; job = 0; purpose = 0; size = 0; info = i; address = 0; offset = 0; retries = 0; reset = z })
-    (selecting turn search given step other)
-unfolding selecting
-selecting-is turn search step given other i z ei ez = rw (ei, ez)
+    (record { turn = turn; kind = kind; search = search; given = given; step = step; other = other; job = 0; purpose = 0; size = 0; info = i; address = 0; offset = 0; retries = 0; reset = z })
+    (jobless turn kind search given step other z)
+jobless-is turn kind search step given other i z e = rw e
 
-pub leaving-is : (turn : ℕ) (i : Info) (z : Reset) → i ≡ noInfo
-    → _≡_ {A = Flat}
-    (record { turn = turn; kind = 2; search = 0; given = false; step = 0; other = false; job = 0; purpose = 0; size = 0; info = i; address = 0; offset = 0; retries = 0; reset = z })
-    (leaving turn z)
-unfolding leaving
-leaving-is turn i z e = rw e
+pub selecting-is : (turn search step : ℕ) (given other : Bool) (z : Reset) (r : Flat) → z ≡ noReset → r ≡ jobless turn 0 search given step other z
+    → r ≡ selecting turn search given step other
+unfolding selecting
+selecting-is turn search step given other z r e h = rw e at h
 
 -- With no information, and with no reset.
 module _ (turn job purpose size address offset retries p n : ℕ) (i : Info) (z : Reset) (r : Flat) (ep : p ≡ purpose) (en : n ≡ size) where

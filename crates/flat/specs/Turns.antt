@@ -25,11 +25,11 @@ noInfo = record { capacity = 0; «erase_size» = 0; «boot_version» = 0; «app_
 unfoldable pub noReset : Reset
 noReset = record { bootloader = false; given = false; baud = 0 }
 
--- The numbers of a Select, of a request with one answer, and of one whose answer is not awaited.
-unfoldable pub selecting : ℕ → ℕ → Bool → ℕ → Bool → Flat
-selecting turn search given step other = record {
+-- Without a job, what a job has is zero.
+abbrev pub jobless : ℕ → ℕ → ℕ → Bool → ℕ → Bool → Reset → Flat
+jobless turn kind search given step other reset = record {
   turn = turn;
-  kind = 0;
+  kind = kind;
   search = search;
   given = given;
   step = step;
@@ -41,8 +41,12 @@ selecting turn search given step other = record {
   address = 0;
   offset = 0;
   retries = 0;
-  reset = noReset;
+  reset = reset;
 }
+
+-- The numbers of a Select, of a request with one answer, and of one whose answer is not awaited.
+unfoldable pub selecting : ℕ → ℕ → Bool → ℕ → Bool → Flat
+selecting turn search given step other = jobless turn 0 search given step other noReset
 
 unfoldable pub demanding : ℕ → ℕ → ℕ → ℕ → Info → ℕ → ℕ → ℕ → Reset → Flat
 demanding turn job purpose size info address offset retries reset = record {
@@ -63,22 +67,7 @@ demanding turn job purpose size info address offset retries reset = record {
 }
 
 unfoldable pub leaving : ℕ → Reset → Flat
-leaving turn reset = record {
-  turn = turn;
-  kind = 2;
-  search = 0;
-  given = false;
-  step = 0;
-  other = false;
-  job = 0;
-  purpose = 0;
-  size = 0;
-  info = noInfo;
-  address = 0;
-  offset = 0;
-  retries = 0;
-  reset = reset;
-}
+leaving turn reset = jobless turn 2 0 false 0 false reset
 
 -- A turn as numbers.
 unfoldable pub tagOf : Purpose → ℕ

@@ -7,7 +7,7 @@ use client::Search;
 use client::Turn;
 use image::Info;
 ghost use mathlib.Core.Path.{_≡_};
-ghost use Rattle.flat.specs.Turns.{noInfo, noReset, selecting, demanding, leaving, tagOf, sizeOf, walkingOf, searchFlat, jobFlat, phaseFlat, flatOf, purposeOf, stepOf, searchOf, jobOf, phaseOf, turnOf};
+ghost use Rattle.flat.specs.Turns.{noInfo, noReset, jobless, selecting, demanding, leaving, tagOf, sizeOf, walkingOf, searchFlat, jobFlat, phaseFlat, flatOf, purposeOf, stepOf, searchOf, jobOf, phaseOf, turnOf};
 
 // What a turn can hold. What a turn does not have is zero.
 pub struct Flat {
@@ -52,14 +52,14 @@ pub fn no_reset() -> Reset
     }
 }
 
-fn selecting(turn: u8, search: u8, given: bool, step: u8, other: bool) -> Flat
-    ensures { λ r. ⌜ r ≡ selecting turn search given step other ⌝ }
+// Without a job, what a job has is zero.
+fn jobless(turn: u8, kind: u8, search: u8, given: bool, step: u8, other: bool, reset: Reset) -> Flat
+    ensures { λ r. ⌜ r ≡ jobless turn kind search given step other reset ⌝ }
 {
     let info = no_info();
-    let reset = no_reset();
     Flat {
         turn,
-        kind: 0,
+        kind,
         search,
         given,
         step,
@@ -73,6 +73,13 @@ fn selecting(turn: u8, search: u8, given: bool, step: u8, other: bool) -> Flat
         retries: 0,
         reset,
     }
+}
+
+fn selecting(turn: u8, search: u8, given: bool, step: u8, other: bool) -> Flat
+    ensures { λ r. ⌜ r ≡ selecting turn search given step other ⌝ }
+{
+    let reset = no_reset();
+    jobless(turn, 0, search, given, step, other, reset)
 }
 
 fn demanding(
@@ -109,23 +116,7 @@ fn demanding(
 fn leaving(turn: u8, reset: Reset) -> Flat
     ensures { λ r. ⌜ r ≡ leaving turn reset ⌝ }
 {
-    let info = no_info();
-    Flat {
-        turn,
-        kind: 2,
-        search: 0,
-        given: false,
-        step: 0,
-        other: false,
-        job: 0,
-        purpose: 0,
-        size: 0,
-        info,
-        address: 0,
-        offset: 0,
-        retries: 0,
-        reset,
-    }
+    jobless(turn, 2, 0, false, 0, false, reset)
 }
 
 fn tag_of(why: Purpose) -> u8

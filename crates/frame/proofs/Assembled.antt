@@ -14,7 +14,7 @@ use Rattle.lore.proofs.Parts.{part-all, mid-all}
 use Rattle.lore.proofs.Frames.{head-length, body-length, frame-length}
 use Rattle.wire.specs.declared.Written.the-variants.{Done, Short, TooLong}
 use Rattle.frame.specs.declared.Head.{Head}
-use Rattle.frame.specs.Writing.{frameOf, tagOf, headOf, Outcome, placed, written}
+use Rattle.frame.specs.Writing.{frameOf, tagOf, headOf, placed, written}
 
 twelve : (n : ℕ) → n + 10 + 2 ≡ n + 12
 twelve n = omega arith

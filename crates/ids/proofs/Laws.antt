@@ -1,4 +1,4 @@
--- A bit after one was set: the one that was set, and every other. The id of an id's value.
+-- A bit after one was set: the one that was set, and every other. The id of an id's value, and its bytes there.
 -- Assumes nothing.
 use Prim.Native.Nat.{ℕ, suc, _+_, _*_, _/_, _%_, _^_, _-_, _<_, _≤_}
 use mathlib.Core.Bool.{true}
@@ -9,11 +9,12 @@ use native.Mathlib.Decide.{decLt}
 use native.Mathlib.Nat.{mod-lt}
 use native.Mathlib.Omega.{arith}
 use lib.Dec.{eqb}
-use lib.ListN.{length, getD, set, replicate}
+use lib.ListN.{length, getD, take, set, replicate, length-take}
 use lib.Pow.{pow-pos, high, low, shr-shr, field, mod-mod-pow}
-use lib.Seq.{getD-set-same, getD-set-other, set-out, take-append-seam}
+use lib.Seq.{getD-set-same, getD-set-other, set-out, take-append-seam, take-take, take-length}
 use borrow.Author.Tests.{eq-eqb}
 use Rattle.paper.specs.Hearing.{bit}
+use Rattle.ids.specs.declared.Id.{Id}
 use Rattle.ids.specs.Ids.{bitOf, withOne, setBit, idOf, idFrom}
 
 module _ (x j : ℕ) where
@@ -109,3 +110,17 @@ set-other bytes k j n = ap (λ (x : ℕ). eqb x 1) (go (decLt (k / 8) (length by
 pub id-of-from : (id : List ℕ) → length id ≤ 16 → idOf (idFrom id) ≡ id
 unfolding idFrom
 id-of-from id h = take-append-seam id (replicate (16 - length id) 0)
+
+-- The bytes of an id.
+pub held : (x : Id) (n : ℕ) → n ≡ length (idOf x) → take n (x .bytes) ≡ idOf x
+held x n e =
+    ap (λ (k : ℕ). take k (x .bytes)) e
+    ∙ sym (take-take (length (idOf x)) (x .len) (x .bytes) (omega (arith, length-take (x .len) (x .bytes))))
+    ∙ take-length (idOf x)
+
+module _ (x : Id) (n : ℕ) (e : n ≡ length (idOf x)) where
+  pub id-fits : n ≤ length (x .bytes)
+  id-fits = omega (arith, e, length-take (x .len) (x .bytes))
+
+  pub id-part : n ≡ length (take n (x .bytes))
+  id-part = e ∙ ap length (sym (held x n e))

@@ -24,7 +24,7 @@ use Rattle.image.specs.declared.Info.{Info}
 use Rattle.image.specs.Images.{paperInfo, codeInfo, shownInfo, shownKey, eraseAfter}
 use Rattle.image.proofs.Ways.{still, next-erase, last-erase}
 use Rattle.pieces.specs.Pieces.{left, isLast, chunksTo, chunks}
-use Rattle.pieces.proofs.Ways.{chunk-small, chunk-four}
+use Rattle.lore.proofs.Chunks.{chunk-multiple, chunk-most}
 use Rattle.client.specs.declared.Job.{Job}
 use Rattle.client.specs.declared.Job.the-variants.{Informing, Erasing, Writing, Verifying, Resetting}
 use Rattle.client.specs.declared.Outcome.the-variants.{Knows}
@@ -105,7 +105,7 @@ quotient-small : (x m : ℕ) → x < 2 ^ 65 → x / chunk m + 1 < 2 ^ 64
 quotient-small x m h = go (decLt 0 (chunk m))
   where
     go : Dec (0 < chunk m) → x / chunk m + 1 < 2 ^ 64
-    go (yes k) = omega (arith, over-four x (chunk m) (chunk-four m (λ z. omega arith)))
+    go (yes k) = omega (arith, over-four x (chunk m) (omega (arith, chunk-multiple m)))
     go (no k) = let none : chunk m ≡ 0 = omega arith in rw (none, div-zero x) (omega arith)
 
 padded-small : (n : ℕ) → n < 2 ^ 64 → padded n ≤ 2 ^ 64
@@ -115,7 +115,7 @@ padded-small n h = omega arith
 chunks-small : (info : Info) (n : ℕ) → n < 2 ^ 64 → chunks (paperInfo info) n < 2 ^ 64
 unfolding steps
 chunks-small info n h =
-    omega (arith, quotient-small (padded n + (chunk (info .«max_payload») - 1)) (info .«max_payload») (omega (arith, padded-small n h, chunk-small (info .«max_payload»))))
+    omega (arith, quotient-small (padded n + (chunk (info .«max_payload») - 1)) (info .«max_payload») (omega (arith, padded-small n h, chunk-most (info .«max_payload»))))
 
 module _ (info : Info) (hi : InfoFits info) where
   knows-fits : SaysFits (Says.Over (Knows info))

@@ -5,8 +5,8 @@ use mathlib.Core.List.{List, [], _∷_, _++_, append-assoc, map, map-append}
 use mathlib.Core.Path.{_≡_, refl, sym, _∙_, ap}
 use native.Mathlib.Numerals.{add-one}
 use native.Mathlib.Omega.{arith}
-use lib.ListN.{length, take, drop, set, length-append, length-drop, length-take}
-use lib.Seq.{set-split, take-at, drop-at, drop-drop, take-take, take-length}
+use lib.ListN.{length, take, drop, set, length-append, length-drop}
+use lib.Seq.{set-split, take-at, drop-at, drop-drop}
 use borrow.Rule.Slice.PartMut.{putMid}
 use Rattle.lore.proofs.Parts.{part-all, mid-all}
 use Rattle.lore.proofs.Hex.{hexText-length}
@@ -18,6 +18,7 @@ use Rattle.text.specs.Texts.{Outcome, written}
 use Rattle.text.proofs.Writing.{writes}
 use Rattle.ids.specs.declared.Id.{Id}
 use Rattle.ids.specs.Ids.{idOf}
+use Rattle.ids.proofs.Laws.{held, id-part}
 use Rattle.table.specs.declared.Entry.{Entry}
 use Rattle.table.specs.declared.Table.{Table}
 use Rattle.table.specs.Rows.{row, rows}
@@ -85,28 +86,15 @@ module _ (a b out₀ out part : List ℕ) (at k : ℕ) (e : record { len = at; b
       size = omega (arith, here, ap (λ (x : Placed). x .len) p, length-append a b)
 
 -- The bytes of an id.
-pub held : (x : Id) (n : ℕ) → n ≡ length (idOf x) → take n (x .bytes) ≡ idOf x
-held x n e =
-    ap (λ (k : ℕ). take k (x .bytes)) e
-    ∙ sym (take-take (length (idOf x)) (x .len) (x .bytes) (omega (arith, length-take (x .len) (x .bytes))))
-    ∙ take-length (idOf x)
+module _ (x : Id) (n : ℕ) (e : n ≡ length (idOf x)) (h : n ≤ 16) where
+  pub id-short : length (take n (x .bytes)) ≤ 16
+  id-short = omega (arith, id-part x n e)
 
-module _ (x : Id) (n : ℕ) (e : n ≡ length (idOf x)) where
-  pub id-fits : n ≤ length (x .bytes)
-  id-fits = omega (arith, e, length-take (x .len) (x .bytes))
+  pub id-room : (out : List ℕ) → 33 ≤ length out → 2 * length (take n (x .bytes)) < length out
+  id-room out r = omega (arith, id-part x n e)
 
-  pub id-part : n ≡ length (take n (x .bytes))
-  id-part = e ∙ ap length (sym (held x n e))
-
-  module _ (h : n ≤ 16) where
-    pub id-short : length (take n (x .bytes)) ≤ 16
-    id-short = omega (arith, id-part)
-
-    pub id-room : (out : List ℕ) → 33 ≤ length out → 2 * length (take n (x .bytes)) < length out
-    id-room out r = omega (arith, id-part)
-
-    pub id-most : (k : ℕ) → k ≡ 2 * length (take n (x .bytes)) + 1 → k ≤ 33
-    id-most k q = omega (arith, id-part)
+  pub id-most : (k : ℕ) → k ≡ 2 * length (take n (x .bytes)) + 1 → k ≤ 33
+  id-most k q = omega (arith, id-part x n e)
 
 pub id-wrote : (x : Id) (n k : ℕ) (out out′ : List ℕ) → n ≡ length (idOf x) → record { len = k; bytes = out′ } ≡ placed (line (take n (x .bytes))) out
     → record { len = k; bytes = out′ } ≡ placed (line (idOf x)) out

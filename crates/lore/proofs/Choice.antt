@@ -1,7 +1,7 @@
 -- A choice by a test, from the fact that a branch of the code has: `search (ways, needs)`.
 -- Assumes nothing.
-use mathlib.Core.Bool.{Bool, true, false, cond, _&&_}
-use mathlib.Core.Path.{_≡_, refl}
+use mathlib.Core.Bool.{Bool, true, false, cond, _&&_, false≢true}
+use mathlib.Core.Path.{_≡_, refl, sym, _∙_}
 use borrow.Author.Tests.{lt-ltb, le-ltb, le-leb, lt-leb, eq-eqb, ne-eqb}
 
 pub cond-yes : {A : Type 0} (b : Bool) (x y r : A) → b ≡ true → r ≡ x → r ≡ cond b x y
@@ -21,6 +21,17 @@ and-not-right true b h = h
 and-not-right false b h = refl
 
 pub ruleset ways = (cond-yes, cond-no, and-yes, and-not-left, and-not-right, lt-ltb, le-ltb, le-leb, lt-leb, eq-eqb, ne-eqb)
+
+-- What holds of both holds of the one that a test chooses.
+pub by-test : {A : Type 0} (P : A → Type 0) (b : Bool) {x y : A} → (b ≡ true → P x) → (b ≡ false → P y) → P (cond b x y)
+by-test P true h k = h refl
+by-test P false h k = k refl
+
+pub either : {A : Type 0} (P : A → Type 0) (b : Bool) {x y : A} → P x → P y → P (cond b x y)
+either P b h k = by-test P b (λ e. h) (λ e. k)
+
+pub clash : {A : Type 0} (b : Bool) → b ≡ true → b ≡ false → A
+clash b h k = absurd (false≢true (sym k ∙ h))
 
 -- The case of a value that is known: `search (at-value f, needs)`.
 module _ {A B : Type 0} (f : A → B) where

@@ -8,12 +8,19 @@ use native.Mathlib.Omega.{arith}
 use lib.ListN.{length, getD, take, drop, replicate, length-append, replicate-append-replicate}
 use lib.Seq.{take-at, drop-at, drop-drop, getD-drop, getD-take, length-take-le, take-add, take-take}
 use Rattle.paper.specs.Frame.{le, number, field}
-use Rattle.lore.proofs.Words.{Bytes, number-le, field-none, field-suc}
+use Rattle.lore.proofs.Words.{Bytes, le-length, number-le, field-none, field-suc}
 
 -- d is b with the n elements of s from a place on.
 pub record Put (at n : ℕ) (s b d : List ℕ) : Type 0 where
   pub sized : length s ≡ n
   pub holds : d ≡ take at b ++ s ++ drop (at + n) b
+
+-- A number, and a byte.
+pub num : {at : ℕ} (k x : ℕ) {b d : List ℕ} → d ≡ take at b ++ le k x ++ drop (at + k) b → Put at k (le k x) b d
+num k x e = record { sized = le-length k x; holds = e }
+
+pub one : {at x : ℕ} {b d : List ℕ} → d ≡ take at b ++ (x ∷ []) ++ drop (at + 1) b → Put at 1 (x ∷ []) b d
+one e = record { sized = refl; holds = e }
 
 -- A second list right behind a first.
 pub behind : {at n k : ℕ} {s t b d e : List ℕ} → at ≤ length b → Put at n s b d → Put (at + n) k t d e → Put at (n + k) (s ++ t) b e

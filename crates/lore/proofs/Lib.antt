@@ -1,4 +1,5 @@
 pub mod Choice
+pub mod Chunks
 pub mod Words
 pub mod Copy
 pub mod Lists

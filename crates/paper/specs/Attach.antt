@@ -1,11 +1,11 @@
 -- Document 01, "Attach", with the plain select and the deselect of "Ids and hearing": each operation as a conversation.
 -- Assumes nothing.
-use mathlib.Core.List.{List, []}
+use mathlib.Core.List.{[]}
 use mathlib.Core.Option.{Option, none, some}
 use Rattle.paper.specs.Hearing.{Id, Prefix, bitsOf, onSome, Heard, nothing, one, unaddressed, garble}
 use Rattle.paper.specs.Walk as Walk
 use Rattle.paper.specs.Walk.{nobody}
-use Rattle.paper.specs.Talk.{Ask, select, Talk, return, stop, ask, _>>=_, _>>_, walking, Outcome, quiet, heard, attached, found}
+use Rattle.paper.specs.Talk.{select, Talk, return, stop, ask, _>>=_, _>>_, walking, Outcome, quiet, heard, attached, found}
 
 -- "An id over 16 bytes gives refusal 14": a Select, and what it hears.
 unfoldable pub listen : Prefix → Talk Heard

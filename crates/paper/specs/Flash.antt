@@ -3,7 +3,7 @@
 use Prim.Native.Nat.{ℕ, zero, suc, _+_, _-_, _/_}
 use mathlib.Core.Bool.{Bool, true, false, not, cond}
 use mathlib.Core.List.{List, [], _∷_}
-use mathlib.Core.Option.{Option, none, some}
+use mathlib.Core.Option.{Option}
 use lib.Dec.{leb, ltb, eqb}
 use lib.ListN.{length}
 use Rattle.paper.specs.Frame.{le, field, check, Info, command-Info, command-Erase, command-Write, command-Verify, command-Reset, status-CrcMismatch, flag-FLUSH, flag-BOOTLOADER, flag-BAUD}

@@ -1,44 +1,24 @@
 -- The ways through the rules on Writes, from the facts that the code has.
 -- Assumes nothing.
-use Prim.Native.Nat.{ℕ, zero, suc, _+_, _-_, _*_, _/_, _%_, _^_, _<_, _≤_}
+use Prim.Native.Nat.{ℕ, _+_, _-_, _/_, _^_, _<_, _≤_}
 use mathlib.Core.Bool.{Bool, true, false, cond}
 use mathlib.Core.List.{List}
 use mathlib.Core.Path.{_≡_, refl, sym, _∙_, ap}
 use native.Mathlib.Decide.{decLe}
-use native.Mathlib.Nat.{mod-lt, div-zero, div-mul-le-self, mul-le-mul-left}
+use native.Mathlib.Nat.{div-zero, div-mul-le-self, mul-le-mul-left}
 use native.Mathlib.Omega.{arith}
 use lib.Dec.{leb}
 use lib.ListN.{length, take, drop, length-drop}
 use lib.Seq.{take-all}
 use borrow.Author.Tests.{le-leb, lt-leb}
+use Rattle.lore.proofs.Chunks.{chunk-multiple, chunk-most, padded-close}
 use Rattle.paper.specs.Frame.{Info}
 use Rattle.paper.specs.Answers.{chunk, padding, padded, steps}
 use Rattle.paper.specs.Flash.{writeSize}
-use Rattle.pieces.specs.Pieces.{left, isLast, imageBytes, part, chunksTo, chunks}
-
-padding-small : (n : ℕ) → padding n < 4
-unfolding padding
-padding-small n = mod-lt (4 - n % 4) (omega arith)
+use Rattle.pieces.specs.Pieces.{left, isLast, imageBytes, part}
 
 pub padded-fits : (n p : ℕ) → n < 2 ^ 63 → p ≡ padding n → n + p < 2 ^ 64
-padded-fits n p h e = omega (arith, padding-small n)
-
-pub chunk-small : (m : ℕ) → chunk m ≤ 1024
-unfolding chunk
-chunk-small m = go (leb m 1024) refl
-  where
-    go : (b : Bool) → leb m 1024 ≡ b → cond b m 1024 / 4 * 4 ≤ 1024
-    go true e = omega (arith, borrow.Author.Tests.leb-true m 1024 e)
-    go false e = omega arith
-
--- A chunk is none, or four bytes and more.
-pub chunk-four : (m : ℕ) → (chunk m ≡ 0 → ⊥) → 4 ≤ chunk m
-unfolding chunk
-chunk-four m h = go (leb m 1024) h
-  where
-    go : (b : Bool) → (cond b m 1024 / 4 * 4 ≡ 0 → ⊥) → 4 ≤ cond b m 1024 / 4 * 4
-    go true k = omega arith
-    go false k = omega arith
+padded-fits n p h e = omega (arith, padded-close n)
 
 module _ (m o c : ℕ) (ec : c ≡ chunk m) where
   pub no-chunks : c ≡ 0 → 1 ≡ o / chunk m + 1
@@ -46,7 +26,7 @@ module _ (m o c : ℕ) (ec : c ≡ chunk m) where
 
   pub next-fits : o < 2 ^ 64 → (c ≡ 0 → ⊥) → o / c + 1 < 2 ^ 64
   next-fits h k =
-      let four : 4 ≤ c = rw ec (chunk-four m (λ z. k (ec ∙ z))) in
+      let four : 4 ≤ c = omega (arith, ec, chunk-multiple m) in
       omega (arith, div-mul-le-self o c, mul-le-mul-left (o / c) four)
 
   pub so-many : o / c + 1 ≡ o / chunk m + 1
@@ -58,7 +38,7 @@ module _ (m n c : ℕ) (ec : c ≡ chunk m) where
   none-at-all h = let none : chunk m ≡ 0 = omega arith in rw (none, div-zero (padded n + (0 - 1)))
 
   pub sum-fits : (r : ℕ) → n < 2 ^ 63 → r ≡ left n 0 → r + (c - 1) < 2 ^ 64
-  sum-fits r h e = omega (arith, padding-small n, chunk-small m)
+  sum-fits r h e = omega (arith, padded-close n, chunk-most m)
 
   pub all-of-them : (r : ℕ) → r ≡ left n 0 → (r + (c - 1)) / c ≡ steps (chunk m) (padded n)
   unfolding steps

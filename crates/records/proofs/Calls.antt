@@ -8,6 +8,7 @@ use mathlib.Core.Path.{_≡_, refl, sym, _∙_, ap, ap₂}
 use native.Mathlib.Omega.{arith}
 use lib.Dec.{leb, ltb}
 use lib.ListN.{length}
+use Rattle.lore.proofs.Choice.{either}
 use Rattle.paper.specs.Client as Paper
 use Rattle.paper.specs.Client.{Says, short, otherLength, bytesOf, seedAfter, reading, place, cleared}
 use Rattle.paper.specs.Count.{All}
@@ -97,13 +98,9 @@ asked-read c image buffer = go (c .turn)
     Read : Machine.Asked → Type 0
     Read a = askedBy (askedAs a) ≡ inCode (handedBy a)
 
-    either : (b : Bool) (x y : Machine.Asked) → Read x → Read y → Read (cond b x y)
-    either true x y v w = v
-    either false x y v w = w
-
     go : (t : Turn) → Read (Machine.request (turned c t) image buffer)
     go idle = refl
-    go (ready ph) = either (otherLength (lends ph) image) _ _ refl (either (ltb (length buffer) (length bytes)) _ _ refl refl)
+    go (ready ph) = either Read (otherLength (lends ph) image) refl (either Read (ltb (length buffer) (length bytes)) refl refl)
       where
         bytes : List ℕ
         bytes = bytesOf (Phases.request ph) (seedAfter (Phases.request ph) (c .seed)) image

@@ -20,7 +20,8 @@ use Rattle.client.specs.Clients.{idle, cleared, running, refuse}
 use Rattle.client.specs.Numbers.{numberOf}
 use Rattle.starting.specs.Starting.{starts, demands, badPrefix, startSelect, startDeselect, startAttach, startAttachTo, startDiscover, startInfo, startErase, startFlash, resets, startReset, startSetBaud}
 use Rattle.records.specs.Refusals.{keeps, parts, leaves, Begins}
-use Rattle.records.proofs.Cases.{by-test, either, clash, unrefused, same-refusal}
+use Rattle.lore.proofs.Choice.{by-test, either, clash}
+use Rattle.records.proofs.Cases.{unrefused, same-refusal}
 
 -- What a refusal leaves.
 module _ (r : Refusal) (c : Client) where

@@ -53,7 +53,8 @@ use Rattle.flashing.specs.Flashing.{onInformed, onErase, onThen, erases, judged
 use Rattle.answering.specs.Answering.{goes, onAnswer, tells}
 use Rattle.telling.specs.Telling.{attaches, met, backed, stopOf, walked, probed, hears, answeredTo, record′, linkFailed}
 use Rattle.records.specs.Refusals.{keeps, parts, leaves}
-use Rattle.records.proofs.Cases.{either, clash, each-turn, isRefused, unrefused, same-refusal}
+use Rattle.lore.proofs.Choice.{either, clash}
+use Rattle.records.proofs.Cases.{each-turn, isRefused, unrefused, same-refusal}
 use Rattle.records.proofs.Refusals.{leaves-kept, leaves-seed}
 
 -- A refusal that ends the operation, and no more.

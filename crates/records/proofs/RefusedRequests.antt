@@ -26,7 +26,8 @@ use Rattle.client.specs.Numbers.{numberOf}
 use Rattle.client.proofs.Ways.{at-idle, at-ready, at-waiting}
 use Rattle.asking.specs.Asking.{Asking, granted, handing, selects, askedFor, withheld, request}
 use Rattle.records.specs.Refusals.{keeps, isGranted, seedAfter}
-use Rattle.records.proofs.Cases.{by-test, either, each-turn, unrefused, ungranted, same-refusal, same-grant}
+use Rattle.lore.proofs.Choice.{by-test, either}
+use Rattle.records.proofs.Cases.{each-turn, unrefused, ungranted, same-refusal, same-grant}
 
 -- Asking for a request, with the seed of a client that was granted it.
 record Asks (c : Client) (next : ℕ) (buffer : List ℕ) (o : Asking) : Type 0 where

@@ -1,7 +1,7 @@
 -- A client that is served discovers as the machine of the walk does, Select for Select.
 -- Assumes nothing.
 use Prim.Native.Nat.{ℕ, zero, suc, _+_, _%_, _≤_}
-use mathlib.Core.Bool.{Bool, true, false, cond}
+use mathlib.Core.Bool.{false}
 use mathlib.Core.List.{List, [], _++_}
 use mathlib.Core.Option.{Option, none}
 use mathlib.Core.Path.{_≡_, refl, _∙_, ap, ap₂}
@@ -11,6 +11,7 @@ use lib.Dec.{eqb}
 use lib.ListN.{length, drop}
 use lib.Seq.{take-append-seam}
 use borrow.Author.Tests.{le-ltb}
+use Rattle.lore.proofs.Choice.{either}
 use Rattle.paper.specs.Client.{bytesOf, cleared, granted}
 use Rattle.paper.specs.Hearing as Paper
 use Rattle.paper.specs.Hearing.{Prefix, hear, selectFrame}
@@ -45,14 +46,10 @@ use Rattle.records.proofs.Tells.{keeps, clears, asking-bits, record-tol
 refused-leads : (Q : Shown → Type 0) → ((r : Refusal) (x : Id) → Q (beside (Refused r) x)) → Q (plainly (Over Unaddressed)) → (n : ℕ) (carries : List ℕ) → Q (refusedAs n carries)
 unfolding refusedAs
 refused-leads Q r u n carries =
-    either (eqb n 1) _ _ (r _ _) (either (eqb n 2) _ _ (r _ _) (either (eqb n 3) _ _ (r _ _) (either (eqb n 4) _ _ (r _ _) (either (eqb n 5) _ _ (r _ _) (either (eqb n 6) _ _ (r _ _)
-    (either (eqb n 7) _ _ (r _ _) (either (eqb n 8) _ _ (r _ _) (either (eqb n 9) _ _ (r _ _) (either (eqb n 10) _ _ (r _ _) (either (eqb n 11) _ _ (r _ _) (either (eqb n 12) _ _ (r _ _)
-    (either (eqb n 13) _ _ (r _ _) (either (eqb n 14) _ _ (r _ _) (either (eqb n 15) _ _ (r _ _) (either (eqb n 16) _ _ (r _ _) (either (eqb n 17) _ _ (r _ _) (either (eqb n 18) _ _ (r _ _)
-    (either (eqb n 19) _ _ (r _ _) (either (eqb n 20) _ _ (r _ _) (either (eqb n 23) _ _ u (r _ _)))))))))))))))))))))
-  where
-    either : (b : Bool) (x y : Shown) → Q x → Q y → Q (cond b x y)
-    either true x y v w = v
-    either false x y v w = w
+    either Q (eqb n 1) (r _ _) (either Q (eqb n 2) (r _ _) (either Q (eqb n 3) (r _ _) (either Q (eqb n 4) (r _ _) (either Q (eqb n 5) (r _ _) (either Q (eqb n 6) (r _ _)
+    (either Q (eqb n 7) (r _ _) (either Q (eqb n 8) (r _ _) (either Q (eqb n 9) (r _ _) (either Q (eqb n 10) (r _ _) (either Q (eqb n 11) (r _ _) (either Q (eqb n 12) (r _ _)
+    (either Q (eqb n 13) (r _ _) (either Q (eqb n 14) (r _ _) (either Q (eqb n 15) (r _ _) (either Q (eqb n 16) (r _ _) (either Q (eqb n 17) (r _ _) (either Q (eqb n 18) (r _ _)
+    (either Q (eqb n 19) (r _ _) (either Q (eqb n 20) (r _ _) (either Q (eqb n 23) u (r _ _)))))))))))))))))))))
 
 -- No refusal goes on.
 pub refused-ends : (n : ℕ) (carries : List ℕ) → isOnward (refusedAs n carries .says) ≡ false

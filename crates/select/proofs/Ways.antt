@@ -1,13 +1,13 @@
 -- The ways through the Select's writer.
 -- Assumes nothing.
-use Prim.Native.Nat.{ℕ, _+_, _-_, _*_, _%_, _^_, _<_, _≤_}
+use Prim.Native.Nat.{ℕ, _+_, _-_, _%_, _^_, _<_, _≤_}
 use mathlib.Core.Bool.{false}
 use mathlib.Core.List.{List, [], _∷_, _++_}
 use mathlib.Core.Path.{_≡_, sym, _∙_, ap, ap₂}
 use native.Mathlib.Omega.{arith}
-use lib.ListN.{length, getD, take, drop, set, replicate, length-take, length-append, length-replicate}
+use lib.ListN.{length, take, drop, set, replicate, length-take, length-append, length-replicate}
 use lib.Seq.{drop-drop}
-use borrow.Author.Tests.{le-leb, lt-leb}
+use borrow.Author.Tests.{le-leb}
 use borrow.Rule.Slice.PartMut.{putMid}
 use Rattle.paper.specs.Frame.{le, check}
 use Rattle.paper.specs.Hearing.{bitsOf, packed, selectPayload, selectFrame}

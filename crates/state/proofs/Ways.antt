@@ -6,7 +6,7 @@ use mathlib.Core.Path.{_≡_, refl, _∙_}
 use native.Mathlib.Omega.{arith}
 use lib.ListN.{length, take, drop}
 use Rattle.paper.specs.Frame.{le, byte, field}
-use Rattle.lore.proofs.Fields.{Put, behind, joined-length}
+use Rattle.lore.proofs.Fields.{Put, num, one, behind, joined-length}
 use Rattle.lore.proofs.Words.{le-length}
 use Rattle.ids.specs.declared.Id.{Id}
 use Rattle.table.specs.declared.Table.{Table}
@@ -17,7 +17,6 @@ use Rattle.flat.specs.declared.Flat.{Flat}
 use Rattle.flat.specs.Turns.{flatOf, turnOf}
 use Rattle.turns.specs.Flats.{flag, flagged, savedFlat, loadedFlat}
 use Rattle.turns.proofs.Laws.{flat-length}
-use Rattle.turns.proofs.Ways.{num, one}
 use Rattle.state.specs.States.{size, savedId, savedTable, savedWalk, savedFront, saved, loadedId, loadedTable, loadedWalk, loaded}
 
 -- Loaded.

@@ -19,7 +19,7 @@ use Rattle.theory.specs.FlashOrder.{Exchange, met, Past, Event, Stand, r
 use Rattle.theory.proofs.Conversations.{bind-assoc}
 use Rattle.theory.proofs.FlashOrder.{told-still}
 use Rattle.theory.proofs.Infos.{sound-sizes, sound-chunk, informed-sound}
-use Rattle.theory.proofs.Images.{padded-multiple}
+use Rattle.lore.proofs.Chunks.{padded-multiple}
 
 -- At most k requests, whatever is answered.
 abbrev Within : {A : Type 0} → ℕ → Talk A → Type 0

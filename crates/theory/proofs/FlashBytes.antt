@@ -16,7 +16,7 @@ use Rattle.theory.specs.FlashOrder.{Past, Event, play, everything, carri
 use Rattle.theory.proofs.FlashOrder.{flash-in-order}
 use Rattle.theory.proofs.Writes.{write-size}
 use Rattle.theory.proofs.Conversations.{each-asked}
-use Rattle.theory.proofs.Images.{chunk-most}
+use Rattle.lore.proofs.Chunks.{chunk-most}
 
 -- A piece of the image, of any size that the padding allows.
 piece-padded : (image : List ℕ) (o k : ℕ) → k ≤ padded (length image) - o

@@ -2,19 +2,20 @@
 -- Assumes nothing.
 use Prim.Native.Nat.{ℕ, _*_}
 use mathlib.Core.Bool.{Bool, true, false, _&&_, cond}
-use mathlib.Core.List.{List, [], _∷_, _++_}
+use mathlib.Core.List.{List, []}
 use mathlib.Core.Option.{Option, none, some}
 use lib.Dec.{leb, ltb}
-use lib.ListN.{length, drop}
-use Rattle.paper.specs.Client.{short, idAfter, otherLength, bytesOf, seedAfter, cleared, reading, place, granted}
+use lib.ListN.{length}
+use Rattle.paper.specs.Client.{short, idAfter, otherLength, cleared, reading, place}
 use Rattle.paper.specs.Hearing.{Id, bitsOf, hear, onSome, Heard, nothing, one, unaddressed, garble}
 use Rattle.paper.specs.Talk.{Ask, select, demand, leave, Answer, quiet, heard, attached, found, knows}
 use Rattle.paper.specs.Walk.{long, done, stopped}
+use Rattle.lore.proofs.Choice.{either}
 use Rattle.theory.specs.Machine as Machine
 use Rattle.theory.specs.Machine.{going, ended}
 use Rattle.theory.specs.Phases as Phases
-use Rattle.theory.specs.Phases.{Search, probing, parting, seeking, backing, walking, tell, clear, load, informing, resetting, Phase, selecting, demanding, leaving, Then, to, ends, refuses, unlessLong, sought, walked, hears, step, starting}
-use Rattle.theory.specs.Clients.{OfAny, Turn, idle, ready, waiting, Client, fresh, turned, lends, settle, unchanged, fails, start, startSelect, startDeselect, startAttach, startDiscover, startInfo, startErase, startFlash, resets, startReset, startSetBaud, Asked, withholds, handedOut, grant, request, record′, linkFailed}
+use Rattle.theory.specs.Phases.{Search, probing, parting, seeking, backing, walking, tell, clear, load, informing, resetting, Phase, selecting, demanding, leaving, Then, to, ends, refuses, sought, walked, hears, step, starting}
+use Rattle.theory.specs.Clients.{OfAny, Turn, idle, ready, waiting, Client, fresh, turned, lends, settle, unchanged, fails, start, startSelect, startDeselect, startAttach, startDiscover, startInfo, startErase, startFlash, resets, startReset, startSetBaud, Asked, handedOut, grant, request, record′, linkFailed}
 use Rattle.theory.proofs.Carried.{Telling, Carries, CarriesNext, step-carries}
 use Rattle.theory.proofs.Working.{any-end, told-leads}
 
@@ -58,13 +59,6 @@ module _ (P : Id → Type 0) where
   sought-holds (some given) b unaddressed t = tt
   sought-holds uid b garble t = b
 
-  unless-holds : (h : Heard) (t : Then) → HoldsThen P t → HoldsThen P (unlessLong h t)
-  unless-holds h t k = go (long h)
-    where
-      go : (b : Bool) → HoldsThen P (cond b (refuses 14 []) t)
-      go true = tt
-      go false = k
-
   walked-holds : (n : Machine.Next) → CarriesNext P n → HoldsThen P (walked n)
   walked-holds (going s) c = c
   walked-holds (ended (done ids)) c = tt
@@ -72,9 +66,9 @@ module _ (P : Id → Type 0) where
 
   search-holds : (s : Search) → HoldsSearch P s → (h : Heard) → Telling P h → HoldsThen P (hears s h)
   unfolding hears
-  search-holds (probing bytes bits) k h t = unless-holds h (ends (heard h)) tt
+  search-holds (probing bytes bits) k h t = either (HoldsThen P) (long h) tt tt
   search-holds parting k h t = tt
-  search-holds (seeking uid) k h t = unless-holds h (sought uid h) (sought-holds uid k h t)
+  search-holds (seeking uid) k h t = either (HoldsThen P) (long h) tt (sought-holds uid k h t)
   search-holds (backing none) k h t = tt
   search-holds (backing (some given)) k h t = tt
   search-holds (walking s) k h t = walked-holds (Machine.step s h) (step-carries P s k h t)
@@ -152,13 +146,8 @@ module _ (P : Id → Type 0) where
 
     grant-holds : (ph : Phase) → HoldsPhase P ph → (bytes : List ℕ) (seed : ℕ) (buffer : List ℕ) → Holds P (grant (turned c (ready ph)) bytes seed ph buffer .client)
     unfolding grant
-    grant-holds ph w bytes seed buffer = go (ltb (length buffer) (length bytes))
-      where
-        go : (b : Bool)
-            → Holds P (cond {A = Asked} b (withholds (turned c (ready ph)) 16 (length bytes ∷ []) buffer)
-            (record { says = granted (length bytes); client = record { seed = seed; id = c .id; turn = handedOut ph }; buffer = bytes ++ drop (length bytes) buffer }) .client)
-        go true = record { id = k .id; turn = w }
-        go false = record { id = k .id; turn = handed-holds ph w }
+    grant-holds ph w bytes seed buffer =
+        either (λ (a : Asked). Holds P (a .client)) (ltb (length buffer) (length bytes)) (record { id = k .id; turn = w }) (record { id = k .id; turn = handed-holds ph w })
 
     pub request-holds : (image buffer : List ℕ) → Holds P (request c image buffer .client)
     unfolding request
@@ -166,22 +155,11 @@ module _ (P : Id → Type 0) where
       where
         go : (t : Turn) → HoldsTurn P t → Holds P (request (turned c t) image buffer .client)
         go idle w = record { id = k .id; turn = w }
-        go (ready ph) w = lent (otherLength (lends ph) image)
-          where
-            seed : ℕ
-            seed = seedAfter (Phases.request ph) (c .seed)
-
-            lent : (b : Bool) → Holds P (cond b (withholds (turned c (ready ph)) 20 [] buffer) (grant (turned c (ready ph)) (bytesOf (Phases.request ph) seed image) seed ph buffer) .client)
-            lent true = record { id = k .id; turn = w }
-            lent false = grant-holds ph w (bytesOf (Phases.request ph) seed image) seed buffer
+        go (ready ph) w = either (λ (a : Asked). Holds P (a .client)) (otherLength (lends ph) image) (record { id = k .id; turn = w }) (grant-holds ph w _ _ buffer)
         go (waiting ph) w = record { id = k .id; turn = w }
 
     any-cleared : (q : Ask) → OfAny P (cleared q (c .id))
-    any-cleared (select p) = go (ltb 128 (length p))
-      where
-        go : (b : Bool) → OfAny P (cond b none (c .id))
-        go true = tt
-        go false = k .id
+    any-cleared (select p) = either (OfAny P) (ltb 128 (length p)) tt (k .id)
     any-cleared (demand d) = k .id
     any-cleared (leave d) = k .id
 

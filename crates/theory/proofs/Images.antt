@@ -1,48 +1,15 @@
--- What the rules on images come to: chunks and padding are multiples of 4, and no erase address passes the capacity or 32 bits.
+-- What the rules on erase addresses come to: none passes the capacity or 32 bits.
 -- Assumes nothing.
-use Prim.Native.Nat.{ℕ, zero, suc, _+_, _-_, _*_, _/_, _%_, _<_, _≤_}
-use mathlib.Core.Bool.{Bool, true, false, cond}
-use mathlib.Core.List.{List, [], _∷_}
-use mathlib.Core.Path.{_≡_, refl}
+use Prim.Native.Nat.{ℕ, zero, suc, _+_, _-_, _*_, _<_, _≤_}
+use mathlib.Core.Bool.{false}
+use mathlib.Core.Path.{_≡_}
 use native.Mathlib.Nat.{div-mul-le-self}
 use native.Mathlib.Omega.{arith}
-use lib.Dec.{leb}
-use borrow.Author.Tests.{leb-true, ltb-false}
+use borrow.Author.Tests.{ltb-false}
 use Rattle.paper.specs.Frame.{Info}
 use Rattle.paper.specs.Count.{All}
 use Rattle.theory.proofs.Each.{all-weaken}
-use Rattle.paper.specs.Answers.{chunk, padding, padded, steps, apart, below, eraseAddresses, spansTooFar}
-
-pub chunk-multiple : (m : ℕ) → chunk m % 4 ≡ 0
-unfolding chunk
-chunk-multiple m = go (cond (leb m 1024) m 1024)
-  where
-    go : (x : ℕ) → x / 4 * 4 % 4 ≡ 0
-    go x = omega arith
-
-pub chunk-most : (m : ℕ) → chunk m ≤ 1024
-unfolding chunk
-chunk-most m = go (leb m 1024) refl
-  where
-    go : (b : Bool) → leb m 1024 ≡ b → cond b m 1024 / 4 * 4 ≤ 1024
-    go true e = omega (arith, leb-true m 1024 e)
-    go false e = omega arith
-
-pub chunk-least : (m : ℕ) → 4 ≤ m → 4 ≤ chunk m
-unfolding chunk
-chunk-least m h = go (leb m 1024)
-  where
-    go : (b : Bool) → 4 ≤ cond b m 1024 / 4 * 4
-    go true = omega arith
-    go false = omega arith
-
-pub padded-multiple : (n : ℕ) → padded n % 4 ≡ 0
-unfolding padding
-padded-multiple n = omega arith
-
-pub padded-close : (n : ℕ) → padded n < n + 4
-unfolding padding
-padded-close n = omega arith
+use Rattle.paper.specs.Answers.{steps, apart, below, eraseAddresses, spansTooFar}
 
 -- Of k numbers from a on, e apart, each is below the number that would follow.
 apart-below : (e k a c : ℕ) → 0 < e → a + k * e ≤ c → All (λ x. x + e ≤ c) (apart e k a)

@@ -11,7 +11,7 @@ use lib.ListN.{length}
 use borrow.Author.Tests.{ltb-true, leb-true}
 use Rattle.paper.specs.Frame.{Info, infoOf}
 use Rattle.paper.specs.Answers.{sound, informed, chunk}
-use Rattle.theory.proofs.Images.{chunk-least}
+use Rattle.lore.proofs.Chunks.{chunk-least}
 
 -- What the Info rule says.
 pub record Sizes (info : Info) : Type 0 where

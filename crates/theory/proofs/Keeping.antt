@@ -2,23 +2,24 @@
 -- Assumes nothing.
 use Prim.Native.Nat.{ℕ, _*_, _≤_, _<_}
 use mathlib.Core.Bool.{Bool, true, false, _&&_, cond}
-use mathlib.Core.List.{List, [], _∷_, _++_}
+use mathlib.Core.List.{List, []}
 use mathlib.Core.Option.{Option, none, some}
 use mathlib.Core.Path.{_≡_, refl}
 use native.Mathlib.Omega.{arith}
 use lib.Dec.{leb, ltb}
-use lib.ListN.{length, drop}
+use lib.ListN.{length}
 use borrow.Author.Tests.{ltb-false, leb-true}
-use Rattle.paper.specs.Client.{short, idAfter, otherLength, bytesOf, seedAfter, cleared, reading, place, granted}
+use Rattle.paper.specs.Client.{short, idAfter, otherLength, seedAfter, cleared, reading, place}
 use Rattle.paper.specs.Hearing.{Id, bitsOf, onSome, Heard, nothing, one, unaddressed, garble}
 use Rattle.paper.specs.Talk.{Ask, select, demand, leave, Answer, Outcome, quiet, heard, attached, found, knows}
 use Rattle.paper.specs.Walk.{long, done, stopped}
 use Rattle.lore.proofs.Bits.{bits-length}
+use Rattle.lore.proofs.Choice.{by-test, either}
 use Rattle.theory.specs.Machine as Machine
 use Rattle.theory.specs.Machine.{going, ended}
 use Rattle.theory.specs.Phases as Phases
-use Rattle.theory.specs.Phases.{Search, probing, parting, seeking, backing, walking, tell, clear, load, informing, resetting, Phase, selecting, demanding, leaving, Then, to, ends, refuses, unlessLong, sought, walked, hears, step, starting}
-use Rattle.theory.specs.Clients.{Brief, Turn, idle, ready, waiting, Client, fresh, turned, lends, settle, unchanged, fails, start, startSelect, startDeselect, startAttach, startDiscover, startInfo, startErase, startFlash, resets, startReset, startSetBaud, Asked, withholds, handedOut, grant, request, record′, linkFailed}
+use Rattle.theory.specs.Phases.{Search, probing, parting, seeking, backing, walking, tell, clear, load, informing, resetting, Phase, selecting, demanding, leaving, Then, to, ends, refuses, sought, walked, hears, step, starting}
+use Rattle.theory.specs.Clients.{Brief, Turn, idle, ready, waiting, Client, fresh, turned, lends, settle, unchanged, fails, start, startSelect, startDeselect, startAttach, startDiscover, startInfo, startErase, startFlash, resets, startReset, startSetBaud, Asked, handedOut, grant, request, record′, linkFailed}
 use Rattle.theory.proofs.Fits as Walk
 use Rattle.theory.proofs.Fits.{Short, FitsNext, step-fits}
 use Rattle.theory.proofs.Resuming.{Sound, SoundJob}
@@ -85,18 +86,11 @@ walked-fits (going s) f = f
 walked-fits (ended (done ids)) f = f
 walked-fits (ended (stopped c)) f = tt
 
-unless-fits : (h : Heard) (t : Then) → (long h ≡ false → FitsThen t) → FitsThen (unlessLong h t)
-unless-fits h t f = go (long h) refl
-  where
-    go : (b : Bool) → long h ≡ b → FitsThen (cond b (refuses 14 []) t)
-    go true e = tt
-    go false e = f e
-
 pub search-fits : (s : Search) → FitsSearch s → (h : Heard) → FitsThen (hears s h)
 unfolding hears
-search-fits (probing bytes bits) f h = unless-fits h (ends (heard h)) (λ e. e)
+search-fits (probing bytes bits) f h = by-test FitsThen (long h) (λ e. tt) (λ e. e)
 search-fits parting f h = tt
-search-fits (seeking uid) f h = unless-fits h (sought uid h) (sought-fits uid f h)
+search-fits (seeking uid) f h = by-test FitsThen (long h) (λ e. tt) (sought-fits uid f h)
 search-fits (backing none) f h = tt
 search-fits (backing (some given)) f h = tt
 search-fits (walking s) f h = walked-fits (Machine.step s h) (step-fits s h f)
@@ -195,13 +189,9 @@ module _ (c : Client) (f : Fits c) where
 
   grant-fits : (ph : Phase) → FitsPhase ph → (bytes : List ℕ) (seed : ℕ) → seed < 256 → (buffer : List ℕ) → Fits (grant (turned c (ready ph)) bytes seed ph buffer .client)
   unfolding grant
-  grant-fits ph w bytes seed small buffer = go (ltb (length buffer) (length bytes))
-    where
-      go : (b : Bool)
-          → Fits (cond {A = Asked} b (withholds (turned c (ready ph)) 16 (length bytes ∷ []) buffer)
-          (record { says = granted (length bytes); client = record { seed = seed; id = c .id; turn = handedOut ph }; buffer = bytes ++ drop (length bytes) buffer }) .client)
-      go true = record { seed = f .seed; id = f .id; turn = w }
-      go false = record { seed = small; id = f .id; turn = handed-fits ph w }
+  grant-fits ph w bytes seed small buffer =
+      either (λ (a : Asked). Fits (a .client)) (ltb (length buffer) (length bytes))
+      (record { seed = f .seed; id = f .id; turn = w }) (record { seed = small; id = f .id; turn = handed-fits ph w })
 
   pub request-fits : (image buffer : List ℕ) → Fits (request c image buffer .client)
   unfolding request
@@ -209,22 +199,13 @@ module _ (c : Client) (f : Fits c) where
     where
       go : (t : Turn) → FitsTurn t → Fits (request (turned c t) image buffer .client)
       go idle w = record { seed = f .seed; id = f .id; turn = w }
-      go (ready ph) w = lent (otherLength (lends ph) image)
-        where
-          seed : ℕ
-          seed = seedAfter (Phases.request ph) (c .seed)
-
-          lent : (b : Bool) → Fits (cond b (withholds (turned c (ready ph)) 20 [] buffer) (grant (turned c (ready ph)) (bytesOf (Phases.request ph) seed image) seed ph buffer) .client)
-          lent true = record { seed = f .seed; id = f .id; turn = w }
-          lent false = grant-fits ph w (bytesOf (Phases.request ph) seed image) seed (seed-fits (Phases.request ph)) buffer
+      go (ready ph) w =
+          either (λ (a : Asked). Fits (a .client)) (otherLength (lends ph) image) (record { seed = f .seed; id = f .id; turn = w })
+          (grant-fits ph w _ _ (seed-fits (Phases.request ph)) buffer)
       go (waiting ph) w = record { seed = f .seed; id = f .id; turn = w }
 
   brief-cleared : (q : Ask) → Brief (cleared q (c .id))
-  brief-cleared (select p) = go (ltb 128 (length p))
-    where
-      go : (b : Bool) → Brief (cond b none (c .id))
-      go true = tt
-      go false = f .id
+  brief-cleared (select p) = either Brief (ltb 128 (length p)) tt (f .id)
   brief-cleared (demand d) = f .id
   brief-cleared (leave d) = f .id
 

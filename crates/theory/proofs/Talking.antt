@@ -14,6 +14,7 @@ use Rattle.paper.specs.Attach.{selectOnly, deselect, attach, discover}
 use Rattle.paper.specs.Flash.{informOnly, erase, flash, reset}
 use Rattle.paper.specs.Talk.{Answer, Talk, Outcome}
 use Rattle.paper.specs.Walk.{long, done, stopped}
+use Rattle.lore.proofs.Choice.{either}
 use Rattle.theory.specs.Machine as Machine
 use Rattle.theory.specs.Machine.{going, ended}
 use Rattle.theory.specs.Phases as Phases
@@ -36,13 +37,6 @@ onward-weaken P Q f (refuses n carries) h = tt
 abbrev After : Option ℕ → Phase → Type 0
 After lent ph = Sound ph × (lends ph ≡ lent)
 
-unless-after : (h : Heard) (t : Then) → Onward (After none) t → Onward (After none) (cond (long h) (refuses 14 []) t)
-unless-after h t a = go (long h)
-  where
-    go : (b : Bool) → Onward (After none) (cond b (refuses 14 []) t)
-    go true = tt
-    go false = a
-
 sought-after : (uid : Option Id) (h : Heard) → Onward (After none) (sought uid h)
 unfolding sought
 sought-after none nothing = tt
@@ -59,9 +53,9 @@ walked-after (ended (stopped n)) = tt
 
 search-after : (s : Search) (h : Heard) → Onward (After none) (hears s h)
 unfolding hears
-search-after (probing bytes bits) h = unless-after h _ tt
+search-after (probing bytes bits) h = either (Onward (After none)) (long h) tt tt
 search-after parting h = tt
-search-after (seeking uid) h = unless-after h _ (sought-after uid h)
+search-after (seeking uid) h = either (Onward (After none)) (long h) tt (sought-after uid h)
 search-after (backing none) h = tt
 search-after (backing (some given)) h = tt
 search-after (walking s) h = walked-after (Machine.step s h)

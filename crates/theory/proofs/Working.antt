@@ -7,6 +7,7 @@ use mathlib.Core.Option.{none, some}
 use mathlib.Core.Path.{_≡_, refl}
 use lib.Dec.{leb, ltb, eqb}
 use lib.ListN.{length}
+use Rattle.lore.proofs.Choice.{either}
 use Rattle.paper.specs.Answers.{Reply, ok, device, sound, informed, spansTooFar, tooLarge, reported, incompatible, chunk, padded}
 use Rattle.paper.specs.Flash.{keys}
 use Rattle.paper.specs.Frame.{field, check, Info, infoOf}
@@ -49,20 +50,16 @@ abbrev pub After : Job → Job → Type 0
 After j k = (SoundJob j → SoundJob k) × (lentTo k ≡ lentTo j)
 
 module _ (Q : Then → Type 0) (q : Ends Q) where
-  either : (b : Bool) (t u : Then) → Q t → Q u → Q (cond b t u)
-  either true t u v w = v
-  either false t u v w = w
-
   erases-leads : (why : Purpose) (info : Info) → Q (working (erasing why info 0)) → Q (erases why info)
   unfolding erases
-  erases-leads why info e = either (spansTooFar info) (refuses 19 []) (working (erasing why info 0)) (q .far) e
+  erases-leads why info e = either Q (spansTooFar info) (q .far) e
 
   prepared-leads : (why : Purpose) (info : Info) (image : List ℕ) → Q (working (erasing why info 0)) → Q (prepared why info image)
   unfolding prepared judged
   prepared-leads tell info image e = q .knows info
   prepared-leads clear info image e = erases-leads clear info e
   prepared-leads (load n) info image e =
-      either (tooLarge info n) _ _ (q .large n info) (either (incompatible info image) _ _ (q .incompatible info image) (erases-leads (load n) info e))
+      either Q (tooLarge info n) (q .large n info) (either Q (incompatible info image) (q .incompatible info image) (erases-leads (load n) info e))
 
   informed-leads : (why : Purpose) (payload image : List ℕ) → (sound (infoOf payload) ≡ true → Q (working (erasing why (infoOf payload) 0)))
       → Q (onSome (informed payload) (refuses 5 []) (λ info. prepared why info image))
@@ -78,17 +75,17 @@ module _ (Q : Then → Type 0) (q : Ends Q) where
   unfolding cleared writes
   cleared-leads tell info address f = q .knows info
   cleared-leads clear info address f = q .knows info
-  cleared-leads (load n) info address f = either (eqb n 0) _ _ (f (verifying n info) (λ s. s, refl)) (f (writing n info 0 0) (λ s. s, refl))
+  cleared-leads (load n) info address f = either Q (eqb n 0) (f (verifying n info) (λ s. s, refl)) (f (writing n info 0 0) (λ s. s, refl))
 
   accepted-leads : (j : Job) → ((k : Job) → After j k → Q (working k)) → (payload image : List ℕ) → Q (accepted j payload image .then)
   unfolding accepted erased wrote verified
   accepted-leads (informing why) f payload image = informed-leads why payload image (λ e. f (erasing why (infoOf payload) 0) (λ s. e, refl))
   accepted-leads (erasing why info address) f payload image =
-      either (ltb (address + info .eraseSize) (info .capacity)) _ _ (f (erasing why info (address + info .eraseSize)) (λ s. s, refl)) (cleared-leads why info address f)
+      either Q (ltb (address + info .eraseSize) (info .capacity)) (f (erasing why info (address + info .eraseSize)) (λ s. s, refl)) (cleared-leads why info address f)
   accepted-leads (writing n info offset retries) f payload image =
-      either (leb (padded n - offset) (chunk (info .maxPayload))) _ _ (f (verifying n info) (λ s. s, refl)) (f (writing n info (offset + chunk (info .maxPayload)) 0) (λ s. s, refl))
+      either Q (leb (padded n - offset) (chunk (info .maxPayload))) (f (verifying n info) (λ s. s, refl)) (f (writing n info (offset + chunk (info .maxPayload)) 0) (λ s. s, refl))
   accepted-leads (verifying n info) f payload image =
-      either (ltb (length payload) 2) _ _ (q .short) (either (eqb (check image) (field 0 2 payload)) _ _ (q .knows info) (q .check payload image))
+      either Q (ltb (length payload) 2) (q .short) (either Q (eqb (check image) (field 0 2 payload)) (q .knows info) (q .check payload image))
   accepted-leads (resetting bootloader baud) f payload image = q .quiet
 
   declined-leads : (j : Job) → ((k : Job) → After j k → Q (working k)) → (status : ℕ) → Q (declined j status)
@@ -96,7 +93,7 @@ module _ (Q : Then → Type 0) (q : Ends Q) where
   declined-leads (informing why) f status = q .device status
   declined-leads (erasing why info address) f status = q .device status
   declined-leads (writing n info offset retries) f status =
-      either (eqb status 3) _ _ (either (ltb retries 16) _ _ (f (writing n info offset _) (λ s. s, refl)) (q .spent)) (q .device status)
+      either Q (eqb status 3) (either Q (ltb retries 16) (f (writing n info offset _) (λ s. s, refl)) (q .spent)) (q .device status)
   declined-leads (verifying n info) f status = q .device status
   declined-leads (resetting bootloader baud) f status = q .device status
 

@@ -10,7 +10,7 @@ use borrow.Author.Tests.{ltb-true, ltb-false, leb-true, leb-false, eqb-true}
 use Rattle.lore.proofs.Rows.{below-nil, below-cons}
 use Rattle.paper.specs.Frame.{Info}
 use Rattle.paper.specs.Answers.{chunk, padded, below}
-use Rattle.paper.specs.Flash.{writeSize, offsets}
+use Rattle.paper.specs.Flash.{writeSize}
 
 -- The first of the offsets that are left.
 pub record First (c p o x : ℕ) (xs : List ℕ) : Type 0 where

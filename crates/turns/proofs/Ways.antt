@@ -6,19 +6,11 @@ use mathlib.Core.Path.{_≡_, refl, _∙_}
 use native.Mathlib.Omega.{arith}
 use lib.ListN.{length, take, drop}
 use Rattle.paper.specs.Frame.{le, byte, field}
-use Rattle.lore.proofs.Fields.{Put, behind}
-use Rattle.lore.proofs.Words.{le-length}
+use Rattle.lore.proofs.Fields.{Put, num, one, behind}
 use Rattle.image.specs.declared.Info.{Info}
 use Rattle.client.specs.declared.Reset.{Reset}
 use Rattle.flat.specs.declared.Flat.{Flat}
 use Rattle.turns.specs.Flats.{flag, flagged, tags, geometry, savedInfo, savedReset, work, savedFlat, loadedInfo, loadedReset, loadedFlat}
-
--- A number, and a byte.
-pub num : {at : ℕ} (k x : ℕ) {b d : List ℕ} → d ≡ take at b ++ le k x ++ drop (at + k) b → Put at k (le k x) b d
-num k x e = record { sized = le-length k x; holds = e }
-
-pub one : {at x : ℕ} {b d : List ℕ} → d ≡ take at b ++ (x ∷ []) ++ drop (at + 1) b → Put at 1 (x ∷ []) b d
-one e = record { sized = refl; holds = e }
 
 pub geometry-length : (i : Info) → length (geometry i) ≡ 10
 unfolding geometry le

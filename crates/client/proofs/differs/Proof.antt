@@ -5,8 +5,6 @@ use Rattle.client.specs.Clients.{differs}
 use borrow.Author.Needs.{needs}
 use Rattle.client.proofs.differs.Statement.{statement}
 use Rattle.client.proofs.differs.Tie as tie
-use Rattle.client.proofs.differs.Reads as reads
-use Rattle.client.proofs.differs.Lts as lts
 
 -- src/lib.rt:184:26
 enum-told : tie.Need-enum-told

@@ -5,8 +5,6 @@ use Rattle.client.specs.Numbers.{numberOf}
 use borrow.Author.Needs.{needs}
 use Rattle.client.proofs.number.Statement.{statement}
 use Rattle.client.proofs.number.Tie as tie
-use Rattle.client.proofs.number.Reads as reads
-use Rattle.client.proofs.number.Lts as lts
 
 -- src/lib.rt:144:24
 enum-told : tie.Need-enum-told

@@ -5,9 +5,6 @@ use Rattle.client.specs.Clients.{otherFor}
 use borrow.Author.Needs.{needs}
 use Rattle.client.proofs.other_for.Statement.{statement}
 use Rattle.client.proofs.other_for.Tie as tie
-use Rattle.client.proofs.other_for.Reads as reads
-use Rattle.client.proofs.other_for.Lts as lts
-use Rattle.client.proofs.differs.Reads as differs-reads
 
 -- src/lib.rt:194:24
 enum-known-job : tie.Need-enum-known-job

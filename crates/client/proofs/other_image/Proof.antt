@@ -5,9 +5,6 @@ use Rattle.client.specs.Clients.{otherImage}
 use borrow.Author.Needs.{needs}
 use Rattle.client.proofs.other_image.Statement.{statement}
 use Rattle.client.proofs.other_image.Tie as tie
-use Rattle.client.proofs.other_image.Reads as reads
-use Rattle.client.proofs.other_image.Lts as lts
-use Rattle.client.proofs.other_for.Reads as other-for-reads
 
 -- src/lib.rt:207:29
 enum-told : tie.Need-enum-told

@@ -1,6 +1,6 @@
 -- `codes::put_uid` meets its contract.
 -- Assumes nothing.
-use Rattle.listing.proofs.Ways.{id-fits, id-part}
+use Rattle.ids.proofs.Laws.{id-fits, id-part}
 use Rattle.codes.proofs.Ways.{uid-short, uid-room, uid-put}
 use borrow.Author.Needs.{needs}
 use Rattle.codes.proofs.put_uid.Statement.{statement}

@@ -1,6 +1,7 @@
 -- `listing::put_id` meets its contract.
 -- Assumes nothing.
-use Rattle.listing.proofs.Ways.{id-fits, id-part, id-short, id-room, id-most, id-wrote}
+use Rattle.ids.proofs.Laws.{id-fits, id-part}
+use Rattle.listing.proofs.Ways.{id-short, id-room, id-most, id-wrote}
 use borrow.Author.Needs.{needs}
 use Rattle.listing.proofs.put_id.Statement.{statement}
 use Rattle.listing.proofs.put_id.Tie as tie

@@ -2,8 +2,6 @@
 -- Assumes nothing.
 use mathlib.Core.List.{[], _∷_}
 use lib.Seq.{sets-eq}
-use lib.ListN.{length-set}
-use native.Mathlib.Omega.{arith}
 use borrow.Author.Needs.{needs}
 use Rattle.select.proofs.put_pair.Statement.{statement}
 use Rattle.select.proofs.put_pair.Tie as tie
