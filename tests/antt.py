@@ -111,7 +111,7 @@ WORLD = {"Thunk": Thunk, "Fun": Fun, "force": force, "apply": apply, "plain": pl
 # their first argument, a test.
 CASES = {"Hearing.onSome": {1: "none", 2: "some"}, "Answers.unlessEcho": {1: "an echo", 2: "no echo"},
          "Frame.onReading": {1: "short", 2: "too long", 3: "bad check", 4: "whole"}, "Client.onLeft": {1: "idle", 2: "ready", 3: "waiting"}}
-TESTS = {"Flash.unless"}
+TESTS = {"Flash.refuseIf"}
 
 # kind: number, name, app (a: what, b: to what), field (a: of what, b: its name), lambda (a: binders, b: body), record (a: fields).
 Expr = namedtuple("Expr", "kind a b line text", defaults=(None, 0, ""))

@@ -385,7 +385,7 @@ class Tally:
             "# What the examples take of the paper's definitions", "",
             "Written by `tests/definitions.py --table`, which runs the text of `crates/paper/specs` on the Rust's stored answers (`tests/oracle`)",
             "and on other examples: the stored logs (`tests/logs`), and cases beside document 01's sentences where it goes beyond the Rust. Each",
-            "answer is compared. A branch is a clause, an arm of a choice (`cond`, `unless`, `onSome`, `onReading`, `onLeft`, `unlessEcho`), or a way",
+            "answer is compared. A branch is a clause, an arm of a choice (`cond`, `refuseIf`, `onSome`, `onReading`, `onLeft`, `unlessEcho`), or a way",
             "that `&&` or `||` comes out; it counts where its value is wanted, and once for an example.", "",
             "`sumUnder` is run as it stands to a depth of 9; above, its sum leaves out what extends a prefix that at most one id matches, which adds 0.", "",
             f"{definitions} definitions with {branches} branches; {self.examples[0]} answers of the Rust take {rust} of them, {self.examples[1]} other examples the "

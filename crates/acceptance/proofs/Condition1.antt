@@ -1,4 +1,4 @@
--- Document 01, acceptance condition 1: every call takes any arguments and comes back; what is refused, in which order, and what a refusal leaves.
+-- The customer's condition 1: every call takes any arguments and comes back; what is refused, in which order, and what a refusal leaves.
 -- No call has a precondition, and each of these holds of every value of the client.
 -- Assumes nothing.
 use Prim.Native.Nat.{ℕ, _≤_}

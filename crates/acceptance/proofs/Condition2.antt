@@ -1,4 +1,4 @@
--- Document 01, acceptance condition 2, the part that is proved: frames, checks, hearing, walk and flash order against the written definitions.
+-- The customer's condition 2, the part that is proved: frames, checks, hearing, walk and flash order against the written definitions.
 -- Assumes nothing.
 use Prim.Native.Nat.{ℕ, _<_, _≤_}
 use mathlib.Core.Bool.{Bool, true, false}

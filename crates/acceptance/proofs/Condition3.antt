@@ -1,4 +1,4 @@
--- Document 01, acceptance condition 3: the discovery of the driven client, from bytes to bytes.
+-- The customer's condition 3: the discovery of the driven client, from bytes to bytes.
 -- Assumes nothing.
 use Prim.Native.Nat.{ℕ, _+_, _-_, _*_, _≤_, _<_}
 use mathlib.Core.Bool.{false}

@@ -8,7 +8,7 @@ use mathlib.Core.Path.{_≡_, refl}
 use lib.Dec.{eqb}
 use lib.ListN.{replicate}
 use Rattle.paper.specs.Client.{payloadOf}
-use Rattle.paper.specs.Flash.{accepted, transact, unless, inform, eraseOne, eraseAll, erase, prepare, repeated, persist, writeWithin, offsets, writeAll, verify, flash}
+use Rattle.paper.specs.Flash.{accepted, transact, refuseIf, inform, eraseOne, eraseAll, erase, prepare, repeated, persist, writeWithin, offsets, writeAll, verify, flash}
 use Rattle.paper.specs.Frame.{le, number, crcBit, crcByte, crcFrom, check, Info, infoOf, command-Info, command-Verify}
 use Rattle.paper.specs.Talk.{select, demand, leave, Talk, return, stop, report, ask, _>>=_, each, Outcome}
 use Rattle.paper.specs.Count.{honest, selects}
@@ -74,7 +74,7 @@ pub record Table : Type 0 where
   pub discovers-under-00 : Discovers ((0x00 ∷ []) ∷ (0x01 ∷ []) ∷ []) (0x00 ∷ []) ((0x00 ∷ []) ∷ []) 2
 
 pub table : Table
-unfolding log payloadOf accepted transact unless inform eraseOne eraseAll erase prepare repeated persist writeWithin offsets writeAll verify flash each _>>=_ sound informed spansTooFar tooLarge reported incompatible padding le infoOf crcBit crcByte crcFrom check bit bitsOf counting binary packed selectPayload number key chunk steps apart below eraseAddresses Discovery.rows
+unfolding log payloadOf accepted transact refuseIf inform eraseOne eraseAll erase prepare repeated persist writeWithin offsets writeAll verify flash each _>>=_ sound informed spansTooFar tooLarge reported incompatible padding le infoOf crcBit crcByte crcFrom check bit bitsOf counting binary packed selectPayload number key chunk steps apart below eraseAddresses Discovery.rows
 table = record {
   bits-of-05 = refl;
   payload-of-101 = refl;

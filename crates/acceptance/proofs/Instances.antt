@@ -11,7 +11,7 @@ use Rattle.paper.specs.Answers.{ok, answerFrom, answer, sound, informed, spansT
 use Rattle.paper.specs.Attach.{listen, attach}
 use Rattle.paper.specs.Client as Paper
 use Rattle.paper.specs.Client.{Says, refused, granted, onward, payloadOf}
-use Rattle.paper.specs.Flash.{accepted, transact, unless, inform, eraseOne, eraseAll, prepare, repeated, persist, writeWithin, offsets, writeAll, verify, informOnly, erase, flash, reset}
+use Rattle.paper.specs.Flash.{accepted, transact, refuseIf, inform, eraseOne, eraseAll, prepare, repeated, persist, writeWithin, offsets, writeAll, verify, informOnly, erase, flash, reset}
 use Rattle.paper.specs.Frame.{le, number, crcBit, crcByte, crcFrom, check, Frame, whole, frameHead, frameBody, frameBytes, skipped, rightCheck, readSized, readSynced, read, Info, infoOf}
 use Rattle.paper.specs.Count.{matching, heardOf, honest, All, Pods, selects}
 use Rattle.paper.specs.Hearing.{Id, bit, bitsOf, counting, begins, before, packed, binary, selectPayload, clean, frames, replies, alone, hear}
@@ -114,7 +114,7 @@ abbrev flashed : List Round
 flashed = answers informs ∷ answers erased ∷ answers erased ∷ answers mismatched ∷ answers wrote ∷ answers wrote ∷ answers verified ∷ []
 
 pub flash-driven-met : Returns 255 attached (driven buffer flashed (opening (startFlash (resting 255 attached) image))) (knows device)
-unfolding play readEvent answer answerFrom read readSynced readSized rightCheck skipped number check crcFrom crcByte crcBit accepted transact unless inform eraseOne eraseAll erase prepare repeated persist writeWithin offsets writeAll verify flash each _>>=_ sound informed spansTooFar tooLarge incompatible key padding chunk steps apart below eraseAddresses infoOf
+unfolding play readEvent answer answerFrom read readSynced readSized rightCheck skipped number check crcFrom crcByte crcBit accepted transact refuseIf inform eraseOne eraseAll erase prepare repeated persist writeWithin offsets writeAll verify flash each _>>=_ sound informed spansTooFar tooLarge incompatible key padding chunk steps apart below eraseAddresses infoOf
 flash-driven-met =
     Condition2.flash-driven buffer room 255 (omega arith) attached (omega arith) flashed image
     ((refl, refl), ((refl, refl), ((refl, refl), ((refl, refl), ((refl, refl), ((refl, refl), ((refl, refl), tt)))))))
@@ -127,7 +127,7 @@ info-driven-met = Condition2.info-driven buffer room 255 (omega arith) attached 
 pub erase-driven-met :
     Returns 255 attached (driven buffer (answers informs ∷ answers erased ∷ answers erased ∷ []) (opening (startErase (resting 255 attached)))) (knows device)
     × Refuses 255 attached (driven buffer (answers informs ∷ answers erased ∷ record { lent = []; event = failed } ∷ []) (opening (startErase (resting 255 attached)))) 1 []
-unfolding play readEvent answer answerFrom read readSynced readSized rightCheck skipped number check crcFrom crcByte crcBit accepted transact unless inform eraseOne eraseAll erase each _>>=_ sound informed spansTooFar steps apart below eraseAddresses infoOf
+unfolding play readEvent answer answerFrom read readSynced readSized rightCheck skipped number check crcFrom crcByte crcBit accepted transact refuseIf inform eraseOne eraseAll erase each _>>=_ sound informed spansTooFar steps apart below eraseAddresses infoOf
 erase-driven-met = (
   Condition2.erase-driven buffer room 255 (omega arith) attached (omega arith) (answers informs ∷ answers erased ∷ answers erased ∷ []),
   Condition2.erase-driven buffer room 255 (omega arith) attached (omega arith) (answers informs ∷ answers erased ∷ record { lent = []; event = failed } ∷ []),
@@ -147,11 +147,11 @@ flashing =
     heard image informs ∷ heard image erased ∷ heard image erased ∷ heard image mismatched ∷ heard image wrote ∷ heard image wrote ∷ heard image verified ∷ replicate 31 failed
 
 pub flash-in-order-met : Flashed 5 (play (flash 5) flashing [] .0) (knows device)
-unfolding play readEvent answer answerFrom read readSynced readSized rightCheck skipped number check crcFrom crcByte crcBit accepted transact unless inform eraseOne eraseAll erase prepare repeated persist writeWithin offsets writeAll verify flash each _>>=_ sound informed spansTooFar tooLarge incompatible key padding chunk steps apart below eraseAddresses infoOf
+unfolding play readEvent answer answerFrom read readSynced readSized rightCheck skipped number check crcFrom crcByte crcBit accepted transact refuseIf inform eraseOne eraseAll erase prepare repeated persist writeWithin offsets writeAll verify flash each _>>=_ sound informed spansTooFar tooLarge incompatible key padding chunk steps apart below eraseAddresses infoOf
 flash-in-order-met = Condition2.flash-in-order 5 flashing .1
 
 bound-38 : most (flashMost 5) (told (play (flash 5) flashing [] .0)) ≡ 38
-unfolding most flashMost erasesMost told toldIn toldBy play readEvent answer answerFrom read readSynced readSized rightCheck skipped number check crcFrom crcByte crcBit accepted transact unless inform eraseOne eraseAll erase prepare repeated persist writeWithin offsets writeAll verify flash each _>>=_ sound informed spansTooFar tooLarge incompatible key padding chunk steps apart below eraseAddresses infoOf
+unfolding most flashMost erasesMost told toldIn toldBy play readEvent answer answerFrom read readSynced readSized rightCheck skipped number check crcFrom crcByte crcBit accepted transact refuseIf inform eraseOne eraseAll erase prepare repeated persist writeWithin offsets writeAll verify flash each _>>=_ sound informed spansTooFar tooLarge incompatible key padding chunk steps apart below eraseAddresses infoOf
 bound-38 = refl
 
 pub flash-ends-met : Ended (play (flash 5) flashing [] .1)
@@ -161,7 +161,7 @@ pub info-ends-met : Ended (play informOnly (heard image informs ∷ []) [] .1)
 info-ends-met = Condition2.info-ends (heard image informs ∷ []) .ends (omega arith)
 
 bound-3 : most erasesMost (told (play erase (heard [] informs ∷ heard [] erased ∷ failed ∷ []) [] .0)) ≡ 3
-unfolding most erasesMost told toldIn toldBy play readEvent answer answerFrom read readSynced readSized rightCheck skipped number check crcFrom crcByte crcBit accepted transact unless inform eraseOne eraseAll erase each _>>=_ sound informed spansTooFar steps apart below eraseAddresses infoOf
+unfolding most erasesMost told toldIn toldBy play readEvent answer answerFrom read readSynced readSized rightCheck skipped number check crcFrom crcByte crcBit accepted transact refuseIf inform eraseOne eraseAll erase each _>>=_ sound informed spansTooFar steps apart below eraseAddresses infoOf
 bound-3 = refl
 
 pub erase-ends-met : Ended (play erase (heard [] informs ∷ heard [] erased ∷ failed ∷ []) [] .1)

@@ -62,9 +62,9 @@ unfoldable pub transact : Demand → Talk (List ℕ × List ℕ)
 transact d = ask (demand d) (λ a. accepted (a .reply) (a .image))
 
 -- "Requests with one answer": a refusal where the test holds, else on.
-unfoldable pub unless : Bool → ℕ → List ℕ → Talk (Unit {0})
-unless true n carries = stop n carries
-unless false n carries = return tt
+unfoldable pub refuseIf : Bool → ℕ → List ℕ → Talk (Unit {0})
+refuseIf true n carries = stop n carries
+refuseIf false n carries = return tt
 
 -- "Info: payload under 18, or erase_size 0, capacity 0, or max_payload under 4: 5."
 unfoldable pub inform : Talk (Info × List ℕ)
@@ -81,7 +81,7 @@ eraseOne info address = do
 -- "then 19, then addresses 0, e, 2e... below capacity".
 unfoldable pub eraseAll : Info → Talk (Unit {0})
 eraseAll info = do
-  unless (spansTooFar info) 19 []
+  refuseIf (spansTooFar info) 19 []
   each (eraseAddresses info) (eraseOne info)
 
 -- "both keys": the device's, then the image's, or the device's alone where that is missing.
@@ -92,8 +92,8 @@ keys info image = info .compat ∷ onSome (key image) [] (λ k. k ∷ [])
 unfoldable pub prepare : ℕ → Talk Info
 prepare n = do
   (info, image) ← inform
-  unless (tooLarge info n) 3 (reported n ∷ info .capacity ∷ [])
-  unless (incompatible info image) 6 (keys info image)
+  refuseIf (tooLarge info n) 3 (reported n ∷ info .capacity ∷ [])
+  refuseIf (incompatible info image) 6 (keys info image)
   eraseAll info
   return info
 
@@ -130,8 +130,8 @@ writeAll info n = each (offsets info n) (writeOne info n)
 unfoldable pub verify : ℕ → Talk (Unit {0})
 verify n = do
   (payload, image) ← transact (verifyRequest n)
-  unless (ltb (length payload) 2) 18 []
-  unless (not (eqb (check image) (field 0 2 payload))) 4 (check image ∷ field 0 2 payload ∷ [])
+  refuseIf (ltb (length payload) 2) 18 []
+  refuseIf (not (eqb (check image) (field 0 2 payload))) 4 (check image ∷ field 0 2 payload ∷ [])
 
 -- The operations.
 

@@ -179,8 +179,8 @@ ReadableThen p (to ph) = Unit {0}
 ReadableThen p (ends o) = Readable (over p o)
 ReadableThen p (refuses n carries) = Readable (refused n carries)
 
-unless-read : (h : Paper.Heard) (t : Then) → (long h ≡ false → ReadableThen none t) → ReadableThen none (unlessLong h t)
-unless-read h t f = go (long h) refl
+refuseIf-read : (h : Paper.Heard) (t : Then) → (long h ≡ false → ReadableThen none t) → ReadableThen none (unlessLong h t)
+refuseIf-read h t f = go (long h) refl
   where
     go : (b : Bool) → long h ≡ b → ReadableThen none (cond b (refuses 14 []) t)
     go true e = long-read
@@ -229,9 +229,9 @@ step-stops s h = go (s .phase)
 
 search-read : (s : Search) → FitsSearch s → (h : Paper.Heard) → ReadableThen none (hears s h)
 unfolding hears
-search-read (probing bytes bits) f h = unless-read h (ends (heard h)) (λ e. outcome-read (heard h) e)
+search-read (probing bytes bits) f h = refuseIf-read h (ends (heard h)) (λ e. outcome-read (heard h) e)
 search-read parting f h = outcome-read quiet tt
-search-read (seeking uid) f h = unless-read h (sought uid h) (sought-read uid f h)
+search-read (seeking uid) f h = refuseIf-read h (sought uid h) (sought-read uid f h)
 search-read (backing none) f h = several-read
 search-read (backing (some x)) f h = ambiguous-read x f
 search-read (walking s) f h = walked-read (Walk.step s h) (step-fits s h f) (step-stops s h)

@@ -9,7 +9,7 @@ use Rattle.paper.specs.Answers.{Reply, ok, device}
 use Rattle.paper.specs.Count.{All}
 use Rattle.paper.specs.Hearing.{onSome}
 use Rattle.paper.specs.Talk.{Demand, Ask, demand, Answer, Talk, return, stop, report, ask, _>>=_, _>>_, each}
-use Rattle.paper.specs.Flash.{accepted, transact, unless}
+use Rattle.paper.specs.Flash.{accepted, transact, refuseIf}
 use Rattle.theory.specs.FlashOrder.{Exchange, met, Past, Event, Stand, returned, refused, pending, readEvent, play, asks, everything, Kept, Stands}
 
 -- Whatever is answered: each request is as R says of the past and of it, and a value returned is as Q says.
@@ -37,14 +37,14 @@ module _ (R : Past → Ask → Type 0) where
   always-each I f g (x ∷ xs) past h =
       always-bind (λ p _. I xs p) (λ p _. I [] p) past (f x) (λ _. each xs f) (g x xs past h) (λ p _ i. always-each I f g xs p i)
 
-  pub always-unless : {B : Type 0} (S : Past → B → Type 0) (past : Past) (b : Bool) (c : ℕ) (v : List ℕ) (k : Talk B)
-      → (b ≡ false → Always R S past k) → Always R S past (unless b c v >> k)
-  unfolding unless _>>=_
-  always-unless S past true c v k h = tt
-  always-unless S past false c v k h = h refl
+  pub always-refuseIf : {B : Type 0} (S : Past → B → Type 0) (past : Past) (b : Bool) (c : ℕ) (v : List ℕ) (k : Talk B)
+      → (b ≡ false → Always R S past k) → Always R S past (refuseIf b c v >> k)
+  unfolding refuseIf _>>=_
+  always-refuseIf S past true c v k h = tt
+  always-refuseIf S past false c v k h = h refl
 
-  pub always-test : (S : Past → Unit {0} → Type 0) (past : Past) (b : Bool) (c : ℕ) (v : List ℕ) → (b ≡ false → S past tt) → Always R S past (unless b c v)
-  unfolding unless
+  pub always-test : (S : Past → Unit {0} → Type 0) (past : Past) (b : Bool) (c : ℕ) (v : List ℕ) → (b ≡ false → S past tt) → Always R S past (refuseIf b c v)
+  unfolding refuseIf
   always-test S past true c v h = tt
   always-test S past false c v h = h refl
 

@@ -14,7 +14,7 @@ use Rattle.paper.specs.Frame.{field, check, Info, status-CrcMismatch}
 use Rattle.paper.specs.Hearing.{onSome}
 use Rattle.paper.specs.Answers.{Reply, ok, device, sound, informed, steps, spansTooFar, apart, below, eraseAddresses, tooLarge, reported, incompatible, chunk, padded}
 use Rattle.paper.specs.Talk.{Demand, demand, Answered, Answer, Talk, return, stop, report, ask, _>>=_, _>>_, each}
-use Rattle.paper.specs.Flash.{accepted, transact, unless, infoRequest, keys, inform, eraseOne, eraseAll, repeated, persist, writeWithin, writeOne, offsets, writeAll, verify, known, informOnly, erase, prepare, flash, reset}
+use Rattle.paper.specs.Flash.{accepted, transact, refuseIf, infoRequest, keys, inform, eraseOne, eraseAll, repeated, persist, writeWithin, writeOne, offsets, writeAll, verify, known, informOnly, erase, prepare, flash, reset}
 use Rattle.theory.specs.FlashOrder.{Exchange, met, Past, Event, Stand, refused, readEvent, play, everything, toldBy, toldIn, told, Ended, Bounded, most, erasesMost, flashMost}
 use Rattle.theory.proofs.Conversations.{bind-assoc}
 use Rattle.theory.proofs.FlashOrder.{told-still}
@@ -51,10 +51,10 @@ unfolding each
 within-each j k f h [] l = tt
 within-each j k f h (x ∷ xs) l = within-bind j (length xs * j) k (f x) (λ _. each xs f) (omega arith) (h x) (λ _. within-each j (length xs * j) f h xs (omega arith))
 
-within-unless : {A : Type 0} (k : ℕ) (b : Bool) (c : ℕ) (v : List ℕ) (m : Talk A) → (b ≡ false → Within k m) → Within k (unless b c v >> m)
-unfolding unless _>>=_
-within-unless k true c v m h = tt
-within-unless k false c v m h = h refl
+within-refuseIf : {A : Type 0} (k : ℕ) (b : Bool) (c : ℕ) (v : List ℕ) (m : Talk A) → (b ≡ false → Within k m) → Within k (refuseIf b c v >> m)
+unfolding refuseIf _>>=_
+within-refuseIf k true c v m h = tt
+within-refuseIf k false c v m h = h refl
 
 within-transact : {A : Type 0} (k : ℕ) (d : Demand) (f : List ℕ × List ℕ → Talk A) → ((payload image : List ℕ) → Within k (f (payload, image))) → Within (suc k) (transact d >>= f)
 unfolding transact accepted _>>=_
@@ -153,7 +153,7 @@ below-length e c = apart-length e (steps e (c - 0)) 0 ∙ ap (steps e) (omega ar
 erase-all-within : (info : Info) (k : ℕ) → (spansTooFar info ≡ false → erasesMost info ≤ k) → Within k (eraseAll info)
 unfolding eraseAll eraseOne eraseAddresses erasesMost
 erase-all-within info k h =
-    within-unless k (spansTooFar info) 19 [] _ (λ s.
+    within-refuseIf k (spansTooFar info) 19 [] _ (λ s.
     within-each 1 k (eraseOne info) (λ x. within-transact 0 _ _ (λ payload image. tt)) (eraseAddresses info) (omega (arith, h s, below-length (info .eraseSize) (info .capacity))))
 
 persist-within : (t : ℕ) (d : Demand) → Within t (persist t d)
@@ -175,8 +175,8 @@ write-all-within info n k h =
     within-each 17 k (writeOne info n) (λ x. within-bind 17 0 17 (persist 17 _) _ (omega arith) (persist-within 17 _) (λ _. tt)) (offsets info n)
     (omega (arith, below-length (chunk (info .maxPayload)) (padded n)))
 
-test-within : (b : Bool) (c : ℕ) (v : List ℕ) → Within 0 (unless b c v)
-unfolding unless
+test-within : (b : Bool) (c : ℕ) (v : List ℕ) → Within 0 (refuseIf b c v)
+unfolding refuseIf
 test-within true c v = tt
 test-within false c v = tt
 
@@ -184,7 +184,7 @@ verify-within : (n : ℕ) → Within 1 (verify n)
 unfolding verify
 verify-within n =
     within-transact 0 _ _ (λ payload image.
-    within-unless 0 (ltb (length payload) 2) 18 [] _ (λ _. test-within (not (eqb (check image) (field 0 2 payload))) 4 (check image ∷ field 0 2 payload ∷ [])))
+    within-refuseIf 0 (ltb (length payload) 2) 18 [] _ (λ _. test-within (not (eqb (check image) (field 0 2 payload))) 4 (check image ∷ field 0 2 payload ∷ [])))
 
 pub inform-bounded : (es : List Event) → Bounded 1 es (play informOnly es [])
 unfolding informOnly
@@ -205,12 +205,12 @@ erase-bounded es = informed-bounded _ erasesMost (λ i. erase-after (i .0) (eras
 -- What a flash does with the information, for any bound of its Erases and of its Writes.
 flash-after : (n : ℕ) (info : Info) (image : List ℕ) (k l : ℕ) → (spansTooFar info ≡ false → erasesMost info ≤ k) → 17 * steps (chunk (info .maxPayload)) (padded n) ≤ l
     → Within (k + (l + 1))
-    (unless (tooLarge info n) 3 (reported n ∷ info .capacity ∷ []) >> (unless (incompatible info image) 6 (keys info image) >> (eraseAll info >> return info))
+    (refuseIf (tooLarge info n) 3 (reported n ∷ info .capacity ∷ []) >> (refuseIf (incompatible info image) 6 (keys info image) >> (eraseAll info >> return info))
     >>= (λ info. writeAll info n >> (verify n >> known info)))
 unfolding _>>=_
 flash-after n info image k l h w =
-    rw bind-assoc (within-unless (k + (l + 1)) (tooLarge info n) 3 _ _ (λ _.
-    rw bind-assoc (within-unless (k + (l + 1)) (incompatible info image) 6 _ _ (λ _.
+    rw bind-assoc (within-refuseIf (k + (l + 1)) (tooLarge info n) 3 _ _ (λ _.
+    rw bind-assoc (within-refuseIf (k + (l + 1)) (incompatible info image) 6 _ _ (λ _.
     rw bind-assoc (within-bind k (l + 1) (k + (l + 1)) (eraseAll info) _ (omega arith) (erase-all-within info k h) (λ _.
     within-bind l 1 (l + 1) (writeAll info n) _ (omega arith) (write-all-within info n l w) (λ _.
     within-bind 1 0 1 (verify n) _ (omega arith) (verify-within n) (λ _. tt))))))))

@@ -16,7 +16,7 @@ use Rattle.paper.specs.Answers.{Reply, ok, device, sound, informed, spansTooFar
 use Rattle.paper.specs.Talk.{Demand, Ask, demand, return, stop, Outcome, knows}
 use Rattle.paper.specs.Flash.{infoRequest, eraseRequest, writeRequest, verifyRequest, inform, eraseOne, eraseAll, prepare, repeated, persist, writeWithin, writeOne, offsets, writeAll, verify, erase, flash, known}
 use Rattle.theory.specs.FlashOrder.{Exchange, met, Past, Event, play, asks, everything, toldBy, toldIn, told, isOk, carried, wroteIn, written, erasedIn, erased, eraseIn, erases, writeIn, writesAt, planned, FrontOf, Passed, MayWrite, toInform, toErase, toWrite, toVerify, Fronts, Front, Allowed, Kept, Stands, Flashed}
-use Rattle.theory.proofs.Conversations.{Always, always-bind, always-each, always-unless, always-test, always-transact, play-kept, all-asked}
+use Rattle.theory.proofs.Conversations.{Always, always-bind, always-each, always-refuseIf, always-test, always-transact, play-kept, all-asked}
 use Rattle.theory.proofs.Infos.{sound-chunk, informed-sound}
 use Rattle.theory.proofs.Writes.{First, first, last, write-size, at-most, counted, uncounted}
 
@@ -89,7 +89,7 @@ module _ (R : Past → Ask → Type 0) where
     erase-all : (past : Past) → Erasing info image (eraseAddresses info) past → Always R (λ p _. Left [] p) past (eraseAll info)
     unfolding eraseAll
     erase-all past h =
-        always-unless R (λ p _. Left [] p) past (spansTooFar info) 19 [] _ (λ s. always-each R Left (eraseOne info) erase-one (eraseAddresses info) past (h, s))
+        always-refuseIf R (λ p _. Left [] p) past (spansTooFar info) 19 [] _ (λ s. always-each R Left (eraseOne info) erase-one (eraseAddresses info) past (h, s))
 
 module _ (n : ℕ) where
   passed-still : (x : Exchange) (past : Past) (info : Info) → Passed n past info → Passed n (x ∷ past) info
@@ -211,7 +211,7 @@ module _ (n : ℕ) where
         few = λ a. omega (arith, h .few a);
       })
       (λ payload image.
-      always-unless (Allowed n) Done _ (ltb (length payload) 2) 18 [] _ (λ l.
+      always-refuseIf (Allowed n) Done _ (ltb (length payload) 2) 18 [] _ (λ l.
       always-test (Allowed n) Done _ (not (eqb (check image) (field 0 2 payload))) 4 _ (λ e.
       record {
         may = record { info = info; passed = passed-still _ past info (h .passed); cleared = append-nil (erased past) ∙ h .cleared };
@@ -272,8 +272,8 @@ module _ (n : ℕ) where
   unfolding prepare Begun
   prepare-always =
       always-bind (Allowed n) Begun Erased [] inform _ (inform-always (Allowed n) info-allowed) (λ p r b.
-      always-unless (Allowed n) Erased p (tooLarge (r .0) n) 3 _ _ (λ fits.
-      always-unless (Allowed n) Erased p (incompatible (r .0) (r .1)) 6 _ _ (λ suits.
+      always-refuseIf (Allowed n) Erased p (tooLarge (r .0) n) 3 _ _ (λ fits.
+      always-refuseIf (Allowed n) Erased p (incompatible (r .0) (r .1)) 6 _ _ (λ suits.
       always-bind (Allowed n) _ Erased p (eraseAll (r .0)) _ (erase-all (Allowed n) (r .0) (r .1) (erase-allowed (r .0) (r .1) fits suits) p (b .0))
       (λ q _ e. all-erased (r .0) (r .1) fits suits (b .1) q e))))
 

@@ -11,14 +11,14 @@ use borrow.Author.Tests.{ltb-false, le-ltb, eqb-true, eq-eqb, not-false}
 use Rattle.paper.specs.Frame.{field, check, Info}
 use Rattle.paper.specs.Answers.{Reply, ok, device}
 use Rattle.paper.specs.Talk.{demand, Answered, Talk, return, ask, _>>=_, _>>_, Outcome, knows}
-use Rattle.paper.specs.Flash.{verifyRequest, accepted, transact, unless, verify, known}
+use Rattle.paper.specs.Flash.{verifyRequest, accepted, transact, refuseIf, verify, known}
 use Rattle.theory.specs.FlashOrder.{Checked}
 
 -- What a flash does with the answer.
 unfoldable pub verdict : Info → Answered → Talk Outcome
 verdict info a =
     accepted (a .reply) (a .image)
-    >>= (λ (payload, image). unless (ltb (length payload) 2) 18 [] >> unless (not (eqb (check image) (field 0 2 payload))) 4 (check image ∷ field 0 2 payload ∷ []))
+    >>= (λ (payload, image). refuseIf (ltb (length payload) 2) 18 [] >> refuseIf (not (eqb (check image) (field 0 2 payload))) 4 (check image ∷ field 0 2 payload ∷ []))
     >> known info
 
 pub verify-asks : (n : ℕ) (info : Info) → verify n >> known info ≡ ask (demand (verifyRequest n)) (verdict info)
@@ -27,14 +27,14 @@ verify-asks n info = refl
 
 -- It succeeds if and only if the answer is Ok and has at least two bytes, the first of which are the check of the image lent with it.
 pub verify-only : (info : Info) (a : Answered) → verdict info a ≡ return (knows info) → Checked a
-unfolding verdict accepted unless _>>=_
+unfolding verdict accepted refuseIf _>>=_
 verify-only info a e = go (a .reply) refl e
   where
     go : (r : Reply) → a .reply ≡ r → verdict info (record { reply = r; image = a .image }) ≡ return (knows info) → Checked a
     go (ok payload) q e = tests (ltb (length payload) 2) (not (eqb (check (a .image)) (field 0 2 payload))) refl refl e
       where
         tests : (b c : Bool) → ltb (length payload) 2 ≡ b → not (eqb (check (a .image)) (field 0 2 payload)) ≡ c
-            → unless b 18 [] >> unless c 4 (check (a .image) ∷ field 0 2 payload ∷ []) >> known info ≡ return (knows info) → Checked a
+            → refuseIf b 18 [] >> refuseIf c 4 (check (a .image) ∷ field 0 2 payload ∷ []) >> known info ≡ return (knows info) → Checked a
         tests true c eb ec e = absurd (let z : _≡_ {A = ℕ} 0 1 = cc in omega arith)
         tests false true eb ec e = absurd (let z : _≡_ {A = ℕ} 0 1 = cc in omega arith)
         tests false false eb ec e =
@@ -42,5 +42,5 @@ verify-only info a e = go (a .reply) refl e
     go (device status) q e = absurd (let z : _≡_ {A = ℕ} 0 1 = cc in omega arith)
 
 pub verify-if : (info : Info) (a : Answered) → Checked a → verdict info a ≡ return (knows info)
-unfolding verdict accepted unless _>>=_
+unfolding verdict accepted refuseIf _>>=_
 verify-if info a h = rw (h .accepted, le-ltb (length (h .payload)) 2 (h .long), eq-eqb (check (a .image)) (field 0 2 (h .payload)) (sym (h .right)))

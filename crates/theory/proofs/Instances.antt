@@ -8,6 +8,7 @@ use mathlib.Core.Path.{_≡_, refl, ap}
 use native.Mathlib.Omega.{arith}
 use lib.ListN.{length, replicate}
 use Rattle.lore.proofs.Words.{Bytes}
+use Rattle.lore.proofs.Chunks.{chunk-least}
 use Rattle.paper.specs.Answers.{ok, answered, answerFrom, answer, sound, spansTooFar, steps, apart, below, eraseAddresses, chunk}
 use Rattle.paper.specs.Client as Paper
 use Rattle.paper.specs.Count.{matching, heardOf, honest, All, Distinct, Pods, selects}
@@ -33,7 +34,7 @@ use Rattle.theory.proofs.Fits.{step-fits, start-fits}
 use Rattle.theory.proofs.FlashVerify.{verdict, verify-only, verify-if}
 use Rattle.theory.proofs.Frames.{Fits, read-written, written-read, fits-read}
 use Rattle.theory.proofs.Heard.{hear-reply, hear-ok, hear-unsupported, hear-other, hear-echo, frames-fuel, answer-fuel, answer-reply, answer-echo}
-use Rattle.theory.proofs.Images.{addresses-fit, addresses-below, chunk-least}
+use Rattle.theory.proofs.Images.{addresses-fit, addresses-below}
 use Rattle.theory.proofs.Keeping as Keeping
 use Rattle.theory.proofs.Keeping.{turn-sound, record-fits}
 use Rattle.theory.proofs.Kept.{Listed, kept-listed, kept-distinct}

@@ -12,7 +12,7 @@ use borrow.Author.Tests.{ltb-true, ltb-false, leb-true, leb-false, eqb-true, eqb
 use Rattle.paper.specs.Answers.{Reply, ok, device, sound, informed, steps, below, spansTooFar, eraseAddresses, eraseProgress, tooLarge, reported, incompatible, chunk, padding, padded}
 use Rattle.paper.specs.Attach.{listen, selectOnly, deselect, prefixOf, met, attach, discover}
 use Rattle.paper.specs.Flash as Flash
-use Rattle.paper.specs.Flash.{infoRequest, eraseRequest, writeRequest, verifyRequest, resetRequest, keys, transact, unless, inform, eraseOne, eraseAll, prepare, persist, writeWithin, writeOne, offsets, writeAll, verify, known, informOnly, erase, flash, reset}
+use Rattle.paper.specs.Flash.{infoRequest, eraseRequest, writeRequest, verifyRequest, resetRequest, keys, transact, refuseIf, inform, eraseOne, eraseAll, prepare, persist, writeWithin, writeOne, offsets, writeAll, verify, known, informOnly, erase, flash, reset}
 use Rattle.paper.specs.Frame.{field, check, Info, infoOf}
 use Rattle.paper.specs.Hearing.{Id, Prefix, bitsOf, onSome, Heard, nothing, one, unaddressed, garble}
 use Rattle.paper.specs.Talk as Talk
@@ -143,10 +143,10 @@ search-step (backing uid) = λ i. ask (select Walk.nobody) (λ h. backed-sim uid
 search-step (walking s) = ap (λ (w : Walk (List Id)). Talk.walking w >>= finding) (Refine.resume-step s) ∙ (λ i. ask (select (Machine.request s)) (λ h. walked-sim (Machine.step s h) i))
 
 -- A test that refuses.
-unless-sim : (b : Bool) (n : ℕ) (carries : List ℕ) (m : Talk Outcome) (t : Then) → m ≡ thereafter t → unless b n carries >> m ≡ thereafter (cond b (refuses n carries) t)
-unfolding unless thereafter _>>=_
-unless-sim true n carries m t e = refl
-unless-sim false n carries m t e = e
+refuseIf-sim : (b : Bool) (n : ℕ) (carries : List ℕ) (m : Talk Outcome) (t : Then) → m ≡ thereafter t → refuseIf b n carries >> m ≡ thereafter (cond b (refuses n carries) t)
+unfolding refuseIf thereafter _>>=_
+refuseIf-sim true n carries m t e = refl
+refuseIf-sim false n carries m t e = e
 
 -- The one answer.
 transact-sim : (d : Demand) (f : List ℕ × List ℕ → Talk Outcome) (j : Job) → ((payload image : List ℕ) → f (payload, image) ≡ resumed (accepted j payload image))
@@ -218,15 +218,15 @@ module _ (info : Info) (s : sound info ≡ true) where
   erases-sim : (why : Purpose) → eraseAll info >> afterErase why info ≡ thereafter (erases why info)
   unfolding eraseAll eraseAddresses erases thereafter resume
   erases-sim why =
-      bind-assoc (unless (spansTooFar info) 19 []) _ _
-      ∙ unless-sim (spansTooFar info) 19 [] _ (working (erasing why info 0)) (more-erases why 0 (sound-sizes info s .capacity))
+      bind-assoc (refuseIf (spansTooFar info) 19 []) _ _
+      ∙ refuseIf-sim (spansTooFar info) 19 [] _ (working (erasing why info 0)) (more-erases why 0 (sound-sizes info s .capacity))
 
 -- What follows Info.
 afterInfo : Purpose → Info → List ℕ → Talk Outcome
 afterInfo tell info image = known info
 afterInfo clear info image = eraseAll info >> known info
 afterInfo (load n) info image =
-    unless (tooLarge info n) 3 (reported n ∷ info .capacity ∷ []) >> (unless (incompatible info image) 6 (keys info image) >> (eraseAll info >> afterErase (load n) info))
+    refuseIf (tooLarge info n) 3 (reported n ∷ info .capacity ∷ []) >> (refuseIf (incompatible info image) 6 (keys info image) >> (eraseAll info >> afterErase (load n) info))
 
 whole-sim : (why : Purpose) → whole why ≡ inform >>= λ r. afterInfo why (r .0) (r .1)
 unfolding whole afterInfo afterErase informOnly erase flash prepare _>>=_
@@ -239,8 +239,8 @@ unfolding afterInfo afterErase prepared judged thereafter
 prepared-sim tell info image s = refl
 prepared-sim clear info image s = erases-sim info s clear
 prepared-sim (load n) info image s =
-    unless-sim (tooLarge info n) 3 _ _ (cond (incompatible info image) (refuses 6 (keys info image)) (erases (load n) info))
-    (unless-sim (incompatible info image) 6 _ _ (erases (load n) info) (erases-sim info s (load n)))
+    refuseIf-sim (tooLarge info n) 3 _ _ (cond (incompatible info image) (refuses 6 (keys info image)) (erases (load n) info))
+    (refuseIf-sim (incompatible info image) 6 _ _ (erases (load n) info) (erases-sim info s (load n)))
 
 -- The device information, with the image lent with it.
 abbrev beside : List ℕ → Info → Talk (Info × List ℕ)
@@ -260,11 +260,11 @@ informed-sim why payload image = go (leb 18 (length payload)) (sound (infoOf pay
     go false b e = refl
 
 verified-sim : (info : Info) (payload image : List ℕ)
-    → unless (ltb (length payload) 2) 18 [] >> (unless (not (eqb (check image) (field 0 2 payload))) 4 (check image ∷ field 0 2 payload ∷ []) >> known info) ≡ thereafter (verified info payload image)
-unfolding verified thereafter unless _>>=_
-verified-sim info payload image = unless-sim (ltb (length payload) 2) 18 [] _ _ (go (eqb (check image) (field 0 2 payload)))
+    → refuseIf (ltb (length payload) 2) 18 [] >> (refuseIf (not (eqb (check image) (field 0 2 payload))) 4 (check image ∷ field 0 2 payload ∷ []) >> known info) ≡ thereafter (verified info payload image)
+unfolding verified thereafter refuseIf _>>=_
+verified-sim info payload image = refuseIf-sim (ltb (length payload) 2) 18 [] _ _ (go (eqb (check image) (field 0 2 payload)))
   where
-    go : (b : Bool) → unless (not b) 4 (check image ∷ field 0 2 payload ∷ []) >> known info
+    go : (b : Bool) → refuseIf (not b) 4 (check image ∷ field 0 2 payload ∷ []) >> known info
         ≡ thereafter (cond b (ends (knows info)) (refuses 4 (check image ∷ field 0 2 payload ∷ [])))
     go true = refl
     go false = refl
