@@ -4,5 +4,6 @@ pub mod Condition2
 pub mod Condition3
 pub mod Calls
 pub mod Exports
+pub mod ExportsMet
 pub mod BenchLog
 pub mod Instances
