@@ -12,7 +12,7 @@ document = root / "docs/CRATES.md"
 head = """# The crates in numbers
 
 Lines of code (`src`), of definitions (`specs`) and of proofs (`proofs`, skeletons included); wrong versions, and the rounds in which they are
-tried; seconds that a check of the crate took from nothing, two at a time on two cores. `tests/crates.py` writes this file.
+tried; seconds that a check of the crate took in the gate, where several run beside each other on two cores. `tests/crates.py` writes this file.
 
 | crate | what it is for | code | definitions | proofs | wrong versions | rounds | seconds |
 |---|---|---:|---:|---:|---:|---:|---:|

@@ -17,8 +17,9 @@ import sys
 root = pathlib.Path(__file__).resolve().parent.parent
 unfit = re.compile(
     r"has no `Need-|has no `Tie`|expected type `tie\.Need-|is not in scope|is not a constructor|cannot be parsed|syntax"
-    r"|give the call less to do|computed as far as they go, the two types are|replace that `_` with the term"
+    r"|give the call less to do|replace that `_` with the term"
 )
+other = re.compile(r"computed as far as they go, the two types are")  # in a function's proof: a loop's facts of another shape
 follows = re.compile(r"was not admitted")
 mark = "## Every wrong version\n"
 
@@ -84,7 +85,7 @@ def refused(wrong, log):
         path = wrong.place.replace("/", "::")
         if not own and (m := re.search(rf"(?m)^fn {wrong.crate}::{path}: no proof: .*`search` does not close (`[^`]*`)", log)):
             return m.group(1)
-    if not own or unfit.search(own[0][2]):
+    if not own or unfit.search(own[0][2]) or (wrong.file.startswith("src/") and other.search(own[0][2])):
         return None
     name = re.match(r"`([^`]*)`", own[0][2])
     return (name.group(0) if name else "its statement") + (f" of `{own[0][0]}`" if wrong.place is None else "")
