@@ -17,7 +17,7 @@ import tempfile
 root = pathlib.Path(__file__).resolve().parent.parent
 source = root / "../shared/documents/src/client.rs"
 stored = root / "tests/oracle"
-runs, seed = "150000", "1"
+runs, seed = "60000", "1"
 
 
 def cargo(verb, *words):
