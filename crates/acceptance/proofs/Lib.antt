@@ -7,3 +7,4 @@ pub mod Exports
 pub mod ExportsMet
 pub mod BenchLog
 pub mod Instances
+pub mod Discoveries

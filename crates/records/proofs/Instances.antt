@@ -2,22 +2,23 @@
 -- Assumes nothing.
 use Prim.Native.Nat.{ℕ, _≤_}
 use mathlib.Core.List.{List, [], _∷_}
-use mathlib.Core.Option.{Option, none, some}
+use mathlib.Core.Option.{Option, some}
 use mathlib.Core.Path.{_≡_, refl}
 use native.Mathlib.Omega.{arith}
-use lib.ListN.{length, drop, replicate}
+use lib.ListN.{drop, replicate}
 use Rattle.paper.specs.Answers.{sound, answer}
-use Rattle.paper.specs.Count.{matching, heardOf, honest, All, Pods, selects}
+use Rattle.paper.specs.Count.{matching, honest, All, selects}
 use Rattle.paper.specs.Frame.{Info}
-use Rattle.paper.specs.Hearing.{Id, Prefix, bit, bitsOf, counting, begins, before, one}
+use Rattle.paper.specs.Hearing.{Id, bit, bitsOf, counting, begins, before, one}
 use Rattle.paper.specs.Walk.{insert, sort, discover, done, run}
 use Rattle.theory.specs.Clients as Machine
 use Rattle.theory.specs.Clients.{ready, waiting}
-use Rattle.theory.specs.Machine.{asked, mine, State, ended, request, step}
-use Rattle.theory.specs.Phases.{Job, writing, walking, selecting, demanding}
+use Rattle.theory.specs.Machine.{mine, State, ended, request, step}
+use Rattle.theory.specs.Phases.{Job, writing, demanding}
 use Rattle.theory.proofs.Fits as Walk
 use Rattle.theory.proofs.Fits.{Short}
 use Rattle.theory.proofs.Keeping.{Fits}
+use Rattle.theory.proofs.Instances.{ids, found, under, pods}
 use Rattle.ids.specs.Ids.{noId}
 use Rattle.hearing.specs.Heard.{shownHeard}
 use Rattle.table.specs.Rows.{row, sorted}
@@ -126,25 +127,6 @@ unfolding sort insert before
 table-sorted-met = table-sorted two (omega arith) two-short
 
 -- Three ids, of which two begin with C1.
-abbrev ids : List Id
-ids = (0xC1 ∷ 0x87 ∷ []) ∷ (0x00 ∷ 0x01 ∷ []) ∷ (0xC1 ∷ 0x07 ∷ []) ∷ []
-
-abbrev found : List Id
-found = (0xC1 ∷ 0x07 ∷ []) ∷ (0xC1 ∷ 0x87 ∷ []) ∷ []
-
-abbrev under : Prefix
-under = bitsOf (0xC1 ∷ [])
-
-pods : Pods 2 (matching under ids)
-unfolding matching begins bitsOf counting bit
-pods = record {
-  few = omega arith;
-  distinct = (((λ e. let same : _≡_ {A = ℕ} 0x87 0x07 = cc in absurd (omega arith)), tt), (tt, tt));
-  sized = (refl, (refl, tt));
-  bytes = ((omega arith, (omega arith, tt)), ((omega arith, (omega arith, tt)), tt));
-  short = omega arith;
-}
-
 pub ends-met :
     (driven 31332 (honest ids) 0 (begun under) ≡ (nextOf (ended ((run (honest ids) 0 (discover under)) .0)), (run (honest ids) 0 (discover under)) .1))
     × ((run (honest ids) 0 (discover under)) .1 ≤ 31332)

@@ -248,16 +248,16 @@ unfolding bitsOf counting
 start-fits-met = start-fits (bitsOf (0xC1 ∷ 0x07 ∷ [])) (omega arith)
 
 -- Three ids, of which two begin with C1; and three of which none begins another, with lengths of their own.
-abbrev ids : List Id
+abbrev pub ids : List Id
 ids = (0xC1 ∷ 0x87 ∷ []) ∷ (0x00 ∷ 0x01 ∷ []) ∷ (0xC1 ∷ 0x07 ∷ []) ∷ []
 
-abbrev found : List Id
+abbrev pub found : List Id
 found = (0xC1 ∷ 0x07 ∷ []) ∷ (0xC1 ∷ 0x87 ∷ []) ∷ []
 
-abbrev under : Prefix
+abbrev pub under : Prefix
 under = bitsOf (0xC1 ∷ [])
 
-pods : Pods 2 (matching under ids)
+pub pods : Pods 2 (matching under ids)
 unfolding matching begins bitsOf counting bit
 pods = record {
   few = omega arith;
