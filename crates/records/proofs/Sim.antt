@@ -20,6 +20,7 @@ use Rattle.theory.proofs.Fits.{Short, Held, Fits}
 use Rattle.ids.specs.declared.Id.{Id}
 use Rattle.ids.specs.Ids.{setBit, noId, idFrom}
 use Rattle.ids.proofs.Laws.{id-of-from}
+use Rattle.ids.proofs.Pack.{pack-one}
 use Rattle.path.specs.Paths.{cut}
 use Rattle.hearing.specs.declared.Heard.the-variants.{One, TooLong}
 use Rattle.hearing.specs.declared.Hearing.{Hearing}
@@ -35,7 +36,7 @@ use Rattle.walk.specs.Moves as Moves
 use Rattle.steps.specs.Steps as Code
 use Rattle.records.specs.Picture.{padded, levels, rowOf, tableOf, candidateOf, phaseOf, standingAt, walkOf, nextOf}
 use Rattle.records.proofs.Levels.{length-levels, pad-set, pad-reset, pad-clear, lastMark, mark-of}
-use Rattle.records.proofs.Pack.{pack-one, pack-cut}
+use Rattle.records.proofs.Pack.{pack-cut}
 use Rattle.records.proofs.Tables.{table-keep, table-sorted}
 
 pub stand : (t : Table) (x : Id) {p q : List ℕ} {d e : ℕ} {m n : List ℕ} → p ≡ q → d ≡ e → m ≡ n
