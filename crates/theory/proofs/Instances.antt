@@ -276,8 +276,8 @@ unfolding matching begins bitsOf counting bit sort insert before
 found-is = refl
 
 pub discover-exact-met : run (honest ids) 0 (discover under) ≡ (done found, selects ids 2 under)
-unfolding honest bitsOf counting
-discover-exact-met = rw found-is at (discover-exact (honest ids) ids 2 under (λ k q. refl) (omega arith) pods)
+unfolding bitsOf counting
+discover-exact-met = rw found-is at (discover-exact (honest ids) ids 2 under (λ k q l b n. refl) (omega arith) pods)
 
 pub selects-most-met : selects ids 2 under ≤ 22
 unfolding matching begins bitsOf counting bit
@@ -301,8 +301,8 @@ apart-met = record {
 }
 
 pub discover-apart-met : run (honest uneven) 0 (discover []) ≡ (done uneven, ownSelects uneven [])
-unfolding honest matching begins bitsOf counting bit sort insert before
-discover-apart-met = discover-apart (honest uneven) uneven [] (λ k q. refl) (omega arith) apart-met
+unfolding matching begins bitsOf counting bit sort insert before
+discover-apart-met = discover-apart (honest uneven) uneven [] (λ k q l b n. refl) (omega arith) apart-met
 
 pub own-most-met : ownSelects uneven [] ≤ 80
 unfolding matching begins bitsOf counting bit
