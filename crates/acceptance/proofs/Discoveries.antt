@@ -56,7 +56,7 @@ found = (0xC1 ∷ 0x07 ∷ []) ∷ (0xC1 ∷ 0x87 ∷ []) ∷ []
 abbrev given : Id
 given = 0xC1 ∷ []
 
-abbrev selectRoom : List ℕ
+abbrev pub selectRoom : List ℕ
 selectRoom = replicate 31 0
 
 run-honest : run (honest ids) 0 (discover (bitsOf given)) ≡ (done found, 15)

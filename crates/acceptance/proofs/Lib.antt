@@ -8,3 +8,4 @@ pub mod ExportsMet
 pub mod BenchLog
 pub mod Instances
 pub mod Discoveries
+pub mod HonestMet

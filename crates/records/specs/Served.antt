@@ -75,9 +75,9 @@ resting seed id = record { seed = seed; attached = isThere id; id = valueOf id; 
 unfoldable pub heardBy : Wire → ℕ → Paper₃.Wire
 heardBy wire seed k q = hear (wire k (bytesOf (select q) ((seed + suc k) % 256) []))
 
--- "an honest wire", of the Selects that a discovery under this prefix hands out before its deselect, from a client of this seed: fewer than
--- the limit went before, and the prefix asked extends the given one and has at most 128 bits. Each is heard as silence, the one id, or
--- garble, as none, one or several ids match.
+-- "an honest wire", of the Selects that a discovery under this prefix hands out before its deselect, from a client of this
+-- seed: fewer than the limit went before, and the prefix asked extends the given one and has at most 128 bits. Each is heard
+-- as silence, the one id, or garble, as none, one or several ids match. Of any other Select it says nothing.
 abbrev pub Honest : Wire → ℕ → Prefix → List Id → Type 0
 Honest wire seed given ids =
     (k : ℕ) (q : Prefix) → k < limit given → begins given q ≡ true → length q ≤ 128 → heardBy wire seed k q ≡ heardOf (matching q ids)

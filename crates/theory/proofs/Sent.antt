@@ -1,8 +1,8 @@
--- What a discovery sends before its deselect: Selects of prefixes that extend the given one, of at most 128 bits. Wires that let these be heard alike let it end alike.
+-- The Selects that a discovery sends before its deselect; on two wires that let these be heard alike it ends alike.
 -- Assumes nothing.
-use Prim.Native.Nat.{ℕ, zero, suc, _+_, _-_, _*_, _≤_, _<_}
+use Prim.Native.Nat.{ℕ, zero, suc, _+_, _-_, _≤_, _<_}
 use mathlib.Core.Bool.{Bool, true, false, not, cond}
-use mathlib.Core.List.{List, [], _∷_, _++_}
+use mathlib.Core.List.{List, [], _∷_}
 use mathlib.Core.Path.{_≡_, refl, _∙_, ap}
 use native.Mathlib.Omega.{arith}
 use lib.Dec.{ltb}
@@ -10,7 +10,7 @@ use lib.ListN.{drop, length, length-append, length-drop}
 use borrow.Author.Tests.{ltb-false}
 use Rattle.paper.specs.Count.{limit}
 use Rattle.paper.specs.Hearing.{Id, Prefix, bitsOf, begins, matches, Heard, nothing, one, unaddressed, garble}
-use Rattle.paper.specs.Walk.{_▹_, Walk, return, stop, select, _>>=_, long, ask, isNothing, confirmRest, confirm, keep, judge, walk, sort, nobody, discover, Wire, run}
+use Rattle.paper.specs.Walk.{_▹_, Walk, return, stop, select, _>>=_, long, ask, isNothing, confirmRest, confirm, keep, judge, walk, discover, Wire, run}
 use Rattle.lore.proofs.Bits.{bits-length}
 use Rattle.lore.proofs.Choice.{by-test, either}
 use Rattle.theory.proofs.Bound.{discover-bound}
@@ -49,7 +49,8 @@ module _ (P : Prefix → Type 0) where
   sends-keep ids x = either (Sends P) (ltb (length ids) 64) tt tt
 
   -- Wires that let the prefixes that have P be heard alike, for the first n Selects.
-  alike-run : {A : Type 0} (n : ℕ) (v w : Wire) → ((k : ℕ) (q : Prefix) → k < n → P q → v k q ≡ w k q) → (k : ℕ) (m : Walk A) → Sends P m → (run w k m) .1 ≤ n → run v k m ≡ run w k m
+  alike-run : {A : Type 0} (n : ℕ) (v w : Wire) → ((k : ℕ) (q : Prefix) → k < n → P q → v k q ≡ w k q) → (k : ℕ) (m : Walk A) → Sends P m → (run w k m) .1 ≤ n
+      → run v k m ≡ run w k m
   unfolding run
   alike-run n v w h k (return a) s le = refl
   alike-run n v w h k (stop c) s le = refl
@@ -77,7 +78,8 @@ module _ (pre : Prefix) where
           let l : length q < 128 = omega (arith, ap length d, length-drop (length q) (bitsOf x), bits-length x, ltb-false 16 (length x) short) in
           sends-ask Extends (q ▹ b) _ (child q b e l) (λ g m. sends-ask Extends (q ▹ not b) _ (child q (not b) e l) (λ h n. tt))
 
-  judge-sends : (q : Prefix) (ids : List Id) (h : Heard) (below : Walk (List Id)) → begins pre q ≡ true → long h ≡ false → Sends Extends below → Sends Extends (judge q ids h below)
+  judge-sends : (q : Prefix) (ids : List Id) (h : Heard) (below : Walk (List Id)) → begins pre q ≡ true → long h ≡ false → Sends Extends below
+      → Sends Extends (judge q ids h below)
   unfolding judge
   judge-sends q ids nothing below e short s = tt
   judge-sends q ids (one x) below e short s =
@@ -90,7 +92,9 @@ module _ (pre : Prefix) where
 
   down-sends : (n : ℕ) → Walks n → (q : Prefix) (ids : List Id) → length q + suc n ≡ 128 → begins pre q ≡ true → Sends Extends (down (suc n) q ids)
   unfolding down long _>>=_
-  down-sends n ih q ids len e = sends-ask Extends (q ▹ false) _ (child q false e (omega arith)) (λ z short. sends-bind Extends (walk n (q ▹ false) ids z) _ (goes false ids z short) (λ js. second js (isNothing z)))
+  down-sends n ih q ids len e =
+      sends-ask Extends (q ▹ false) _ (child q false e (omega arith))
+      (λ z short. sends-bind Extends (walk n (q ▹ false) ids z) _ (goes false ids z short) (λ js. second js (isNothing z)))
     where
       goes : (b : Bool) (js : List Id) (h : Heard) → long h ≡ false → Sends Extends (walk n (q ▹ b) js h)
       goes b js h short = ih (q ▹ b) js h (omega (arith, length-append q (b ∷ []))) ((child q b e (omega arith)) .0) short
@@ -102,7 +106,8 @@ module _ (pre : Prefix) where
   walk-sends : (n : ℕ) → Walks n
   unfolding down
   walk-sends zero q ids h len e short = rw (walk-judge zero q ids h) (judge-sends q ids h (stop 12) e short tt)
-  walk-sends (suc n) q ids h len e short = rw (walk-judge (suc n) q ids h) (judge-sends q ids h _ e short (down-sends n (walk-sends n) q ids len e))
+  walk-sends (suc n) q ids h len e short =
+      rw (walk-judge (suc n) q ids h) (judge-sends q ids h _ e short (down-sends n (walk-sends n) q ids len e))
 
   pub discover-sends : length pre ≤ 128 → Sends Extends (discover pre)
   unfolding discover
@@ -114,4 +119,5 @@ abbrev pub Alike : Wire → Wire → Prefix → Type 0
 Alike v w pre = (k : ℕ) (q : Prefix) → k < limit pre → begins pre q ≡ true → length q ≤ 128 → v k q ≡ w k q
 
 pub discover-alike : (v w : Wire) (pre : Prefix) → length pre ≤ 128 → Alike v w pre → run v 0 (discover pre) ≡ run w 0 (discover pre)
-discover-alike v w pre le h = alike-run (Extends pre) (limit pre) v w (λ k q l e. h k q l (e .0) (e .1)) 0 (discover pre) (discover-sends pre le) (discover-bound w pre)
+discover-alike v w pre le h =
+    alike-run (Extends pre) (limit pre) v w (λ k q l e. h k q l (e .0) (e .1)) 0 (discover pre) (discover-sends pre le) (discover-bound w pre)
