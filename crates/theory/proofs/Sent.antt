@@ -13,7 +13,8 @@ use Rattle.paper.specs.Hearing.{Id, Prefix, bitsOf, begins, matches, Heard, not
 use Rattle.paper.specs.Walk.{_▹_, Walk, return, stop, select, _>>=_, long, ask, isNothing, confirmRest, confirm, keep, judge, walk, discover, Wire, run}
 use Rattle.lore.proofs.Bits.{bits-length}
 use Rattle.lore.proofs.Choice.{by-test, either}
-use Rattle.theory.proofs.Bound.{discover-bound}
+use Rattle.theory.proofs.Always.{Always, always-run}
+use Rattle.theory.proofs.Bound.{Within, discover-within}
 use Rattle.theory.proofs.Matching.{begins-refl, begins-more}
 use Rattle.theory.proofs.Refine.{run-later}
 use Rattle.theory.proofs.Runs.{down, walk-judge}
@@ -48,16 +49,19 @@ module _ (P : Prefix → Type 0) where
   unfolding keep
   sends-keep ids x = either (Sends P) (ltb (length ids) 64) tt tt
 
-  -- Wires that let the prefixes that have P be heard alike, for the first n Selects.
-  alike-run : {A : Type 0} (n : ℕ) (v w : Wire) → ((k : ℕ) (q : Prefix) → k < n → P q → v k q ≡ w k q) → (k : ℕ) (m : Walk A) → Sends P m → (run w k m) .1 ≤ n
+  -- A conversation that ends after at most n Selects, on wires that let the prefixes that have P be heard alike.
+  alike-run : {A : Type 0} (n : ℕ) (v w : Wire) → ((k : ℕ) (q : Prefix) → k < n → P q → v k q ≡ w k q) → (k : ℕ) (m : Walk A) → Sends P m → Always (Within n) k m
       → run v k m ≡ run w k m
-  unfolding run
-  alike-run n v w h k (return a) s le = refl
-  alike-run n v w h k (stop c) s le = refl
-  alike-run n v w h k (select q f) s le = ap (run v (suc k)) (same (s .0)) ∙ alike-run n v w h (suc k) (f (w k q)) (s .1 (w k q)) le
+  unfolding run Within
+  alike-run n v w h k (return a) s b = refl
+  alike-run n v w h k (stop c) s b = refl
+  alike-run n v w h k (select q f) s b = ap (run v (suc k)) (same (s .0)) ∙ alike-run n v w h (suc k) (f (w k q)) (s .1 (w k q)) (b (w k q))
     where
+      before : k < n
+      before = omega (arith, run-later w (suc k) (f (w k q)), always-run (Within n) w (suc k) (f (w k q)) (b (w k q)))
+
       same : Heeds P q f → f (v k q) ≡ f (w k q)
-      same (asks p) = ap f (h k q (omega (arith, run-later w (suc k) (f (w k q)))) p)
+      same (asks p) = ap f (h k q before p)
       same (ignores e) = e (v k q) (w k q)
 
 module _ (pre : Prefix) where
@@ -120,4 +124,4 @@ Alike v w pre = (k : ℕ) (q : Prefix) → k < limit pre → begins pre q ≡ tr
 
 pub discover-alike : (v w : Wire) (pre : Prefix) → length pre ≤ 128 → Alike v w pre → run v 0 (discover pre) ≡ run w 0 (discover pre)
 discover-alike v w pre le h =
-    alike-run (Extends pre) (limit pre) v w (λ k q l e. h k q l (e .0) (e .1)) 0 (discover pre) (discover-sends pre le) (discover-bound w pre)
+    alike-run (Extends pre) (limit pre) v w (λ k q l e. h k q l (e .0) (e .1)) 0 (discover pre) (discover-sends pre le) (discover-within pre)
