@@ -2,35 +2,37 @@
 -- Assumes nothing.
 use Prim.Native.Nat.{ℕ, _*_}
 use mathlib.Core.Bool.{Bool, true, false, _&&_, cond}
-use mathlib.Core.List.{List, [], _∷_}
+use mathlib.Core.List.{List, [], _∷_, _++_}
 use mathlib.Core.Option.{Option, none, some}
 use mathlib.Core.Path.{_≡_, refl, sym, _∙_, ap, ap₂}
 use native.Mathlib.Omega.{arith}
 use lib.Dec.{leb, ltb}
-use lib.ListN.{length}
+use lib.ListN.{length, drop}
 use Rattle.lore.proofs.Choice.{either}
 use Rattle.paper.specs.Client as Paper
-use Rattle.paper.specs.Client.{Says, short, otherLength, bytesOf, seedAfter, reading, place, cleared}
+use Rattle.paper.specs.Client.{Says, short, otherLength, bytesOf, handing, seedAfter, reading, place, cleared}
 use Rattle.paper.specs.Count.{All}
 use Rattle.paper.specs.Hearing.{Id, bitsOf, onSome}
-use Rattle.paper.specs.Talk.{Answer}
+use Rattle.paper.specs.Talk.{Ask, select, demand, leave, Answer}
 use Rattle.lore.proofs.Words.{Bytes}
 use Rattle.theory.specs.Phases as Phases
 use Rattle.theory.specs.Phases.{probing, parting, seeking, walking, tell, clear, load, informing, Phase, selecting, demanding, Then, to, ends, refuses, step, starting}
 use Rattle.theory.specs.Clients as Machine
-use Rattle.theory.specs.Clients.{Brief, Turn, idle, ready, waiting, turned, lends, settle, unchanged, fails, resets, grant}
+use Rattle.theory.specs.Clients.{Brief, Turn, idle, ready, waiting, turned, lends, settle, unchanged, fails, resets, handedOut, grant}
 use Rattle.theory.proofs.Keeping.{FitsTurn, Fits, turn-sound, fresh-fits, startSelect-fits, startDeselect-fits, startAttach-fits, startDiscover-fits, startInfo-fits, startErase-fits, startFlash-fits, startReset-fits, startSetBaud-fits, request-fits, record-fits, linkFailed-fits}
 use Rattle.theory.proofs.Carried.{heard-bytes}
 use Rattle.theory.proofs.Holding.{Holds, fresh-holds, startSelect-holds, startDeselect-holds, startAttach-holds, startDiscover-holds, startInfo-holds, startErase-holds, startFlash-holds, startReset-holds, startSetBaud-holds, request-holds, record-holds, linkFailed-holds}
 use Rattle.theory.proofs.Talking.{paperOf, fresh-sim, startSelect-sim, startDeselect-sim, startAttach-sim, startDiscover-sim, startInfo-sim, startErase-sim, startFlash-sim, startReset-sim, startSetBaud-sim, request-sim, record-sim, linkFailed-sim}
 use Rattle.ids.specs.Ids.{noId}
+use Rattle.table.specs.Rows.{noTable}
 use Rattle.ids.proofs.Laws.{id-of-from}
 use Rattle.walk.specs.Moves.{noWalk}
 use Rattle.client.specs.declared.Client.{Client}
+use Rattle.client.specs.declared.Progress.the-variants.{None}
 use Rattle.client.specs.declared.Turn.the-variants.{Idle}
 use Rattle.client.specs.Clients as Code₂
 use Rattle.client.specs.Numbers.{numberOf, carriedBy, progressOf, saysOf}
-use Rattle.records.specs.Clients.{clientOf, refusedAs, startedAs, toldAs, askedAs}
+use Rattle.records.specs.Clients.{clientOf, refusedAs, shownSays, startedAs, toldAs, askedAs}
 use Rattle.records.specs.Calls.{Call, startSelect, startDeselect, startAttach, startDiscover, startInfo, startErase, startFlash, startReset, startSetBaud, request, record′, linkFailed, Good, Reply, saidBy, askedOf, paperCall, startedBy, askedBy, toldBy, codeCall, attachedTo, paperAnswer, codeAnswer, paperAnswers, codeAnswers, reached, Rests}
 use Rattle.records.proofs.Readable.{Readable, ReadableThen, io-read, image-read, turn-read, onward-read, phase-read}
 use Rattle.records.proofs.Requests.{request-asked}
@@ -91,6 +93,12 @@ started-read c good ph = go (c .turn) good
     go (waiting p) b = refl
 
 -- A request's answer, read.
+handing-read : (q : Ask) (n : ℕ) → saysOf (shownSays (handing q n) .says) None noId noTable ≡ handing q n
+unfolding saysOf
+handing-read (select p) n = refl
+handing-read (demand d) n = refl
+handing-read (leave d) n = refl
+
 asked-read : (c : Machine.Client) (image buffer : List ℕ) → askedBy (askedAs (Machine.request c image buffer)) ≡ inCode (handedBy (Machine.request c image buffer))
 unfolding Machine.request grant refusedAs saysOf numberOf carriedBy
 asked-read c image buffer = go (c .turn)
@@ -100,7 +108,9 @@ asked-read c image buffer = go (c .turn)
 
     go : (t : Turn) → Read (Machine.request (turned c t) image buffer)
     go idle = refl
-    go (ready ph) = either Read (otherLength (lends ph) image) refl (either Read (ltb (length buffer) (length bytes)) refl refl)
+    go (ready ph) = either Read (otherLength (lends ph) image) refl (either Read (ltb (length buffer) (length bytes)) refl
+        (ap (λ (s : Says). (record { says = s; rest = 0; buffer = bytes ++ drop (length bytes) buffer }, clientOf (record { seed = seedAfter (Phases.request ph) (c .seed); id = c .id; turn = handedOut ph })))
+        (handing-read (Phases.request ph) (length bytes))))
       where
         bytes : List ℕ
         bytes = bytesOf (Phases.request ph) (seedAfter (Phases.request ph) (c .seed)) image
