@@ -92,8 +92,8 @@ start-set-baud-determined M 𝓤 H A mem run κs a g g′ r r′ w w′ = agree 
 pub request-determined : Determined (record { ended = Request.ended; clauses = Request.clauses })
 request-determined M 𝓤 H A mem run κs a g g′ r r′ w w′ = agree 𝓤 _ _ _ (λ e. (ap (λ x. x .answer) e, λ i. (tt, (tt, (e i .bytes, tt)))))
 
-pub told-determined : Determined (record { ended = Record.ended; clauses = Record.clauses })
-told-determined M 𝓤 H A mem run κs a g g′ r r′ w w′ = agree 𝓤 r r′ _ (λ e. (e, refl))
+pub record-determined : Determined (record { ended = Record.ended; clauses = Record.clauses })
+record-determined M 𝓤 H A mem run κs a g g′ r r′ w w′ = agree 𝓤 r r′ _ (λ e. (e, refl))
 
 pub link-failed-determined : Determined (record { ended = LinkFailed.ended; clauses = LinkFailed.clauses })
 link-failed-determined M 𝓤 H A mem run κs a g g′ r r′ w w′ = agree 𝓤 r r′ _ (λ e. (e, refl))

@@ -1,6 +1,6 @@
 -- What an exported call leaves that is refused with a number that changes no state: of any state and any buffers, every byte.
 -- Assumes nothing.
-use Prim.Native.Nat.{ℕ, _%_, _<_}
+use Prim.Native.Nat.{ℕ, _%_, _<_, _≤_}
 use mathlib.Core.Bool.{Bool, true, false, cond}
 use mathlib.Core.List.{List, []}
 use mathlib.Core.Option.{none, some}
@@ -8,7 +8,14 @@ use mathlib.Core.Path.{_≡_, refl, sym, _∙_, ap}
 use native.Mathlib.Omega.{arith}
 use lib.Dec.{ltb}
 use lib.ListN.{length}
+use borrow.Author.Tests.{ltb-false}
+use Rattle.paper.specs.Text.{Written, wrote, refuses13, refuses16, uidHex, parseUid}
 use Rattle.lore.proofs.Choice.{by-test, either, clash}
+use Rattle.ids.specs.declared.Id.{Id}
+use Rattle.ids.specs.Ids.{idOf}
+use Rattle.text.specs.declared.Parse.{Parse}
+use Rattle.text.specs.declared.Parse.the-variants.{Uid, BadText}
+use Rattle.text.specs.Texts.{shown, written, parsed}
 use Rattle.client.specs.declared.Client.{Client}
 use Rattle.client.specs.declared.Outcome.{Outcome}
 use Rattle.client.specs.declared.Outcome.the-variants as Outcome
@@ -23,9 +30,10 @@ use Rattle.state.specs.States as State
 use Rattle.state.specs.States.{loaded}
 use Rattle.notes.specs.Notes.{noteOf, going, ending, refusing, outcomeNote, refusalNote}
 use Rattle.answers.specs.Answers as Answers
-use Rattle.codes.specs.Codes.{coded}
+use Rattle.codes.specs.Codes.{coded, Coded, writtenCode, writes, readAs, readUid, putUid}
 use Rattle.codes.proofs.Laws.{code-number}
 use Rattle.lent.specs.Hosts.{codeOf, lent, Exported, Requested, toldBy, leaves, tells, starts, handed, asks, requests}
+use Rattle.lent.specs.Exports as Export
 use Rattle.records.specs.Calls.{Call, startSelect, startDeselect, startAttach, startDiscover, startInfo, startErase, startFlash, startReset, startSetBaud, request, record′, linkFailed}
 use Rattle.records.specs.Refusals.{keeps, Begins}
 use Rattle.records.proofs.Refusals.{leaves-kept, select-begins, deselect-begins, attach-begins, attach-to-begins, discover-begins, info-begins, erase-begins, flash-begins, reset-begins, set-baud-begins}
@@ -172,3 +180,33 @@ module _ (s a : List ℕ) where
       rw (exported-lent call)
       (either (Untouched call) (ltb (length s) State.size) (λ h. (refl, refl))
       (either (Untouched call) (ltb (length a) Answers.size) (λ h. (refl, refl)) (held-untouched call)))
+
+  -- A state or an answer that is too short: the answer too.
+  abbrev Unwritten : Call → Requested → Type 0
+  Unwritten call e = (e .state ≡ s) × ((e .buffer ≡ bufferOf call) × (e .answer ≡ a))
+
+  pub unwritten : (call : Call) → (State.size ≤ length s → Answers.size ≤ length a → ⊥) → Unwritten call (exported s a call)
+  unfolding lent
+  unwritten call n =
+      rw (exported-lent call)
+      (by-test (Unwritten call) (ltb (length s) State.size) (λ h. (refl, (refl, refl)))
+      (λ h.
+      by-test (Unwritten call) (ltb (length a) Answers.size) (λ k. (refl, (refl, refl))) (λ k. absurd (n (ltb-false (length s) State.size h) (ltb-false (length a) Answers.size k)))))
+
+-- A text or an id that is refused: the buffer for it is as it was.
+pub text-untouched : (id text : List ℕ) → (Export.uidHex id text .code % 256 ≡ 0 → ⊥) → Export.uidHex id text .bytes ≡ text
+unfolding written writes writtenCode
+text-untouched id text n = go (uidHex id (length text)) n
+  where
+    go : (w : Written) → (writes (shown w text) .code % 256 ≡ 0 → ⊥) → writes (shown w text) .bytes ≡ text
+    go (wrote t) n = absurd (n (code-number 0 (length t) (omega arith)))
+    go refuses13 n = refl
+    go (refuses16 k) n = refl
+
+pub id-untouched : (text id : List ℕ) → (Export.parseUid text id .code % 256 ≡ 0 → ⊥) → Export.parseUid text id .bytes ≡ id
+unfolding readUid readAs putUid
+id-untouched text id = go (parsed (parseUid text) .answer) (parsed (parseUid text) .id)
+  where
+    go : (p : Parse) (x : Id) → (readAs p x id .code % 256 ≡ 0 → ⊥) → readAs p x id .bytes ≡ id
+    go Uid x = either (λ (c : Coded). (c .code % 256 ≡ 0 → ⊥) → c .bytes ≡ id) (ltb (length id) (length (idOf x))) (λ n. refl) (λ n. absurd (n (code-number 0 (length (idOf x)) (omega arith))))
+    go BadText x = λ n. refl
