@@ -422,39 +422,42 @@ fn late(pod: &mut Pod, r: &mut Random, from: (u8, u32)) {
     }
 }
 
+/// A device that takes the shortest list of Erases that a capacity of 2^32 - 1 can have: 65,537.
+const FAR: Info = Info { capacity: 0xFFFF_FFFF, erase_size: 0xFFFF, compat: 0xFFFF_FFFF, max_payload: 1024 };
+
 /// Far addresses: in each round a list of 65,537 Erases, and Writes beyond 2^16 and beyond 2^24, with retries, faults and failing
 /// links late in the run. 17 and 18: as in `pods`.
 pub fn far(judge: &mut Judge, r: &mut Random, rounds: usize) {
-    let sound = Info { compat: 0xFFFF_FFFF, max_payload: 1024, capacity: 0xFFFF_FFFF, erase_size: 0xFFFF };
     for round in 0..rounds {
-        let run = |judge: &mut Judge, operation: Operation, pod: Pod, fails_at: Option<usize>| {
-            judge.run(&mut Pair::new(), "far", &[17, 18], operation, Wire::Pod(pod), fails_at);
-        };
-        // The shortest list of Erases that a capacity of 2^32 - 1 can have: whole, or with a fault in its last half.
-        let mut pod = Pod::new(sound.bytes(), r.next());
+        // The list is whole, or has a fault in its last half.
+        let mut pod = Pod::new(FAR.bytes(), r.next());
         if round % 2 == 1 {
             late(&mut pod, r, (1, 0x8000_0000 | r.clone().next() as u32));
         }
         let operation = if r.one_in(2) { Operation::Erase } else { Operation::Flash(r.bytes(r.clone().below(9000))) };
-        run(judge, operation, pod, None);
-        // Images of both sizes, which their devices just hold, with the trouble after the far address.
+        judge.run(&mut Pair::new(), "far", &[17, 18], operation, Wire::Pod(pod), None);
         let (small, large) = (*r.pick(&[4, 7, 64, 1023]), *r.pick(&[1000, 1024, 65535]));
-        for (least, max_payload, erase_size) in [(1 << 16, small, 64), (1 << 24, large, 4096)] {
-            let n = least + 2049 + r.below(9000);
-            let info = Info { capacity: (n + r.below(3 * erase_size)) as u32, erase_size: erase_size as u16, max_payload, ..sound };
-            let mut pod = Pod::new(info.bytes(), r.next());
-            if round > 0 {
-                late(&mut pod, r, (1 + r.clone().below(2) as u8, least as u32));
-            } else {
-                pod.refuses = 16;
-                pod.from = (2, least as u32);
-            }
-            let erases = info.capacity.div_ceil(erase_size as u32) as usize;
-            let chunk = (max_payload as usize).min(1024) & !3;
-            let fails_at = (round % 5 == 4).then(|| 1 + erases + least.div_ceil(chunk) + r.below(4));
-            run(judge, Operation::Flash(r.bytes(n)), pod, fails_at);
-        }
+        far_image(judge, r, round, 1 << 16, Info { erase_size: 64, max_payload: small, ..FAR });
+        far_image(judge, r, round, 1 << 24, Info { erase_size: 4096, max_payload: large, ..FAR });
     }
+}
+
+/// An image that goes beyond an address, and that its device just holds; the trouble comes after that address. In the first round it is
+/// sixteen refusals of each Write, in every fifth a failing link.
+fn far_image(judge: &mut Judge, r: &mut Random, round: usize, beyond: usize, info: Info) {
+    let n = beyond + 2049 + r.below(9000);
+    let info = Info { capacity: (n + r.below(3 * info.erase_size as usize)) as u32, ..info };
+    let mut pod = Pod::new(info.bytes(), r.next());
+    if round > 0 {
+        late(&mut pod, r, (1 + r.clone().below(2) as u8, beyond as u32));
+    } else {
+        pod.refuses = 16;
+        pod.from = (2, beyond as u32);
+    }
+    let erases = info.capacity.div_ceil(info.erase_size as u32) as usize;
+    let chunk = (info.max_payload as usize).min(1024) & !3;
+    let fails_at = (round % 5 == 4).then(|| 1 + erases + beyond.div_ceil(chunk) + r.below(4));
+    judge.run(&mut Pair::new(), "far", &[17, 18], Operation::Flash(r.bytes(n)), Wire::Pod(pod), fails_at);
 }
 
 /// `hear`, the check, the key and the texts, beside the Rust's own.
@@ -503,7 +506,7 @@ pub fn all(seed: u64, runs: usize) -> Judge {
     let mut said = 0;
     let mut say = |judge: &Judge, kind: &str| {
         println!("{kind}: {} runs, {} disagreements", judge.both - said, judge.bad.len());
-        std::mem::replace(&mut said, judge.both)
+        said = judge.both;
     };
     short_records(&mut judge);
     say(&judge, "short records");
