@@ -64,9 +64,12 @@ fn a_select_of_129_bits() {
 
 #[test]
 fn an_erase_address_that_overflows() {
-    // The Rust has no end here, and is not run.
+    // The Rust has no end here: its link fails.
     let info = Info { capacity: 0xFFFF_FFFF, erase_size: 2, ..INFO };
-    let port = Ours::new().run(&Operation::Erase, Wire::Pod(Pod::new(info.bytes(), 1)), None, &[], false);
+    let wire = Wire::Pod(Pod::new(info.bytes(), 1));
+    let rust = Rust::new().run(&Operation::Erase, wire.clone(), Some(1000), &[]);
+    assert_eq!((rust.end, rust.requests.len()), (refused(1), 1001));
+    let port = Ours::new().run(&Operation::Erase, wire, None, &[], false);
     assert_eq!((port.end, port.requests.len()), (refused(19), 1));
 }
 
