@@ -5,7 +5,7 @@ use std::rc::Rc;
 use std::time::Duration;
 
 use embedded_io::{ErrorKind, ErrorType, Read, Write};
-use fahireky::{Client, Heard, Id, Next, Outcome, Refusal};
+use fahireky::{Client, Heard, Id, Next, Outcome, Refusal, Request};
 use reference::{FlashError, Found, Link};
 
 use crate::reasons;
@@ -312,17 +312,16 @@ impl Ours {
         assert!(before == self.client);
     }
 
-    /// The next request's bytes; no byte after them is changed.
-    fn request(&mut self, image: &[u8]) -> Result<Vec<u8>, Refusal> {
+    /// The next request's bytes, and whether its answer is awaited; no byte after them is changed.
+    fn request(&mut self, image: &[u8]) -> Result<(Vec<u8>, bool), Refusal> {
         self.buffer.fill(0xC3);
-        let n = self.client.request(image, &mut self.buffer)?;
-        assert!(self.buffer[n..].iter().all(|&b| b == 0xC3), "a byte after the request");
-        Ok(self.buffer[..n].to_vec())
+        let Request { len, awaited } = self.client.request(image, &mut self.buffer)?;
+        assert!(self.buffer[len..].iter().all(|&b| b == 0xC3), "a byte after the request");
+        Ok((self.buffer[..len].to_vec(), awaited))
     }
 
     pub fn run(&mut self, operation: &Operation, mut wire: Wire, fails_at: Option<usize>, kept: &[u8], strays: bool) -> Trace {
         let image: &[u8] = if let Operation::Flash(image) = operation { image } else { &[] };
-        let awaited = !matches!(operation, Operation::Reset(_, false) | Operation::SetBaud(_, _, false));
         let (mut requests, mut handed, mut rest) = (Vec::new(), Vec::new(), kept.to_vec());
         let end = 'run: {
             if let Err(r) = self.start(operation) {
@@ -334,10 +333,13 @@ impl Ours {
                     assert!(matches!(self.client.request(image, &mut [7; 11]), Err(Refusal::ShortBuffer(12..))));
                 }
                 let k = requests.len();
-                match self.request(image) {
-                    Ok(request) => requests.push(request),
+                let awaited = match self.request(image) {
+                    Ok((request, awaited)) => {
+                        requests.push(request);
+                        awaited
+                    }
                     Err(r) => break 'run End::Refused(r.number(), carried(&r)),
-                }
+                };
                 let failed = fails_at == Some(k);
                 if !failed {
                     rest.extend(wire.heard(k, &requests[k]));

@@ -2,7 +2,7 @@
 
 use differential::run::{End, Operation, Ours, Rust};
 use differential::wire::{Info, Pod, Wire, reply};
-use fahireky::{Client, Id, Refusal};
+use fahireky::{Client, Id, Refusal, Request};
 
 const INFO: Info = Info { capacity: 8, erase_size: 8, compat: 0xFFFF_FFFF, max_payload: 4 };
 
@@ -96,7 +96,7 @@ fn an_image_of_another_length() {
     let mut c = Client::new();
     c.start_flash(&[0; 5]).unwrap();
     assert_eq!(c.request(&[0; 6], &mut [0; 12]), Err(Refusal::OtherImage));
-    assert_eq!(c.request(&[0; 5], &mut [0; 12]), Ok(12));
+    assert_eq!(c.request(&[0; 5], &mut [0; 12]), Ok(Request { len: 12, awaited: true }));
 }
 
 #[test]
