@@ -31,11 +31,12 @@ pub record Client : Type 0 where
 unfoldable pub fresh : Client
 fresh = record { seed = 0; id = none; image = none; left = idle }
 
--- "The port and its edges": a refusal's number and what it carries; a request of so many bytes; it goes on, with the progress made; it has
--- ended, with the progress made and its outcome.
+-- "The port and its edges": a refusal's number and what it carries; a request of so many bytes, whose answer is awaited; one with which the
+-- operation has succeeded; it goes on, with the progress made; it has ended, with the progress made and its outcome.
 pub data Says : Type 0 where
   refused : ℕ → List ℕ → Says
   granted : ℕ → Says
+  closing : ℕ → Says
   onward : Option (ℕ × ℕ) → Says
   over : Option (ℕ × ℕ) → Outcome → Says
 
@@ -161,6 +162,12 @@ pub record Asked : Type 0 where
   pub client : Client
   pub buffer : List ℕ
 
+-- "In boot the reply is awaited; otherwise the operation succeeds on handing out the request": what is said of a request of n bytes.
+abbrev pub handing : Ask → ℕ → Says
+handing (select p) n = granted n
+handing (demand d) n = granted n
+handing (leave d) n = closing n
+
 -- "otherwise the operation succeeds on handing out the request": one whose answer is not awaited goes on at once.
 unfoldable pub handedOut : Client → ℕ → (q : Ask) → (Answer q → Talk Outcome) → Client
 handedOut c seed (select p) f = record { seed = seed; id = c .id; image = c .image; left = waiting (select p) f }
@@ -175,7 +182,7 @@ withholds c n carries buffer = record { says = refused n carries; client = c; bu
 unfoldable pub grant : Client → List ℕ → ℕ → (q : Ask) → (Answer q → Talk Outcome) → List ℕ → Asked
 grant c bytes seed q f buffer =
     cond (ltb (length buffer) (length bytes)) (withholds c 16 (length bytes ∷ []) buffer)
-    (record { says = granted (length bytes); client = handedOut c seed q f; buffer = bytes ++ drop (length bytes) buffer })
+    (record { says = handing q (length bytes); client = handedOut c seed q f; buffer = bytes ++ drop (length bytes) buffer })
 
 -- "asking with none running or with a request unanswered"; "Order: 21, 20, 13, 16".
 unfoldable pub request : Client → List ℕ → List ℕ → Asked

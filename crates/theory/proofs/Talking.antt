@@ -8,7 +8,7 @@ use mathlib.Core.Path.{_≡_, refl, sym, _∙_, ap}
 use lib.Dec.{leb, ltb}
 use lib.ListN.{length, drop, take}
 use Rattle.paper.specs.Client as Paper
-use Rattle.paper.specs.Client.{Left, proceed, short, otherLength, bytesOf, seedAfter, cleared, reading, place, granted, idAfter}
+use Rattle.paper.specs.Client.{Left, proceed, short, otherLength, bytesOf, seedAfter, cleared, reading, place, handing, idAfter}
 use Rattle.paper.specs.Hearing.{Id, Heard, nothing, one, unaddressed, garble, bitsOf, onSome}
 use Rattle.paper.specs.Attach.{selectOnly, deselect, attach, discover}
 use Rattle.paper.specs.Flash.{informOnly, erase, flash, reset}
@@ -197,10 +197,10 @@ grant-sim c ph bytes seed buffer = go (ltb (length buffer) (length bytes))
 
     go : (b : Bool)
         → _≡_ {A = Paper.Asked} (cond b (Paper.withholds (paperOf (turned c (ready ph))) 16 (length bytes ∷ []) buffer)
-        (record { says = granted (length bytes); client = Paper.handedOut (paperOf (turned c (ready ph))) seed (Phases.request ph) (λ a. resumed (step ph a)); buffer = bytes ++ drop (length bytes) buffer }))
-        (askedOf (cond b (withholds (turned c (ready ph)) 16 (length bytes ∷ []) buffer) (record { says = granted (length bytes); client = out; buffer = bytes ++ drop (length bytes) buffer })))
+        (record { says = handing (Phases.request ph) (length bytes); client = Paper.handedOut (paperOf (turned c (ready ph))) seed (Phases.request ph) (λ a. resumed (step ph a)); buffer = bytes ++ drop (length bytes) buffer }))
+        (askedOf (cond b (withholds (turned c (ready ph)) 16 (length bytes ∷ []) buffer) (record { says = handing (Phases.request ph) (length bytes); client = out; buffer = bytes ++ drop (length bytes) buffer })))
     go true = refl
-    go false = λ i. record { says = granted (length bytes); client = handed-sim c seed ph i; buffer = bytes ++ drop (length bytes) buffer }
+    go false = λ i. record { says = handing (Phases.request ph) (length bytes); client = handed-sim c seed ph i; buffer = bytes ++ drop (length bytes) buffer }
 
 pub request-sim : (c : Client) (image buffer : List ℕ) → Paper.request (paperOf c) image buffer ≡ askedOf (request c image buffer)
 unfolding Paper.request request paperOf leftOf

@@ -6,7 +6,7 @@ use mathlib.Core.List.{List, [], _∷_, _++_}
 use mathlib.Core.Option.{Option, none, some}
 use lib.Dec.{leb, ltb}
 use lib.ListN.{length, drop}
-use Rattle.paper.specs.Client.{Says, refused, granted, onward, over, idAfter, short, otherLength, seedAfter, bytesOf, cleared, reading, place}
+use Rattle.paper.specs.Client.{Says, refused, onward, over, idAfter, short, otherLength, seedAfter, bytesOf, handing, cleared, reading, place}
 use Rattle.paper.specs.Hearing.{Id, bitsOf, longest, onSome}
 use Rattle.theory.specs.Phases as Phases
 use Rattle.theory.specs.Phases.{probing, parting, seeking, walking, Purpose, tell, clear, load, Job, informing, erasing, writing, verifying, resetting, Phase, selecting, demanding, leaving, Then, to, ends, refuses, step, starting}
@@ -127,7 +127,7 @@ handedOut (leaving bootloader baud) = idle
 unfoldable pub grant : Client → List ℕ → ℕ → Phase → List ℕ → Asked
 grant c bytes seed ph buffer =
     cond (ltb (length buffer) (length bytes)) (withholds c 16 (length bytes ∷ []) buffer)
-    (record { says = granted (length bytes); client = record { seed = seed; id = c .id; turn = handedOut ph }; buffer = bytes ++ drop (length bytes) buffer })
+    (record { says = handing (Phases.request ph) (length bytes); client = record { seed = seed; id = c .id; turn = handedOut ph }; buffer = bytes ++ drop (length bytes) buffer })
 
 -- "Order: 21, 20, 13, 16".
 unfoldable pub request : Client → List ℕ → List ℕ → Asked
