@@ -33,7 +33,7 @@ piece-padded image o k h =
     pad : List ℕ
     pad = replicate (padding (length image)) 0xFF
 
-piece-length : (image : List ℕ) (o k : ℕ) → length (payloadOf (piece o k) image) ≡ k
+pub piece-length : (image : List ℕ) (o k : ℕ) → length (payloadOf (piece o k) image) ≡ k
 unfolding payloadOf
 piece-length image o k =
     omega (

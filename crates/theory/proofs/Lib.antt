@@ -34,6 +34,7 @@ pub mod Examples
 pub mod FlashOrder
 pub mod FlashBound
 pub mod FlashBytes
+pub mod Sizes
 pub mod FlashVerify
 pub mod Rests
 pub mod Instances
