@@ -11,3 +11,7 @@ module _ {A : Type 0} where
   pub all-append : (P : A → Type 0) (xs ys : List A) → All P xs → All P ys → All P (xs ++ ys)
   all-append P [] ys h g = g
   all-append P (x ∷ xs) ys h g = (h .0, all-append P xs ys (h .1) g)
+
+  pub all-both : (P Q : A → Type 0) (xs : List A) → All P xs → All Q xs → All (λ x. P x × Q x) xs
+  all-both P Q [] h g = tt
+  all-both P Q (x ∷ xs) h g = ((h .0, g .0), all-both P Q xs (h .1) (g .1))

@@ -35,6 +35,8 @@ pub mod FlashOrder
 pub mod FlashBound
 pub mod FlashBytes
 pub mod Sizes
+pub mod Driven
+pub mod Handed
 pub mod FlashVerify
 pub mod Rests
 pub mod Instances

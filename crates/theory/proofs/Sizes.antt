@@ -27,7 +27,7 @@ use Rattle.theory.specs.Driven.{sizeOf}
 use Rattle.theory.proofs.FlashBytes.{piece-length}
 use Rattle.theory.proofs.Writes.{write-size}
 
-payload-size : (p : Payload) (image : List ℕ) → length (payloadOf p image) ≡ carried p
+pub payload-size : (p : Payload) (image : List ℕ) → length (payloadOf p image) ≡ carried p
 unfolding payloadOf carried
 payload-size (these bytes) image = refl
 payload-size (piece offset k) image = piece-length image offset k

@@ -1,6 +1,6 @@
 -- The order of an operation, over any replies: what may be asked after what has been asked and answered.
 -- Assumes nothing.
-use Prim.Native.Nat.{ℕ, _+_, _*_, _≤_}
+use Prim.Native.Nat.{ℕ, _+_, _*_, _≤_, _<_}
 use mathlib.Core.Bool.{Bool, true, false, _&&_, cond}
 use mathlib.Core.List.{List, [], _∷_, _++_, map}
 use mathlib.Core.Option.{Option, none, some}
@@ -138,28 +138,28 @@ abbrev pub FrontOf : List ℕ → List ℕ → Type 0
 FrontOf all xs = xs ≡ take (length xs) all
 
 -- Info has told this, and that and the image of n bytes lent with it pass.
-pub record Passed (n : ℕ) (past : Past) (info : Info) : Type 0 where
+pub record Passed (n : ℕ) (known : Option (Info × List ℕ)) (info : Info) : Type 0 where
   pub image : List ℕ
-  pub tells : told past ≡ some (info, image)
+  pub tells : known ≡ some (info, image)
   pub fits : tooLarge info n ≡ false
   pub suits : incompatible info image ≡ false
   pub spans : spansTooFar info ≡ false
 
 pub record MayErase (n : ℕ) (past : Past) : Type 0 where
   pub info : Info
-  pub passed : Passed n past info
+  pub passed : Passed n (told past) info
 
 -- And every Erase, the last one too, has been answered Ok.
 pub record MayWrite (n : ℕ) (past : Past) : Type 0 where
   pub info : Info
-  pub passed : Passed n past info
+  pub passed : Passed n (told past) info
   pub cleared : erased past ≡ eraseAddresses info
 
 -- What a flash of an image of n bytes may demand: the Info, first of all; an Erase; the Write that follows on the bytes taken; the Verify.
 pub data InOrder (n : ℕ) (past : Past) (d : Demand) : Type 0 where
   toInform : past ≡ [] → d ≡ infoRequest → InOrder n past d
   toErase : (may : MayErase n past) → d ≡ eraseRequest (may .info) (d .address) → InOrder n past d
-  toWrite : (may : MayWrite n past) → d ≡ writeRequest (may .info) n (written past) → InOrder n past d
+  toWrite : (may : MayWrite n past) → written past < padded n → d ≡ writeRequest (may .info) n (written past) → InOrder n past d
   toVerify : MayWrite n past → written past ≡ padded n → d ≡ verifyRequest n → InOrder n past d
 
 abbrev pub Ordered : ℕ → Past → Ask → Type 0
