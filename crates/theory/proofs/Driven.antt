@@ -1,22 +1,21 @@
 -- Document 01's client, driven over any events, stands where its conversation does.
 -- Assumes nothing.
 use Prim.Native.Nat.{ℕ, _≤_}
-use mathlib.Core.Bool.{Bool, true, false, cond}
+use mathlib.Core.Bool.{true, false}
 use mathlib.Core.List.{List, [], _∷_, _++_}
 use mathlib.Core.Option.{Option, none, some}
-use mathlib.Core.Path.{_≡_, refl, sym, _∙_, ap}
+use mathlib.Core.Path.{_≡_, refl, sym, ap}
 use native.Mathlib.Omega.{arith}
-use lib.Dec.{ltb}
-use lib.ListN.{length, take, drop}
+use lib.ListN.{length, drop}
 use lib.Seq.{take-append-seam}
 use borrow.Author.Tests.{le-ltb, eq-eqb}
-use Rattle.paper.specs.Client.{Left, idle, ready, waiting, Client, closing, over, Told, Asked, idAfter, proceed, startWith, otherLength, bytesOf, seedAfter, cleared, reading, place, fails, grant, handedOut, request, record′, linkFailed}
+use Rattle.paper.specs.Client.{Left, idle, ready, waiting, Client, closing, over, Told, idAfter, proceed, startWith, otherLength, bytesOf, seedAfter, cleared, fails, grant, handedOut, request, record′, linkFailed}
 use Rattle.paper.specs.Client as Paper
 use Rattle.paper.specs.Hearing.{Id, onSome}
 use Rattle.paper.specs.Talk.{Demand, Ask, select, demand, leave, Answer, Talk, return, stop, report, ask, Outcome}
 use Rattle.paper.specs.Count.{All}
-use Rattle.theory.specs.FlashOrder.{Past, Event, heard, failed, Stand, returned, refused, lost, pending, unanswered, readEvent, play}
-use Rattle.theory.specs.Driven.{Round, events, Sent, goesOn, onAsked, tells, asking, telling, closes, driven, handing, sends, OfLength, LendsIn, Lends, sizeOf, seedOver, seedAt, idOver, idAt, Brought, restAfter, brought, nothingYet, success, saidAt, resting, Ready, Leaves, StandsAs}
+use Rattle.theory.specs.FlashOrder.{Past, Event, heard, failed, lost, unanswered, readEvent, play}
+use Rattle.theory.specs.Driven.{Round, events, Sent, goesOn, tells, driven, handing, sends, OfLength, LendsIn, Lends, sizeOf, seedOver, idOver, restAfter, brought, nothingYet, success, resting, StandsAs}
 use Rattle.theory.proofs.Sizes.{asked-size, Returns, Modest, room}
 
 -- An image of the length that runs passes the test on it.

@@ -1,39 +1,33 @@
 -- What a driven flash hands out is in order: read off its bytes and what happened then.
 -- Assumes nothing.
-use Prim.Native.Nat.{ℕ, zero, suc, _+_, _-_, _*_, _/_, _^_, _≤_, _<_}
-use mathlib.Core.Bool.{Bool, true, false, _&&_, cond}
+use Prim.Native.Nat.{ℕ, _+_, _≤_}
+use mathlib.Core.Bool.{true, _&&_, cond}
 use mathlib.Core.List.{List, [], _∷_, _++_, append-assoc, append-nil}
 use mathlib.Core.Option.{Option, none, some}
-use mathlib.Core.Path.{_≡_, refl, sym, _∙_, ap, ap₂, subst}
-use native.Mathlib.Nat.{div-lt-iff-lt-mul}
+use mathlib.Core.Path.{_≡_, refl, sym, _∙_, ap, subst}
 use native.Mathlib.Omega.{arith}
-use lib.Dec.{leb, ltb, eqb}
-use lib.ListN.{length, take, drop, replicate}
-use borrow.Author.Tests.{ltb-false}
-use Rattle.paper.specs.Answers.{Reply, ok, device, answer, sound, informed, steps, spansTooFar, apart, below, eraseAddresses, tooLarge, chunk, padding, padded}
-use Rattle.paper.specs.Client.{Left, idle, waiting, Client, Told, over, startWith, proceed, seedAfter, fails, payloadOf, demandFrame, bytesOf, replied}
+use lib.Dec.{eqb}
+use lib.ListN.{length}
+use Rattle.paper.specs.Answers.{answer, padded}
+use Rattle.paper.specs.Client.{Left, idle, waiting, Client, Told, over, startWith, proceed, seedAfter, fails, demandFrame, bytesOf}
 use Rattle.paper.specs.Count.{All}
-use Rattle.paper.specs.Frame.{Frame, size, Reading, whole, read, frameBytes, Info, command-Info, command-Erase, command-Write, flag-FLUSH}
+use Rattle.paper.specs.Frame.{Frame, Reading, whole, read, frameBytes, Info, command-Erase, command-Write}
 use Rattle.paper.specs.Hearing.{Id, onSome}
-use Rattle.paper.specs.Talk.{these, piece, Demand, Ask, select, demand, leave, Answered, Answer, Talk, return, stop, report, ask, Outcome, knows}
-use Rattle.paper.specs.Flash.{infoRequest, eraseRequest, writeFlags, writeSize, writeRequest, verifyRequest, flash}
-use Rattle.lore.proofs.Choice.{either}
-use Rattle.lore.proofs.Chunks.{chunk-most, padded-multiple, padded-close}
+use Rattle.paper.specs.Talk.{Demand, select, demand, leave, Answered, Answer, Talk, return, stop, report, ask, Outcome, knows}
+use Rattle.paper.specs.Flash.{flash}
 use Rattle.lore.proofs.Frames.{frame-length}
-use Rattle.lore.proofs.Words.{Bytes, le-length}
+use Rattle.lore.proofs.Words.{Bytes}
 use Rattle.theory.specs.FlashOrder as Order
-use Rattle.theory.specs.FlashOrder.{Exchange, Past, Event, heard, failed, Stand, returned, refused, lost, pending, unanswered, readEvent, play, asks, toldBy, isOk, carried, Passed, MayErase, MayWrite, InOrder, toInform, toErase, toWrite, toVerify, Ordered, Front, Allowed, Stands, Flashed}
+use Rattle.theory.specs.FlashOrder.{Past, Event, heard, failed, Stand, returned, refused, lost, pending, unanswered, readEvent, play, isOk, Passed, MayWrite, InOrder, toInform, toErase, toWrite, toVerify, Allowed, Stands, Flashed}
 use Rattle.theory.specs.Driven.{Round, events, Sent, goesOn, driven, sends, Lends, Brought, nothingYet, restAfter, brought, saidAt, resting}
 use Rattle.theory.specs.Handed.{answeredBy, said, toldIn, told, erasedIn, erased, writtenIn, written, IsFrame, Hands, Passes, Cleared, FlashOrder}
 use Rattle.theory.proofs.Conversations.{Always}
 use Rattle.theory.proofs.Driven.{goes, quiet, sends-awaits, driven-stands}
-use Rattle.theory.proofs.Each.{all-weaken, all-both}
-use Rattle.theory.proofs.FlashBytes.{piece-length}
-use Rattle.theory.proofs.FlashOrder.{planned-is, flash-always, flash-in-order}
-use Rattle.theory.proofs.Frames.{Fits, bytes-append, bytes-take, bytes-drop, bytes-le, read-written}
-use Rattle.theory.proofs.Infos.{sound-sizes, informed-sound}
+use Rattle.theory.proofs.Each.{all-both}
+use Rattle.theory.proofs.FlashFrames.{in-order-fits}
+use Rattle.theory.proofs.FlashOrder.{flash-always, flash-in-order}
+use Rattle.theory.proofs.Frames.{read-written}
 use Rattle.theory.proofs.Sizes.{payload-size, Modest, room, flash-modest}
-use Rattle.theory.proofs.Writes.{write-size}
 
 -- What is said of a request that is a frame.
 module _ (s : Sent) (f : Frame) (e : read (s .bytes) ≡ whole 0 f) where
@@ -75,81 +69,6 @@ tallies-none : Tallies [] []
 unfolding told erased written Order.told Order.erased Order.written
 tallies-none = record { tells = refl; erases = refl; writes = refl }
 
--- What Info has told keeps the Info rule.
-abbrev SoundAny : Option (Info × List ℕ) → Type 0
-SoundAny none = Unit {0}
-SoundAny (some i) = sound (i .0) ≡ true
-
-sound-reply : (r : Reply) (image : List ℕ) → SoundAny (toldBy r image)
-unfolding toldBy
-sound-reply (ok payload) image = go (informed payload) refl
-  where
-    go : (o : Option Info) → informed payload ≡ o → SoundAny (onSome o none (λ info. some (info, image)))
-    go none e = tt
-    go (some info) e = informed-sound payload info e
-sound-reply (device status) image = tt
-
-sound-in : (q : Ask) (a : Answer q) → SoundAny (Order.toldIn q a)
-unfolding Order.toldIn
-sound-in (select p) a = tt
-sound-in (demand d) a = either SoundAny (eqb (d .command) command-Info) {x = toldBy (a .reply) (a .image)} {y = none} (sound-reply (a .reply) (a .image)) tt
-sound-in (leave d) a = tt
-
-told-sound : (past : Past) → SoundAny (Order.told past)
-unfolding Order.told
-told-sound [] = tt
-told-sound (x ∷ past) = go (Order.told past) (told-sound past)
-  where
-    go : (o : Option (Info × List ℕ)) → SoundAny o → SoundAny (onSome o (Order.toldIn (x .asked) (x .answer)) some)
-    go none h = sound-in (x .asked) (x .answer)
-    go (some i) h = h
-
--- So addresses fit their four bytes.
-capacity-spans : (info : Info) → 0 < info .eraseSize → info .capacity ≤ steps (info .eraseSize) (info .capacity) * info .eraseSize
-unfolding steps
-capacity-spans info h =
-    let e = info .eraseSize in
-    let c = info .capacity in
-    omega (arith, div-lt-iff-lt-mul {k = e} {x = c + (e - 1)} {y = (c + (e - 1)) / e + 1} h .0 (omega arith))
-
-apart-below : (e k a : ℕ) → 0 < e → All (λ x. x < a + k * e) (apart e k a)
-unfolding apart
-apart-below e zero a h = tt
-apart-below e (suc k) a h = (omega arith, all-weaken (λ x. x < a + e + k * e) (λ x. x < a + suc k * e) (apart e k (a + e)) (λ x l. omega arith) (apart-below e k (a + e) h))
-
-all-take : {A : Type 0} (P : A → Type 0) (k : ℕ) (xs : List A) → All P xs → All P (take k xs)
-all-take P zero xs h = tt
-all-take P (suc k) [] h = tt
-all-take P (suc k) (x ∷ xs) h = (h .0, all-take P k xs (h .1))
-
-all-last : {A : Type 0} (P : A → Type 0) (xs : List A) (a : A) → All P (xs ++ (a ∷ [])) → P a
-all-last P [] a h = h .0
-all-last P (x ∷ xs) a h = all-last P xs a (h .1)
-
--- Info has passed: then the capacity, and each address that is to be erased, is below 2^32.
-module _ (n : ℕ) (past : Past) (info : Info) (p : Passed n (Order.told past) info) where
-  passed-sound : sound info ≡ true
-  passed-sound = subst SoundAny (p .tells) (told-sound past)
-
-  passed-span : steps (info .eraseSize) (info .capacity) * info .eraseSize ≤ 0xFFFFFFFF
-  unfolding spansTooFar
-  passed-span = ltb-false 0xFFFFFFFF (steps (info .eraseSize) (info .capacity) * info .eraseSize) (p .spans)
-
-  passed-capacity : info .capacity ≤ 0xFFFFFFFF
-  passed-capacity = omega (arith, passed-span, capacity-spans info (sound-sizes info passed-sound .eraseSize))
-
-  passed-length : n ≤ 0xFFFFFFFF
-  unfolding tooLarge
-  passed-length = omega (arith, passed-capacity, ltb-false (info .capacity) n (p .fits))
-
-  passed-addresses : All (λ a. a < 256 ^ 4) (eraseAddresses info)
-  unfolding eraseAddresses below
-  passed-addresses = all-weaken (λ x. x < 0 + steps (info .eraseSize) (info .capacity - 0) * info .eraseSize) (λ a. a < 256 ^ 4) (eraseAddresses info) (λ x l. omega (arith, l, passed-span, same))
-      (apart-below (info .eraseSize) (steps (info .eraseSize) (info .capacity - 0)) 0 (sound-sizes info passed-sound .eraseSize))
-    where
-      same : steps (info .eraseSize) (info .capacity - 0) * info .eraseSize ≡ steps (info .eraseSize) (info .capacity) * info .eraseSize
-      same = ap (λ (c : ℕ). steps (info .eraseSize) c * info .eraseSize) (omega arith)
-
 -- A request in its turn.
 record InTurn (n : ℕ) (before : List Sent) (s : Sent) : Type 0 where
   framed : IsFrame s
@@ -157,65 +76,9 @@ record InTurn (n : ℕ) (before : List Sent) (s : Sent) : Type 0 where
   writes : framed .frame .command ≡ command-Write → Cleared n before
   addresses : framed .frame .command ≡ command-Write → framed .frame .address ≡ written before
 
--- The frames of a flash fit their bytes.
-bytes-replicate : (k : ℕ) → Bytes (replicate k 0xFF)
-bytes-replicate zero = tt
-bytes-replicate (suc k) = (omega arith, bytes-replicate k)
-
-piece-bytes : (image : List ℕ) (o k : ℕ) → Bytes image → Bytes (payloadOf (piece o k) image)
-unfolding payloadOf
-piece-bytes image o k h = bytes-append (take k (drop o image)) _ (bytes-take k (drop o image) (bytes-drop o image h)) (bytes-replicate (k - (length image - o)))
-
 module _ (n : ℕ) (image : List ℕ) (lent : length image ≡ n) (bytes : Bytes image) where
   abbrev frame : Demand → Frame
   frame d = demandFrame d image
-
-  flags-fit : (info : Info) (o : ℕ) → writeFlags info n o < 256
-  flags-fit info o = either (λ (x : ℕ). x < 256) (leb (padded n) (o + chunk (info .maxPayload))) {x = flag-FLUSH} {y = 0} (omega arith) (omega arith)
-
-  inform-fits : Fits (frame infoRequest)
-  unfolding payloadOf
-  inform-fits = record { command = omega arith; status = omega arith; flags = omega arith; address = omega arith; payload = tt; short = omega arith }
-
-  erase-fits : (info : Info) (a : ℕ) → a < 256 ^ 4 → Fits (frame (eraseRequest info a))
-  unfolding payloadOf
-  erase-fits info a l =
-      record { command = omega arith; status = omega arith; flags = omega arith; address = l; payload = bytes-le 2 (info .eraseSize); short = omega (arith, le-length 2 (info .eraseSize)) }
-
-  write-fits : (info : Info) (o : ℕ) → o < 256 ^ 4 → Fits (frame (writeRequest info n o))
-  write-fits info o l =
-      record {
-        command = omega arith;
-        status = omega arith;
-        flags = flags-fit info o;
-        address = l;
-        payload = piece-bytes image o (writeSize info n o) bytes;
-        short = omega (arith, piece-length image o (writeSize info n o), write-size info n o, chunk-most (info .maxPayload));
-      }
-
-  verify-fits : n < 256 ^ 4 → Fits (frame (verifyRequest n))
-  unfolding payloadOf
-  verify-fits l = record { command = omega arith; status = omega arith; flags = omega arith; address = l; payload = tt; short = omega arith }
-
-  erase-small : (past : Past) (info : Info) (a : ℕ) → Passed n (Order.told past) info → Front past (demand (eraseRequest info a)) → a < 256 ^ 4
-  unfolding Order.erases Order.eraseIn
-  erase-small past info a p f =
-      all-last (λ x. x < 256 ^ 4) (Order.erases (asks past)) a
-      (subst (All (λ x. x < 256 ^ 4)) (sym (f ∙ ap (take (length (Order.erases (asks past) ++ (a ∷ [])))) (planned-is past (info, p .image) (p .tells))))
-      (all-take (λ x. x < 256 ^ 4) (length (Order.erases (asks past) ++ (a ∷ []))) (eraseAddresses info) (passed-addresses n past info p)))
-
-  in-order-fits : (past : Past) (d : Demand) → Allowed n past (demand d) → Fits (frame d)
-  in-order-fits past d h = go (h .ordered)
-    where
-      go : InOrder n past d → Fits (frame d)
-      go (toInform e f) = subst (λ (d : Demand). Fits (frame d)) (sym f) inform-fits
-      go (toErase may e) =
-          subst (λ (d : Demand). Fits (frame d)) (sym e)
-          (erase-fits (may .info) (d .address) (erase-small past (may .info) (d .address) (may .passed) (subst (λ (d : Demand). Front past (demand d)) e (h .front))))
-      go (toWrite may l e) =
-          subst (λ (d : Demand). Fits (frame d)) (sym e)
-          (write-fits (may .info) (Order.written past) (omega (arith, l, padded-close n, padded-multiple n, passed-length n past (may .info) (may .passed))))
-      go (toVerify may t e) = subst (λ (d : Demand). Fits (frame d)) (sym e) (verify-fits (omega (arith, passed-length n past (may .info) (may .passed))))
 
   -- A request of a flash, and what it says once something has happened.
   module _ (past : Past) (d : Demand) (may : Allowed n past (demand d)) (seed : ℕ) (e : Event) where
@@ -224,7 +87,7 @@ module _ (n : ℕ) (image : List ℕ) (lent : length image ≡ n) (bytes : Bytes
 
     request-read : read (request .bytes) ≡ whole 0 (frame d)
     unfolding bytesOf
-    request-read = ap read (sym (append-nil (frameBytes (frame d)))) ∙ read-written (frame d) (in-order-fits past d may) []
+    request-read = ap read (sym (append-nil (frameBytes (frame d)))) ∙ read-written (frame d) (in-order-fits n image lent bytes past d may) []
 
     answered-as : answeredBy (some e) ≡ readEvent (demand d) e
     unfolding answeredBy readEvent unanswered

@@ -36,6 +36,7 @@ pub mod FlashBound
 pub mod FlashBytes
 pub mod Sizes
 pub mod Driven
+pub mod FlashFrames
 pub mod Handed
 pub mod FlashVerify
 pub mod Rests

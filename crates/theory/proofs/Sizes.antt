@@ -1,13 +1,13 @@
 -- How long a conversation's requests are: no operation's request has more than 1,036 bytes.
 -- Assumes nothing.
-use Prim.Native.Nat.{ℕ, zero, suc, _+_, _-_, _*_, _/_, _≤_}
+use Prim.Native.Nat.{ℕ, zero, suc, _+_, _-_, _/_, _≤_}
 use mathlib.Core.Bool.{Bool, true, false, not, cond}
 use mathlib.Core.List.{List, [], _∷_, _++_}
 use mathlib.Core.Option.{Option, none, some}
-use mathlib.Core.Path.{_≡_, refl, _∙_, ap}
+use mathlib.Core.Path.{_≡_, refl}
 use native.Mathlib.Omega.{arith}
 use lib.Dec.{eqb, ltb}
-use lib.ListN.{length, take, drop, length-append, length-take, length-replicate}
+use lib.ListN.{length, drop, length-append}
 use Rattle.lore.proofs.Bits.{bits-length}
 use Rattle.lore.proofs.Choice.{either}
 use Rattle.lore.proofs.Chunks.{chunk-most}
@@ -15,12 +15,12 @@ use Rattle.lore.proofs.Frames.{frame-length}
 use Rattle.lore.proofs.Packed.{packed-length}
 use Rattle.paper.specs.Frame.{le, Info, status-CrcMismatch}
 use Rattle.paper.specs.Hearing.{Id, Prefix, Heard, nothing, one, unaddressed, garble, bitsOf, selectPayload, selectFrame, onSome, matches}
-use Rattle.paper.specs.Answers.{Reply, ok, device, informed, spansTooFar, eraseAddresses, tooLarge, incompatible, padded, chunk}
-use Rattle.paper.specs.Talk.{Payload, these, piece, Demand, Ask, select, demand, leave, Answer, Talk, return, stop, report, ask, _>>=_, _>>_, each, walking, Outcome}
+use Rattle.paper.specs.Answers.{Reply, ok, device, informed, spansTooFar, eraseAddresses, tooLarge, incompatible}
+use Rattle.paper.specs.Talk.{Payload, these, piece, Demand, Ask, select, demand, leave, Answer, Talk, return, stop, report, ask, _>>=_, each, walking}
 use Rattle.paper.specs.Walk as Walk
-use Rattle.paper.specs.Walk.{Walk, _▹_, long, isNothing, isOne, confirmRest, confirm, keep, judge, walk, sort, nobody}
+use Rattle.paper.specs.Walk.{Walk, _▹_, long, isNothing, confirmRest, confirm, keep, judge, walk, nobody}
 use Rattle.paper.specs.Attach.{listen, selectOnly, deselect, prefixOf, met, attach, discover}
-use Rattle.paper.specs.Flash.{infoRequest, writeSize, writeRequest, eraseRequest, resetRequest, accepted, transact, refuseIf, inform, eraseOne, eraseAll, prepare, repeated, persist, writeWithin, writeOne, offsets, writeAll, verify, informOnly, erase, flash, reset}
+use Rattle.paper.specs.Flash.{infoRequest, writeRequest, eraseRequest, resetRequest, accepted, transact, refuseIf, inform, eraseOne, eraseAll, prepare, repeated, persist, writeWithin, writeOne, offsets, writeAll, verify, informOnly, erase, flash, reset}
 use Rattle.paper.specs.Client.{payloadOf, demandFrame, bytesOf}
 use Rattle.theory.specs.FlashOrder.{carried}
 use Rattle.theory.specs.Driven.{sizeOf}
