@@ -1,39 +1,51 @@
 -- The customer's condition 1: every call takes any arguments and comes back; what is refused, in which order, and what a refusal leaves.
 -- No call has a precondition, and each of these holds of every value of the client.
 -- Assumes nothing.
-use Prim.Native.Nat.{ℕ, _≤_}
+use Prim.Native.Nat.{ℕ}
 use mathlib.Core.Bool.{Bool, true, false, cond}
 use mathlib.Core.List.{List}
 use mathlib.Core.Path.{_≡_}
-use lib.ListN.{length, drop}
+use lib.ListN.{length}
+use Rattle.paper.specs.Client.{short}
+use Rattle.paper.specs.Frame.{frameBytes}
+use Rattle.ids.specs.Ids.{noId, idFrom}
+use Rattle.walk.specs.declared.Phase.the-variants.{Asked}
+use Rattle.walk.specs.Moves.{noWalk, begin}
 use Rattle.client.specs.declared.Client.{Client}
+use Rattle.client.specs.declared.Job.the-variants.{Informing}
 use Rattle.client.specs.declared.Phase.{Phase}
+use Rattle.client.specs.declared.Phase.the-variants.{Select, Demand}
+use Rattle.client.specs.declared.Purpose.the-variants.{Tell, Clear, Load}
 use Rattle.client.specs.declared.Refusal.{Refusal}
 use Rattle.client.specs.declared.Refusal.the-variants.{Io, OtherImage, OutOfTurn}
-use Rattle.client.specs.declared.Says.the-variants.{Granted, Refused}
+use Rattle.client.specs.declared.Search.the-variants.{Probing, Parting, Seeking, Walking}
+use Rattle.client.specs.declared.Says.the-variants.{Refused}
 use Rattle.client.specs.declared.Turn.the-variants.{Idle, Ready, Waiting}
-use Rattle.client.specs.Clients.{otherImage, refuses, stops}
+use Rattle.client.specs.Clients.{begun, otherImage, refuses, stops}
 use Rattle.starting.specs.Starting.{startSelect, startDeselect, startAttach, startAttachTo, startDiscover, startInfo, startErase, startFlash, startReset, startSetBaud}
-use Rattle.asking.specs.Asking.{askedFor, withheld, request}
+use Rattle.asking.specs.Asking.{frameOf, withheld, granting, request}
 use Rattle.telling.specs.Telling.{answeredTo, record′, linkFailed}
-use Rattle.records.specs.Refusals.{keeps, parts, leaves, Begins}
+use Rattle.records.specs.Refusals.{keeps, parts, leaves, begins, goodCount, asking, resetPhase}
 use Rattle.records.proofs.Refusals as Refusals
 use Rattle.records.proofs.RefusedRecords as Records
 use Rattle.records.proofs.RefusedRequests as Requests
 
 module _ (c : Client) where
-  -- The starts: 21 comes first, then 13; a refused start changes nothing.
+  -- The starts. 21 where an operation runs; else 13 exactly where the arguments are bad; else it begins, with the seed and the attached id as
+  -- they were. A start that is refused changes nothing.
   pub record Starts : Type 0 where
-    pub select : (prefix : List ℕ) (bits : ℕ) → Begins c (startSelect c prefix bits)
-    pub deselect : Begins c (startDeselect c)
-    pub attach : Begins c (startAttach c)
-    pub attach-to : (prefix : List ℕ) → Begins c (startAttachTo c prefix)
-    pub discover : (prefix : List ℕ) → Begins c (startDiscover c prefix)
-    pub info : Begins c (startInfo c)
-    pub erase : Begins c (startErase c)
-    pub flash : (image : List ℕ) → Begins c (startFlash c image)
-    pub reset : (bootloader inBoot : Bool) → Begins c (startReset c bootloader inBoot)
-    pub set-baud : (baud : ℕ) (bootloader inBoot : Bool) → Begins c (startSetBaud c baud bootloader inBoot)
+    pub select : (prefix : List ℕ) (bits : ℕ) → startSelect c prefix bits ≡ begins c (goodCount prefix bits) (begun c (Ready (Select Probing)) (idFrom prefix) bits noWalk)
+    pub deselect : startDeselect c ≡ begins c true (begun c (Ready (Select Parting)) noId 0 noWalk)
+    pub attach : startAttach c ≡ begins c true (begun c (Ready (Select (Seeking false))) noId 0 noWalk)
+    pub attach-to : (prefix : List ℕ) → startAttachTo c prefix ≡ begins c (short prefix) (begun c (Ready (Select (Seeking true))) (idFrom prefix) 0 noWalk)
+    pub discover : (prefix : List ℕ) → startDiscover c prefix ≡ begins c (short prefix) (begun c (Ready (Select (Walking Asked))) noId 0 (begin (idFrom prefix)))
+    pub info : startInfo c ≡ begins c true (asking c (Demand (Informing Tell)))
+    pub erase : startErase c ≡ begins c true (asking c (Demand (Informing Clear)))
+    pub flash : (image : List ℕ) → startFlash c image ≡ begins c true (asking c (Demand (Informing (Load (length image)))))
+    pub reset : (bootloader inBoot : Bool)
+        → startReset c bootloader inBoot ≡ begins c true (asking c (resetPhase (record { bootloader = bootloader; given = false; baud = 0 }) inBoot))
+    pub set-baud : (baud : ℕ) (bootloader inBoot : Bool)
+        → startSetBaud c baud bootloader inBoot ≡ begins c true (asking c (resetPhase (record { bootloader = bootloader; given = true; baud = baud }) inBoot))
 
   pub starts : Starts
   starts = record {
@@ -51,25 +63,23 @@ module _ (c : Client) where
 
   module _ (image : List ℕ) where
     module _ (buffer : List ℕ) where
-      -- Asking: 21, then 20, then 16.
+      -- Asking: 21 where none runs, or a request is unanswered.
       pub asked-idle : c .turn ≡ Idle → request c image buffer ≡ withheld c OutOfTurn buffer
       asked-idle = Requests.asked-idle c image buffer
 
       pub asked-waiting : (p : Phase) → c .turn ≡ Waiting p → request c image buffer ≡ withheld c OutOfTurn buffer
       asked-waiting = Requests.asked-waiting c image buffer
 
-      pub asked-ready : (p : Phase) → c .turn ≡ Ready p → request c image buffer ≡ cond (otherImage p (length image)) (withheld c OtherImage buffer) (askedFor c p image buffer)
+      -- Else 20 exactly where the image has another length; else 16 exactly where the buffer is shorter than the request that would be
+      -- written, carrying that length; else that request fills its own length of the buffer, and no byte after it is changed.
+      pub asked-ready : (p : Phase) → c .turn ≡ Ready p
+          → request c image buffer ≡ cond (otherImage p (length image)) (withheld c OtherImage buffer) (granting c p (frameBytes (frameOf c p image)) buffer)
       asked-ready = Requests.asked-ready c image buffer
 
       -- A refused request changes neither the client nor the buffer.
       pub asked-refused : (r : Refusal) → request c image buffer .answer .says ≡ Refused r
           → (request c image buffer .answer .client ≡ c) × ((request c image buffer .bytes ≡ buffer) × (keeps r ≡ true))
       asked-refused = Requests.asked-refused c image buffer
-
-      -- A granted one changes no byte after its own.
-      pub asked-granted : (n : ℕ) → request c image buffer .answer .says ≡ Granted n
-          → (n ≤ length buffer) × ((drop n (request c image buffer .bytes) ≡ drop n buffer) × (length (request c image buffer .bytes) ≡ length buffer))
-      asked-granted = Requests.asked-granted c image buffer
 
     module _ (bytes : List ℕ) where
       -- A record: 21, then 20, then what it says.
@@ -81,6 +91,10 @@ module _ (c : Client) where
 
       pub told-waiting : (p : Phase) → c .turn ≡ Waiting p → record′ c image bytes ≡ cond (otherImage p (length image)) (refuses c OtherImage) (answeredTo c p image bytes)
       told-waiting = Records.told-waiting c image bytes
+
+      -- One that is read is refused with nothing that changes no state: 20 and 21 are given where they are due alone.
+      pub told-due : (p : Phase) → c .turn ≡ Waiting p → otherImage p (length image) ≡ false → (r : Refusal) → record′ c image bytes .says ≡ Refused r → keeps r ≡ false
+      told-due = Records.told-due c image bytes
 
       -- 20 and 21 change no state, and the rest is the whole record; any other refusal ends the operation; after 1 the rest is empty.
       pub told-refused : (r : Refusal) → record′ c image bytes .says ≡ Refused r → record′ c image bytes .client ≡ leaves r c

@@ -1,4 +1,4 @@
--- What meets the premises of conditions 1 and 2: each theorem with a premise, applied to values that meet it.
+-- What meets the premises of condition 2: each theorem with a premise, applied to values that meet it.
 -- Assumes nothing.
 use Prim.Native.Nat.{ℕ, _+_, _-_, _≤_}
 use mathlib.Core.Bool.{true, false}
@@ -38,11 +38,10 @@ use Rattle.telling.specs.Telling.{answeredTo, record′, linkFailed}
 use Rattle.records.specs.Driven.{Round, driven, Returns, Refuses}
 use Rattle.records.specs.Refusals.{keeps, parts, leaves}
 use Rattle.records.specs.Served.{opening, resting}
-use Rattle.acceptance.proofs.Condition1 as Condition1
 use Rattle.acceptance.proofs.Condition2 as Condition2
 
 -- A device: capacity 6, erase_size 4, no key, max_payload 4.
-abbrev device : Info
+abbrev pub device : Info
 device = record {
   capacity = 6;
   eraseSize = 4;
@@ -61,7 +60,7 @@ informs = 0xA5 ∷ 0x00 ∷ 0x01 ∷ 0x00 ∷ 0x00 ∷ 0x00 ∷ 0x00 ∷ 0x00 �
 abbrev erased : List ℕ
 erased = 0xA5 ∷ 0x01 ∷ 0x01 ∷ 0x00 ∷ 0x00 ∷ 0x00 ∷ 0x00 ∷ 0x00 ∷ 0x00 ∷ 0x00 ∷ 0x80 ∷ 0x52 ∷ []
 
-abbrev wrote : List ℕ
+abbrev pub wrote : List ℕ
 wrote = 0xA5 ∷ 0x02 ∷ 0x01 ∷ 0x00 ∷ 0x00 ∷ 0x00 ∷ 0x00 ∷ 0x00 ∷ 0x00 ∷ 0x00 ∷ 0xC4 ∷ 0x7F ∷ []
 
 abbrev mismatched : List ℕ
@@ -73,7 +72,7 @@ verified = 0xA5 ∷ 0x03 ∷ 0x01 ∷ 0x00 ∷ 0x00 ∷ 0x00 ∷ 0x00 ∷ 0x00 �
 abbrev was-reset : List ℕ
 was-reset = 0xA5 ∷ 0x04 ∷ 0x01 ∷ 0x00 ∷ 0x00 ∷ 0x00 ∷ 0x00 ∷ 0x00 ∷ 0x00 ∷ 0x00 ∷ 0x4C ∷ 0x25 ∷ []
 
-abbrev image : List ℕ
+abbrev pub image : List ℕ
 image = 0x10 ∷ 0x21 ∷ 0x32 ∷ 0x43 ∷ 0x54 ∷ []
 
 -- The image is lent with every request and every answer.
@@ -151,7 +150,7 @@ pub reset-ends-met : Ended (play (reset true (some 5) true) (heard [] was-reset 
 reset-ends-met = Condition2.reset-ends true (some 5) true (heard [] was-reset ∷ []) .ends (omega arith)
 
 -- A client whose second Write is out, its record an echo and the answer, and the beginning of another frame.
-abbrev writing : Client
+abbrev pub writing : Client
 writing = turned (resting 255 attached) (Waiting (Demand (Writing 5 (codeInfo device) 4 0)))
 
 abbrev echoed : List ℕ
@@ -175,144 +174,3 @@ frame-read-met =
     Condition2.frame-read selects-101
     (record { command = omega arith; status = omega arith; flags = omega arith; address = omega arith; payload = (omega arith, (omega arith, (omega arith, tt))); short = omega arith })
     (0x99 ∷ [])
-
--- Clients in each turn: with no operation, before the second Write of a flash of 5 bytes, and after it.
-abbrev quietly : Client
-quietly = resting 255 attached
-
-abbrev second : Phase
-second = Demand (Writing 5 (codeInfo device) 4 0)
-
-abbrev ready : Client
-ready = turned quietly (Ready second)
-
-abbrev shorter : List ℕ
-shorter = 0x10 ∷ 0x21 ∷ []
-
-abbrev seventeen : List ℕ
-seventeen = replicate 17 0xC1
-
--- A start that is late; one that is refused with 13.
-pub starts-late-met :
-    (startSelect ready (0x05 ∷ []) 3 ≡ refuse ready OutOfTurn)
-    × ((startDeselect ready ≡ refuse ready OutOfTurn)
-    × ((startAttach ready ≡ refuse ready OutOfTurn)
-    × ((startAttachTo ready (0xC1 ∷ []) ≡ refuse ready OutOfTurn)
-    × ((startDiscover ready seventeen ≡ refuse ready OutOfTurn)
-    × ((startInfo ready ≡ refuse ready OutOfTurn)
-    × ((startErase ready ≡ refuse ready OutOfTurn)
-    × ((startFlash ready image ≡ refuse ready OutOfTurn)
-    × ((startReset ready true true ≡ refuse ready OutOfTurn)
-    × (startSetBaud ready 5 true false ≡ refuse ready OutOfTurn)))))))))
-unfolding running
-starts-late-met =
-    let s : Condition1.Starts ready = Condition1.starts ready in (
-      s .select (0x05 ∷ []) 3 .late refl,
-      (
-        s .deselect .late refl,
-        (
-          s .attach .late refl,
-          (
-            s .attach-to (0xC1 ∷ []) .late refl,
-            (
-              s .discover seventeen .late refl,
-              (
-                s .info .late refl,
-                (
-                  s .erase .late refl,
-                  (
-                    s .flash image .late refl,
-                    (
-                      s .reset true true .late refl,
-                      s .set-baud 5 true false .late refl,
-                    ),
-                  ),
-                ),
-              ),
-            ),
-          ),
-        ),
-      ),
-    )
-
-pub starts-refused-met :
-    ((startSelect quietly (0x05 ∷ []) 9 .client ≡ quietly) × ((BadPrefix ≡ BadPrefix) × (keeps BadPrefix ≡ true)))
-    × (((startAttachTo quietly seventeen .client ≡ quietly) × ((BadPrefix ≡ BadPrefix) × (keeps BadPrefix ≡ true)))
-    × ((startDiscover quietly seventeen .client ≡ quietly) × ((BadPrefix ≡ BadPrefix) × (keeps BadPrefix ≡ true))))
-unfolding running startSelect startAttachTo startDiscover badPrefix
-starts-refused-met =
-    let s : Condition1.Starts quietly = Condition1.starts quietly in
-    (s .select (0x05 ∷ []) 9 .refused BadPrefix refl, (s .attach-to seventeen .refused BadPrefix refl, s .discover seventeen .refused BadPrefix refl))
-
-pub asked-idle-met : request quietly image (replicate 15 0xEE) ≡ withheld quietly OutOfTurn (replicate 15 0xEE)
-asked-idle-met = Condition1.asked-idle quietly image (replicate 15 0xEE) refl
-
-pub asked-waiting-met : request writing image (replicate 15 0xEE) ≡ withheld writing OutOfTurn (replicate 15 0xEE)
-asked-waiting-met = Condition1.asked-waiting writing image (replicate 15 0xEE) second refl
-
--- With an image of another length, and with one of that length.
-pub asked-ready-met :
-    (request ready shorter (replicate 15 0xEE) ≡ withheld ready OtherImage (replicate 15 0xEE))
-    × (request ready image (replicate 15 0xEE) ≡ askedFor ready second image (replicate 15 0xEE))
-unfolding otherImage otherFor
-asked-ready-met = (Condition1.asked-ready ready shorter (replicate 15 0xEE) second refl, Condition1.asked-ready ready image (replicate 15 0xEE) second refl)
-
--- A buffer a byte too short, and one a byte longer than the request.
-pub asked-refused-met :
-    (request ready image (replicate 15 0xEE) .answer .client ≡ ready)
-    × ((request ready image (replicate 15 0xEE) .bytes ≡ replicate 15 0xEE) × (keeps (ShortBuffer 16) ≡ true))
-unfolding request askedFor handing Asking.granted written placed demandOf otherImage otherFor frameBytes frameBody frameHead le payloadOf chunk padding
-asked-refused-met = Condition1.asked-refused ready image (replicate 15 0xEE) (ShortBuffer 16) refl
-
-pub asked-granted-met :
-    (16 ≤ 17)
-    × ((drop 16 (request ready image (replicate 17 0xEE) .bytes) ≡ 0xEE ∷ []) × (length (request ready image (replicate 17 0xEE) .bytes) ≡ 17))
-unfolding request askedFor handing Asking.granted written placed demandOf otherImage otherFor frameBytes frameBody frameHead le payloadOf chunk padding
-asked-granted-met = Condition1.asked-granted ready image (replicate 17 0xEE) 16 refl
-
-pub told-idle-met : record′ quietly image wrote ≡ refuses quietly OutOfTurn
-told-idle-met = Condition1.told-idle quietly image wrote refl
-
-pub told-ready-met : record′ ready image wrote ≡ refuses ready OutOfTurn
-told-ready-met = Condition1.told-ready ready image wrote second refl
-
-pub told-waiting-met : (record′ writing shorter wrote ≡ refuses writing OtherImage) × (record′ writing image wrote ≡ answeredTo writing second image wrote)
-unfolding otherImage otherFor
-told-waiting-met = (Condition1.told-waiting writing shorter wrote second refl, Condition1.told-waiting writing image wrote second refl)
-
--- The Write's answer cut off before its check: 1. Another image: 20.
-abbrev cut-off : List ℕ
-cut-off = 0xA5 ∷ 0x02 ∷ 0x01 ∷ 0x00 ∷ 0x00 ∷ 0x00 ∷ 0x00 ∷ 0x00 ∷ 0x00 ∷ 0x00 ∷ []
-
-pub told-refused-met : record′ writing image cut-off .client ≡ leaves Io writing
-unfolding record′ answeredTo tells otherImage otherFor over answer answerFrom read readSynced readSized skipped number
-told-refused-met = Condition1.told-refused writing image cut-off Io refl
-
-pub told-kept-met : record′ writing shorter wrote .rest ≡ 0
-unfolding record′ otherImage otherFor keeps numberOf
-told-kept-met = Condition1.told-kept writing shorter wrote OtherImage refl refl
-
-pub told-lost-met : record′ writing image cut-off .rest ≡ 10
-unfolding record′ answeredTo tells otherImage otherFor over answer answerFrom read readSynced readSized skipped number
-told-lost-met = Condition1.told-lost writing image cut-off refl
-
-pub failed-idle-met : linkFailed quietly ≡ refuses quietly OutOfTurn
-failed-idle-met = Condition1.failed-idle quietly refl
-
-pub failed-ready-met : linkFailed ready ≡ refuses ready OutOfTurn
-failed-ready-met = Condition1.failed-ready ready second refl
-
-pub failed-waiting-met : linkFailed writing ≡ stops writing (Refused Io) 0
-failed-waiting-met = Condition1.failed-waiting writing second refl
-
-pub leaves-kept-met : leaves (ShortBuffer 16) ready ≡ ready
-unfolding keeps numberOf
-leaves-kept-met = Condition1.leaves-kept ready (ShortBuffer 16) refl
-
-pub leaves-idle-met : leaves (Device 7) writing .turn ≡ Idle
-unfolding keeps numberOf
-leaves-idle-met = Condition1.leaves-idle writing (Device 7) refl
-
-pub leaves-attached-met : (leaves NoSuchUid writing .attached ≡ true) × (leaves NoSuchUid writing .id ≡ idFrom (0xC1 ∷ 0x07 ∷ []))
-unfolding parts numberOf
-leaves-attached-met = Condition1.leaves-attached writing NoSuchUid refl

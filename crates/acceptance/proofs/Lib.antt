@@ -7,4 +7,5 @@ pub mod Exports
 pub mod ExportsMet
 pub mod BenchLog
 pub mod Instances
+pub mod Condition1Met
 pub mod Discoveries

@@ -1,15 +1,17 @@
 -- The ways through asking for a request, from the facts that the code has.
 -- Assumes nothing.
 use Prim.Native.Nat.{ℕ, _*_, _%_}
-use mathlib.Core.Bool.{Bool, true, false}
-use mathlib.Core.List.{List, []}
-use mathlib.Core.Path.{_≡_, sym, _∙_, ap, ap₂}
-use lib.ListN.{length}
+use mathlib.Core.Bool.{Bool, true, false, cond}
+use mathlib.Core.List.{List, [], _++_}
+use mathlib.Core.Path.{_≡_, refl, sym, _∙_, ap, ap₂}
+use lib.Dec.{ltb}
+use lib.ListN.{length, drop}
 use Rattle.ids.specs.Ids.{idOf}
-use Rattle.wire.specs.declared.Written.{Written}
-use Rattle.wire.specs.declared.Written.the-variants as Written
-use Rattle.frame.specs.Writing as Frame
+use Rattle.wire.specs.declared.Placed.{Placed}
+use Rattle.wire.specs.declared.Placed.the-variants as Placed
+use Rattle.frame.specs.Writing.{Placing, placed}
 use Rattle.paper.specs.Client.{demandFrame}
+use Rattle.paper.specs.Frame.{frameBytes}
 use Rattle.paper.specs.Hearing.{selectFrame}
 use Rattle.demands.specs.Demands.{resetOf, demandOf}
 use Rattle.lore.proofs.Choice.{cond-yes, cond-no}
@@ -28,11 +30,11 @@ use Rattle.client.specs.declared.Reset.{Reset}
 use Rattle.client.specs.declared.Turn.the-variants.{Idle, Ready, Waiting}
 use Rattle.client.specs.declared.Client.{Client}
 use Rattle.client.specs.declared.Refusal.the-variants.{ShortBuffer, OtherImage, OutOfTurn}
-use Rattle.client.specs.declared.Says.the-variants.{Granted}
+use Rattle.client.specs.declared.Says.{Says}
 use Rattle.client.specs.declared.Started.{Started}
 use Rattle.client.specs.Clients.{otherImage, idle, turned, refuse}
 use Rattle.client.proofs.Ways.{at-idle, at-ready, at-waiting}
-use Rattle.asking.specs.Asking.{asks, nextSeed, granted, Asking, handing, seeded, selects, askedFor, request}
+use Rattle.asking.specs.Asking.{asks, nextSeed, seeded, searchFrame, frameOf, handing, handed, granted, Asking, withheld, granting, askedFor, request}
 
 -- Asking.
 module _ (c : Client) (p : Search) (r : Ask) where
@@ -56,46 +58,77 @@ module _ (c : Client) (p : Search) (r : Ask) where
   unfolding asks
   asks-walking q e f = rw e f
 
-module _ (c next : Client) (w : Written) (r : Started) where
-  pub granted-done : (n : ℕ) → w ≡ Written.Done n → r ≡ record { says = Granted n; client = next } → r ≡ granted c next w
-  unfolding granted
-  granted-done n e f = rw e f
+-- Handing out.
+module _ (c : Client) (p : Phase) (d : Client) where
+  pub handed-select : (s : Search) (n : Client) (seed : ℕ) → p ≡ Select s → n ≡ turned c (Waiting p) → seed ≡ nextSeed (c .seed) → d ≡ seeded n seed → d ≡ handed c p
+  unfolding handed
+  handed-select s n seed ep en es e = rw ep (e ∙ ap₂ seeded (en ∙ ap (λ (x : Phase). turned c (Waiting x)) ep) es)
 
-  pub granted-short : (n : ℕ) → w ≡ Written.Short n → r ≡ refuse c (ShortBuffer n) → r ≡ granted c next w
+  pub handed-demand : (j : Job) → p ≡ Demand j → d ≡ turned c (Waiting p) → d ≡ handed c p
+  unfolding handed
+  handed-demand j ep e = rw ep (e ∙ ap (λ (x : Phase). turned c (Waiting x)) ep)
+
+  pub handed-leave : (reset : Reset) → p ≡ Leave reset → d ≡ idle c → d ≡ handed c p
+  unfolding handed
+  handed-leave reset ep e = rw ep e
+
+module _ (c : Client) (p : Phase) (w : Placed) (r : Started) where
+  pub granted-done : (n : ℕ) (says : Says) (next : Client) → w ≡ Placed.Done n → says ≡ handing p n → next ≡ handed c p → r ≡ record { says = says; client = next } → r ≡ granted c p w
+  unfolding granted
+  granted-done n says next e es en f = rw e (f ∙ ap₂ (λ (s : Says) (d : Client). record { says = s; client = d }) es en)
+
+  pub granted-short : (n : ℕ) → w ≡ Placed.Short n → r ≡ refuse c (ShortBuffer n) → r ≡ granted c p w
   unfolding granted
   granted-short n e f = rw e f
 
-  pub granted-never : w ≡ Written.TooLong → r ≡ refuse c OutOfTurn → r ≡ granted c next w
-  unfolding granted
-  granted-never e f = rw e f
-
--- A request written and handed out.
-handed : (c next : Client) (w : Written) (after : List ℕ) (o : Frame.Outcome) (r : Started) → record { answer = w; bytes = after } ≡ o → r ≡ granted c next w
-    → record { answer = r; bytes = after } ≡ handing c next o
-unfolding handing
-handed c next w after o r ew e = ap (λ (x : Started). record { answer = x; bytes = after }) e ∙ ap (handing c next) ew
-
-module _ (c next : Client) (w : Written) (buffer after : List ℕ) (r : Started) (e : r ≡ granted c next w) where
-  pub selects-made : (s : Search) (a : Ask) (seed : ℕ) (d : Client) → a ≡ asks c s → seed ≡ nextSeed (c .seed) → d ≡ turned c (Waiting (Select s)) → next ≡ seeded d seed
-      → record { answer = w; bytes = after } ≡ Frame.written (selectFrame seed (asked (a .bits) (a .count % 256))) buffer
-      → record { answer = r; bytes = after } ≡ selects c s buffer
-  unfolding selects
-  selects-made s a seed d ea es ed en ew = handed c _ w after _ r (rw (ea, es) at ew) (e ∙ ap (λ (x : Client). granted c x w) (en ∙ ap₂ seeded ed es))
+-- Writing.
+module _ (c : Client) (w : Placed) (buffer after : List ℕ) where
+  pub search-written : (s : Search) (a : Ask) (seed : ℕ) → a ≡ asks c s → seed ≡ nextSeed (c .seed)
+      → record { answer = w; bytes = after } ≡ placed (frameBytes (selectFrame seed (asked (a .bits) (a .count % 256)))) buffer
+      → record { answer = w; bytes = after } ≡ placed (frameBytes (searchFrame c s)) buffer
+  unfolding searchFrame
+  search-written s a seed ea es ew = rw (ea, es) at ew
 
   module _ (p : Phase) (image : List ℕ) where
-    pub asked-demand : (j : Job) → p ≡ Demand j → next ≡ turned c (Waiting (Demand j)) → record { answer = w; bytes = after } ≡ Frame.written (demandFrame (demandOf j (length image)) image) buffer
-        → record { answer = r; bytes = after } ≡ askedFor c p image buffer
-    unfolding askedFor
-    asked-demand j ep en ew = rw ep (handed c _ w after _ r ew (e ∙ ap (λ (x : Client). granted c x w) en))
+    pub request-select : (s : Search) → p ≡ Select s → record { answer = w; bytes = after } ≡ placed (frameBytes (searchFrame c s)) buffer
+        → record { answer = w; bytes = after } ≡ placed (frameBytes (frameOf c p image)) buffer
+    unfolding frameOf
+    request-select s ep e = rw ep e
 
-    pub asked-leave : (reset : Reset) → p ≡ Leave reset → next ≡ idle c → record { answer = w; bytes = after } ≡ Frame.written (demandFrame (resetOf reset) []) buffer
-        → record { answer = r; bytes = after } ≡ askedFor c p image buffer
-    unfolding askedFor
-    asked-leave reset ep en ew = rw ep (handed c _ w after _ r ew (e ∙ ap (λ (x : Client). granted c x w) en))
+    pub request-demand : (j : Job) → p ≡ Demand j → record { answer = w; bytes = after } ≡ placed (frameBytes (demandFrame (demandOf j (length image)) image)) buffer
+        → record { answer = w; bytes = after } ≡ placed (frameBytes (frameOf c p image)) buffer
+    unfolding frameOf
+    request-demand j ep e = rw ep e
 
-pub asked-select : (c : Client) (p : Phase) (image buffer : List ℕ) (o : Asking) (s : Search) → p ≡ Select s → o ≡ selects c s buffer → o ≡ askedFor c p image buffer
+    pub request-leave : (reset : Reset) → p ≡ Leave reset → record { answer = w; bytes = after } ≡ placed (frameBytes (demandFrame (resetOf reset) [])) buffer
+        → record { answer = w; bytes = after } ≡ placed (frameBytes (frameOf c p image)) buffer
+    unfolding frameOf
+    request-leave reset ep e = rw ep e
+
+-- What a writer placed, as what asking answers.
+placing : (c : Client) (p : Phase) (bytes buffer : List ℕ) → record { answer = granted c p (placed bytes buffer .answer); bytes = placed bytes buffer .bytes } ≡ granting c p bytes buffer
+unfolding placed granting granted
+placing c p bytes buffer = go (ltb (length buffer) (length bytes))
+  where
+    done : Placing
+    done = record { answer = Placed.Done (length bytes); bytes = bytes ++ drop (length bytes) buffer }
+
+    short : Placing
+    short = record { answer = Placed.Short (length bytes); bytes = buffer }
+
+    go : (b : Bool)
+        → _≡_ {A = Asking} (record { answer = granted c p (cond b short done .answer); bytes = cond b short done .bytes })
+        (cond b (withheld c (ShortBuffer (length bytes)) buffer) (record { answer = record { says = handing p (length bytes); client = handed c p }; bytes = bytes ++ drop (length bytes) buffer }))
+    go true = refl
+    go false = refl
+
+pub asked-made : (c : Client) (p : Phase) (image buffer after : List ℕ) (w : Placed) (r : Started)
+    → record { answer = w; bytes = after } ≡ placed (frameBytes (frameOf c p image)) buffer → r ≡ granted c p w → record { answer = r; bytes = after } ≡ askedFor c p image buffer
 unfolding askedFor
-asked-select c p image buffer o s ep e = rw ep e
+asked-made c p image buffer after w r ew e =
+    ap (λ (x : Started). record { answer = x; bytes = after }) e
+    ∙ ap (λ (x : Placing). record { answer = granted c p (x .answer); bytes = x .bytes }) ew
+    ∙ placing c p (frameBytes (frameOf c p image)) buffer
 
 module _ (c : Client) (image buffer : List ℕ) (r : Started) where
   pub request-idle : c .turn ≡ Idle → r ≡ refuse c OutOfTurn → record { answer = r; bytes = buffer } ≡ request c image buffer

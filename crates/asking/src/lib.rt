@@ -7,9 +7,11 @@ use client::Search;
 use client::Started;
 use client::Turn;
 use walk::Ask;
-use wire::Written;
+use wire::Placed;
 ghost use mathlib.Core.Path.{_≡_};
-ghost use Rattle.asking.specs.Asking.{asks, nextSeed, granted, selects, askedFor, request};
+ghost use Rattle.paper.specs.Frame.{frameBytes};
+ghost use Rattle.frame.specs.Writing.{placed};
+ghost use Rattle.asking.specs.Asking.{asks, nextSeed, searchFrame, frameOf, handing, handed, granted, askedFor, request};
 
 fn next_seed(seed: u8) -> u8
     ensures { λ r. ⌜ r ≡ nextSeed seed ⌝ }
@@ -41,48 +43,72 @@ fn asks(c: Client, search: Search) -> Ask
     }
 }
 
-// What a request written, or a buffer too short for it, makes of the client; next is the client once it is handed out.
-fn granted(c: Client, next: Client, w: Written) -> Started
-    ensures { λ r. ⌜ r ≡ granted c next w ⌝ }
+// What is said of a request of n bytes that is handed out. One whose answer is not awaited ends the operation.
+fn handing(phase: Phase, n: usize) -> Says
+    ensures { λ r. ⌜ r ≡ handing phase n ⌝ }
 {
-    match w {
-        Written::Done(n) => Started {
-            says: Says::Granted(n),
-            client: next,
-        },
-        Written::Short(n) => c.refuse(Refusal::ShortBuffer(n)),
-        Written::TooLong => c.refuse(Refusal::OutOfTurn),
+    match phase {
+        Phase::Select(_) => Says::Granted(n),
+        Phase::Demand(_) => Says::Granted(n),
+        Phase::Leave(_) => Says::Closing(n),
     }
 }
 
-// A Select's seed is the client's from then on.
-fn selects(c: Client, search: Search, buffer: &mut [u8]) -> Started
-    ensures { λ r. ⌜ record { answer = r; bytes = now (buffer .exit) } ≡ selects c search (now (buffer .entry)) ⌝ }
+// The client once its request is handed out. A Select's seed is the client's from then on.
+fn handed(c: Client, phase: Phase) -> Client
+    ensures { λ r. ⌜ r ≡ handed c phase ⌝ }
+{
+    match phase {
+        Phase::Select(_) => {
+            let mut next = c.turned(Turn::Waiting(phase));
+            next.seed = next_seed(c.seed);
+            next
+        }
+        Phase::Demand(_) => c.turned(Turn::Waiting(phase)),
+        Phase::Leave(_) => c.idle(),
+    }
+}
+
+// What a request written, or a buffer too short for it, makes of the client.
+fn granted(c: Client, phase: Phase, w: Placed) -> Started
+    ensures { λ r. ⌜ r ≡ granted c phase w ⌝ }
+{
+    match w {
+        Placed::Done(n) => {
+            let says = handing(phase, n);
+            let client = handed(c, phase);
+            Started { says, client }
+        }
+        Placed::Short(n) => c.refuse(Refusal::ShortBuffer(n)),
+    }
+}
+
+// The Select of a search, with the next seed.
+fn write_search(c: Client, search: Search, buffer: &mut [u8]) -> Placed
+    ensures { λ r. ⌜ record { answer = r; bytes = now (buffer .exit) } ≡ placed (frameBytes (searchFrame c search)) (now (buffer .entry)) ⌝ }
 {
     let a = asks(c, search);
     let bits = a.bits;
-    let seed = next_seed(c.seed);
-    let w = select::write_select(seed, bits, (a.count % 256) as u8, buffer);
-    let mut next = c.turned(Turn::Waiting(Phase::Select(search)));
-    next.seed = seed;
-    granted(c, next, w)
+    select::write_select(next_seed(c.seed), bits, (a.count % 256) as u8, buffer)
 }
 
-// The request of a phase. One whose answer is not awaited ends the operation.
+// The request of a phase.
+fn write_request(c: Client, phase: Phase, image: &[u8], buffer: &mut [u8]) -> Placed
+    ensures { λ r. ⌜ record { answer = r; bytes = now (buffer .exit) } ≡ placed (frameBytes (frameOf c phase (now (image .entry)))) (now (buffer .entry)) ⌝ }
+{
+    match phase {
+        Phase::Select(search) => write_search(c, search, buffer),
+        Phase::Demand(job) => demands::write_demand(job, image, buffer),
+        Phase::Leave(reset) => demands::write_reset(reset, buffer),
+    }
+}
+
+// The request of a phase, handed out where the buffer holds it.
 fn asked(c: Client, phase: Phase, image: &[u8], buffer: &mut [u8]) -> Started
     ensures { λ r. ⌜ record { answer = r; bytes = now (buffer .exit) } ≡ askedFor c phase (now (image .entry)) (now (buffer .entry)) ⌝ }
 {
-    match phase {
-        Phase::Select(search) => selects(c, search, buffer),
-        Phase::Demand(job) => {
-            let w = demands::write_demand(job, image, buffer);
-            granted(c, c.turned(Turn::Waiting(phase)), w)
-        }
-        Phase::Leave(reset) => {
-            let w = demands::write_reset(reset, buffer);
-            granted(c, c.idle(), w)
-        }
-    }
+    let w = write_request(c, phase, image, buffer);
+    granted(c, phase, w)
 }
 
 // The next request, with the image lent, written to the front of the buffer.

@@ -6,7 +6,7 @@ use mathlib.Core.List.{List, [], _∷_, map}
 use mathlib.Core.Option.{Option, none, some}
 use lib.ListN.{replicate}
 use Rattle.paper.specs.Client as Paper
-use Rattle.paper.specs.Client.{refused, granted, onward, over}
+use Rattle.paper.specs.Client.{refused, granted, closing, onward, over}
 use Rattle.paper.specs.Hearing as Paper₂
 use Rattle.paper.specs.Hearing.{nothing, one, unaddressed, garble}
 use Rattle.paper.specs.Talk.{quiet, heard, attached, found, knows}
@@ -26,7 +26,7 @@ use Rattle.client.specs.declared.Refusal.the-variants.{Io, Device, Firmw
 use Rattle.client.specs.declared.Progress.{Progress}
 use Rattle.client.specs.declared.Progress.the-variants.{None, Made}
 use Rattle.client.specs.declared.Says.{Says}
-use Rattle.client.specs.declared.Says.the-variants.{Granted, Onward, Over, Refused}
+use Rattle.client.specs.declared.Says.the-variants.{Granted, Closing, Onward, Over, Refused}
 
 unfoldable pub numberOf : Refusal → ℕ
 numberOf Io = 1
@@ -103,6 +103,7 @@ endOf Code.Unaddressed p x t = refused 23 []
 
 unfoldable pub saysOf : Says → Progress → Id → Table → Paper.Says
 saysOf (Granted n) p x t = granted n
+saysOf (Closing n) p x t = closing n
 saysOf Onward p x t = onward (progressOf p)
 saysOf (Over o) p x t = endOf o p x t
 saysOf (Refused r) p x t = refused (numberOf r) (carriedBy r x)

@@ -106,9 +106,11 @@ pub enum Progress {
     Made(u64, u64),
 }
 
-// A request of so many bytes stands in the buffer; the operation goes on; it has ended; the call was refused.
+// A request of so many bytes stands in the buffer, and its answer is awaited; one stands there, and the operation has ended; the operation
+// goes on; it has ended; the call was refused.
 pub enum Says {
     Granted(usize),
+    Closing(usize),
     Onward,
     Over(Outcome),
     Refused(Refusal),

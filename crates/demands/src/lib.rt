@@ -3,15 +3,16 @@ use client::Job;
 use client::Reset;
 use frame::Head;
 use image::Info;
-use wire::Written;
+use wire::Placed;
 ghost use mathlib.Core.Path.{_≡_};
 ghost use mathlib.Core.Bool.{cond};
 ghost use mathlib.Core.List.{[]};
 ghost use lib.ListN.{length};
 ghost use Rattle.paper.specs.Client.{demandFrame};
+ghost use Rattle.paper.specs.Frame.{frameBytes};
 ghost use Rattle.paper.specs.Flash.{infoRequest, eraseRequest, writeRequest, verifyRequest};
 ghost use Rattle.image.specs.Images.{paperInfo};
-ghost use Rattle.frame.specs.Writing.{written};
+ghost use Rattle.frame.specs.Writing.{placed};
 ghost use Rattle.demands.specs.Demands.{headFor, flagsOf, resetOf, demandOf};
 
 // The first fields of a request.
@@ -36,32 +37,32 @@ fn flag(on: bool, value: u8) -> u8
     0
 }
 
-pub fn write_info(buf: &mut [u8]) -> Written
-    ensures { λ r. ⌜ record { answer = r; bytes = now (buf .exit) } ≡ written (demandFrame infoRequest []) (now (buf .entry)) ⌝ }
+pub fn write_info(buf: &mut [u8]) -> Placed
+    ensures { λ r. ⌜ record { answer = r; bytes = now (buf .exit) } ≡ placed (frameBytes (demandFrame infoRequest [])) (now (buf .entry)) ⌝ }
 {
     let none = [0u8; 1];
-    frame::write_frame(head(wire::INFO, 0, 0), &none[..0], 0, buf)
+    frame::place_frame(head(wire::INFO, 0, 0), &none[..0], 0, buf)
 }
 
 // The payload is the erase size.
-pub fn write_erase(info: Info, address: u32, buf: &mut [u8]) -> Written
-    ensures { λ r. ⌜ record { answer = r; bytes = now (buf .exit) } ≡ written (demandFrame (eraseRequest (paperInfo info) address) []) (now (buf .entry)) ⌝ }
+pub fn write_erase(info: Info, address: u32, buf: &mut [u8]) -> Placed
+    ensures { λ r. ⌜ record { answer = r; bytes = now (buf .exit) } ≡ placed (frameBytes (demandFrame (eraseRequest (paperInfo info) address) [])) (now (buf .entry)) ⌝ }
 {
     let e = info.erase_size;
     let size = [(e % 0x100) as u8, (e / 0x100 % 0x100) as u8];
-    frame::write_frame(head(wire::ERASE, 0, address), &size, 0, buf)
+    frame::place_frame(head(wire::ERASE, 0, address), &size, 0, buf)
 }
 
 // The image from the offset to the chunk's end, then FF; FLUSH on the last.
-pub fn write_write(info: Info, offset: u64, image: &[u8], buf: &mut [u8]) -> Written
-    ensures { λ r. ⌜ record { answer = r; bytes = now (buf .exit) } ≡ written (demandFrame (writeRequest (paperInfo info) (length (now (image .entry))) offset) (now (image .entry))) (now (buf .entry)) ⌝ }
+pub fn write_write(info: Info, offset: u64, image: &[u8], buf: &mut [u8]) -> Placed
+    ensures { λ r. ⌜ record { answer = r; bytes = now (buf .exit) } ≡ placed (frameBytes (demandFrame (writeRequest (paperInfo info) (length (now (image .entry))) offset) (now (image .entry)))) (now (buf .entry)) ⌝ }
 {
     let n = image.len();
     let size = pieces::size(info, n, offset);
     let held = pieces::image_bytes(n, offset, size);
     let flags = flag(pieces::last(info, n, offset), wire::FLUSH);
     let part = pieces::part(image, offset, size);
-    frame::write_frame(
+    frame::place_frame(
         head(wire::WRITE, flags, (offset % 0x1_0000_0000) as u32),
         part,
         size - held,
@@ -70,11 +71,11 @@ pub fn write_write(info: Info, offset: u64, image: &[u8], buf: &mut [u8]) -> Wri
 }
 
 // The address is the image's length.
-pub fn write_verify(n: usize, buf: &mut [u8]) -> Written
-    ensures { λ r. ⌜ record { answer = r; bytes = now (buf .exit) } ≡ written (demandFrame (verifyRequest n) []) (now (buf .entry)) ⌝ }
+pub fn write_verify(n: usize, buf: &mut [u8]) -> Placed
+    ensures { λ r. ⌜ record { answer = r; bytes = now (buf .exit) } ≡ placed (frameBytes (demandFrame (verifyRequest n) [])) (now (buf .entry)) ⌝ }
 {
     let none = [0u8; 1];
-    frame::write_frame(
+    frame::place_frame(
         head(wire::VERIFY, 0, (n % 0x1_0000_0000) as u32),
         &none[..0],
         0,
@@ -99,12 +100,12 @@ fn address_of(reset: Reset) -> u32
     0
 }
 
-pub fn write_reset(reset: Reset, buf: &mut [u8]) -> Written
-    ensures { λ r. ⌜ record { answer = r; bytes = now (buf .exit) } ≡ written (demandFrame (resetOf reset) []) (now (buf .entry)) ⌝ }
+pub fn write_reset(reset: Reset, buf: &mut [u8]) -> Placed
+    ensures { λ r. ⌜ record { answer = r; bytes = now (buf .exit) } ≡ placed (frameBytes (demandFrame (resetOf reset) [])) (now (buf .entry)) ⌝ }
 {
     let none = [0u8; 1];
     let flags = reset_flags(reset);
-    frame::write_frame(
+    frame::place_frame(
         head(wire::RESET, flags, address_of(reset)),
         &none[..0],
         0,
@@ -113,8 +114,8 @@ pub fn write_reset(reset: Reset, buf: &mut [u8]) -> Written
 }
 
 // The request of a job, with the image lent.
-pub fn write_demand(job: Job, image: &[u8], buf: &mut [u8]) -> Written
-    ensures { λ r. ⌜ record { answer = r; bytes = now (buf .exit) } ≡ written (demandFrame (demandOf job (length (now (image .entry)))) (now (image .entry))) (now (buf .entry)) ⌝ }
+pub fn write_demand(job: Job, image: &[u8], buf: &mut [u8]) -> Placed
+    ensures { λ r. ⌜ record { answer = r; bytes = now (buf .exit) } ≡ placed (frameBytes (demandFrame (demandOf job (length (now (image .entry)))) (now (image .entry)))) (now (buf .entry)) ⌝ }
 {
     match job {
         Job::Informing(_) => write_info(buf),

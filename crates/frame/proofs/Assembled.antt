@@ -9,12 +9,12 @@ use lib.ListN.{length, take, drop}
 use lib.Seq.{take-at, drop-at, drop-drop}
 use borrow.Author.Tests.{lt-ltb, le-ltb}
 use borrow.Rule.Slice.PartMut.{putMid}
-use Rattle.paper.specs.Frame.{le, check, Frame, most, frameHead, frameBody, frameBytes}
+use Rattle.paper.specs.Frame.{le, check, Frame, frameHead, frameBody, frameBytes}
 use Rattle.lore.proofs.Parts.{part-all, mid-all}
 use Rattle.lore.proofs.Frames.{head-length, body-length, frame-length}
-use Rattle.wire.specs.declared.Written.the-variants.{Done, Short, TooLong}
+use Rattle.wire.specs.declared.Placed.the-variants.{Done, Short}
 use Rattle.frame.specs.declared.Head.{Head}
-use Rattle.frame.specs.Writing.{frameOf, tagOf, headOf, placed, written}
+use Rattle.frame.specs.Writing.{frameOf, tagOf, headOf, placed}
 
 twelve : (n : ℕ) → n + 10 + 2 ≡ n + 12
 twelve n = omega arith
@@ -33,17 +33,9 @@ module _ (h : Head) (load buf : List ℕ) (n : ℕ) (en : length load ≡ n) whe
   frame-is : length (frameBytes f) ≡ n + 12
   frame-is = frame-length f ∙ ap (λ (k : ℕ). 12 + k) en ∙ add-comm 12 n
 
-  pub too-long : most < n → record { answer = TooLong; bytes = buf } ≡ written f buf
-  unfolding written
-  too-long k = rw (en, lt-ltb most n k)
-
-  fitting : n ≤ most → written f buf ≡ placed (frameBytes f) buf
-  unfolding written
-  fitting k = rw (en, le-ltb most n k)
-
-  pub too-short : n ≤ most → length buf < n + 12 → record { answer = Short (n + 12); bytes = buf } ≡ written f buf
+  pub too-short : length buf < n + 12 → record { answer = Short (n + 12); bytes = buf } ≡ placed (frameBytes f) buf
   unfolding placed
-  too-short fits k = rw (fitting fits, frame-is, lt-ltb (length buf) (n + 12) k)
+  too-short k = rw (frame-is, lt-ltb (length buf) (n + 12) k)
 
   module _ (d₁ d₂ d₃ : List ℕ) (e₁ : d₁ ≡ headOf h n ++ drop 10 buf) (e₂ : d₂ ≡ load ++ drop n (take (length d₁ - 10) (drop 10 d₁))) where
     abbrev filled : List ℕ
@@ -72,11 +64,11 @@ module _ (h : Head) (load buf : List ℕ) (n : ℕ) (en : length load ≡ n) whe
         ∙ drop-drop 2 (n + 10) buf
         ∙ ap (λ (k : ℕ). drop k buf) (twelve n)
 
-    pub assembled : n ≤ most → n + 12 ≤ length buf
+    pub assembled : n + 12 ≤ length buf
         → d₃ ≡ take (n + 10) filled ++ le 2 (check (take (n + 10) filled)) ++ drop (n + 10 + 2) filled
-        → record { answer = Done (n + 12); bytes = d₃ } ≡ written f buf
+        → record { answer = Done (n + 12); bytes = d₃ } ≡ placed (frameBytes f) buf
     unfolding placed frameBytes
-    assembled fits room e₃ =
-        rw (fitting fits, frame-is, le-ltb (length buf) (n + 12) room)
+    assembled room e₃ =
+        rw (frame-is, le-ltb (length buf) (n + 12) room)
         (ap (λ (l : List ℕ). record { answer = Done (n + 12); bytes = l })
         (e₃ ∙ ap₂ (λ (x y : List ℕ). x ++ le 2 (check x) ++ y) front back))

@@ -6,13 +6,17 @@ use mathlib.Core.Path.{_≡_, sym, _∙_, ap, ap₂}
 use native.Mathlib.Omega.{arith}
 use lib.ListN.{length, take, drop, replicate, length-append, length-replicate}
 use lib.Seq.{take-append-seam, drop-append-seam, drop-drop}
+use borrow.Author.Tests.{lt-ltb, le-ltb}
 use borrow.Rule.Slice.PartMut.{putMid}
-use Rattle.paper.specs.Frame.{le, crcFrom, check}
+use Rattle.paper.specs.Frame.{le, crcFrom, check, Frame, most, frameBytes}
 use Rattle.lore.proofs.Parts.{part-all, mid-all}
-use Rattle.frame.proofs.Assembled.{too-long, too-short, assembled}
-use Rattle.wire.specs.declared.Written.the-variants.{Done, Short, TooLong}
+use Rattle.frame.proofs.Assembled.{too-short, assembled}
+use Rattle.wire.specs.declared.Placed.{Placed}
+use Rattle.wire.specs.declared.Placed.the-variants as Placed
+use Rattle.wire.specs.declared.Written.{Written}
+use Rattle.wire.specs.declared.Written.the-variants as Written
 use Rattle.frame.specs.declared.Head.{Head}
-use Rattle.frame.specs.Writing.{frameOf, tagOf, headOf, written}
+use Rattle.frame.specs.Writing.{frameOf, tagOf, headOf, placed, answerOf, outcome, written}
 
 module _ (h : Head) (n : ℕ) (b d₁ d₂ d₃ : List ℕ) where
   pub headed : d₁ ≡ tagOf h ++ drop 4 b → d₂ ≡ take 4 d₁ ++ le 4 (h .address) ++ drop 8 d₁ → d₃ ≡ take 8 d₂ ++ le 2 n ++ drop 10 d₂
@@ -40,22 +44,33 @@ module _ (h : Head) (p : List ℕ) (pad : ℕ) (buf : List ℕ) where
   abbrev load : List ℕ
   load = p ++ replicate pad 0xFF
 
+  abbrev f : Frame
+  f = frameOf h load
+
   load-length : length load ≡ length p + pad
   load-length = length-append p (replicate pad 0xFF) ∙ ap (λ (k : ℕ). length p + k) (length-replicate pad 0xFF)
 
-  pub long-bytes : 1024 < length p → record { answer = TooLong; bytes = buf } ≡ written (frameOf h load) buf
-  long-bytes k = too-long h load buf (length p + pad) load-length (omega arith)
+  pub no-room : length buf < length p + pad + 12 → record { answer = Placed.Short (length p + pad + 12); bytes = buf } ≡ placed (frameBytes f) buf
+  no-room k = too-short h load buf (length p + pad) load-length k
 
-  pub long-padding : length p ≤ 1024 → 1024 - length p < pad → record { answer = TooLong; bytes = buf } ≡ written (frameOf h load) buf
-  long-padding k m = too-long h load buf (length p + pad) load-length (omega arith)
+  pub wrote : (d₁ d₂ d₃ : List ℕ) → length p + pad + 12 ≤ length buf → d₁ ≡ headOf h (length p + pad) ++ drop 10 buf
+      → d₂ ≡ load ++ drop (length p + pad) (take (length d₁ - 10) (drop 10 d₁))
+      → d₃ ≡ take (length p + pad + 10) (putMid 10 (length d₁ - 10) d₁ d₂) ++ le 2 (check (take (length p + pad + 10) (putMid 10 (length d₁ - 10) d₁ d₂)))
+      ++ drop (length p + pad + 10 + 2) (putMid 10 (length d₁ - 10) d₁ d₂)
+      → record { answer = Placed.Done (length p + pad + 12); bytes = d₃ } ≡ placed (frameBytes f) buf
+  wrote d₁ d₂ d₃ room e₁ e₂ e₃ = assembled h load buf (length p + pad) load-length d₁ d₂ d₃ e₁ e₂ room e₃
 
-  module _ (small : length p ≤ 1024) (less : pad ≤ 1024 - length p) where
-    pub no-room : length buf < length p + pad + 12 → record { answer = Short (length p + pad + 12); bytes = buf } ≡ written (frameOf h load) buf
-    no-room k = too-short h load buf (length p + pad) load-length (omega arith) k
+  too-long : most < length p + pad → record { answer = Written.TooLong; bytes = buf } ≡ written f buf
+  unfolding written
+  too-long k = rw (load-length, lt-ltb most (length p + pad) k)
 
-    pub wrote : (d₁ d₂ d₃ : List ℕ) → length p + pad + 12 ≤ length buf → d₁ ≡ headOf h (length p + pad) ++ drop 10 buf
-        → d₂ ≡ load ++ drop (length p + pad) (take (length d₁ - 10) (drop 10 d₁))
-        → d₃ ≡ take (length p + pad + 10) (putMid 10 (length d₁ - 10) d₁ d₂) ++ le 2 (check (take (length p + pad + 10) (putMid 10 (length d₁ - 10) d₁ d₂)))
-        ++ drop (length p + pad + 10 + 2) (putMid 10 (length d₁ - 10) d₁ d₂)
-        → record { answer = Done (length p + pad + 12); bytes = d₃ } ≡ written (frameOf h load) buf
-    wrote d₁ d₂ d₃ room e₁ e₂ e₃ = assembled h load buf (length p + pad) load-length d₁ d₂ d₃ e₁ e₂ (omega arith) room e₃
+  pub long-bytes : 1024 < length p → record { answer = Written.TooLong; bytes = buf } ≡ written f buf
+  long-bytes k = too-long (omega arith)
+
+  pub long-padding : length p ≤ 1024 → 1024 - length p < pad → record { answer = Written.TooLong; bytes = buf } ≡ written f buf
+  long-padding k m = too-long (omega arith)
+
+  pub not-long : (q : Placed) (r : Written) (d : List ℕ) → length p ≤ 1024 → pad ≤ 1024 - length p → record { answer = q; bytes = d } ≡ placed (frameBytes f) buf
+      → r ≡ answerOf q → record { answer = r; bytes = d } ≡ written f buf
+  unfolding written
+  not-long q r d k m e er = rw (load-length, le-ltb most (length p + pad) (omega arith), er) (ap outcome e)

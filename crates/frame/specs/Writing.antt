@@ -6,8 +6,10 @@ use mathlib.Core.List.{List, [], _∷_, _++_}
 use lib.Dec.{ltb}
 use lib.ListN.{length, drop}
 use Rattle.paper.specs.Frame.{le, Frame, most, frameBytes}
+use Rattle.wire.specs.declared.Placed.{Placed}
+use Rattle.wire.specs.declared.Placed.the-variants as Placed
 use Rattle.wire.specs.declared.Written.{Written}
-use Rattle.wire.specs.declared.Written.the-variants.{Done, Short, TooLong}
+use Rattle.wire.specs.declared.Written.the-variants as Written
 use Rattle.frame.specs.declared.Head.{Head}
 
 abbrev pub frameOf : Head → List ℕ → Frame
@@ -20,17 +22,33 @@ tagOf h = 0xA5 ∷ h .command ∷ h .status ∷ h .flags ∷ []
 unfoldable pub headOf : Head → ℕ → List ℕ
 headOf h n = tagOf h ++ le 4 (h .address) ++ le 2 n
 
--- A writer's answer, and the buffer after it.
+-- The answer of a request's writer, and the buffer after it.
+pub record Placing : Type 0 where
+  pub answer : Placed
+  pub bytes : List ℕ
+
+-- "fills its own length of the buffer and changes no byte after it"; where the buffer is too short nothing is written.
+unfoldable pub placed : List ℕ → List ℕ → Placing
+placed bytes buffer =
+    cond (ltb (length buffer) (length bytes))
+    (record { answer = Placed.Short (length bytes); bytes = buffer })
+    (record { answer = Placed.Done (length bytes); bytes = bytes ++ drop (length bytes) buffer })
+
+-- The answer of a writer of any frame, and the buffer after it.
 pub record Outcome : Type 0 where
   pub answer : Written
   pub bytes : List ℕ
 
--- "fills its own length of the buffer and changes no byte after it"; where the buffer is too short nothing is written.
-unfoldable pub placed : List ℕ → List ℕ → Outcome
-placed bytes buffer =
-    cond (ltb (length buffer) (length bytes))
-    (record { answer = Short (length bytes); bytes = buffer })
-    (record { answer = Done (length bytes); bytes = bytes ++ drop (length bytes) buffer })
+abbrev pub onPlaced {ℓ} : {A : Type ℓ} → Placed → (ℕ → A) → (ℕ → A) → A
+onPlaced (Placed.Done n) d s = d n
+onPlaced (Placed.Short n) d s = s n
 
+unfoldable pub answerOf : Placed → Written
+answerOf p = onPlaced p Written.Done Written.Short
+
+abbrev pub outcome : Placing → Outcome
+outcome p = record { answer = answerOf (p .answer); bytes = p .bytes }
+
+-- A payload of over 1,024 bytes is written in no buffer.
 unfoldable pub written : Frame → List ℕ → Outcome
-written f buffer = cond (ltb most (length (f .payload))) (record { answer = TooLong; bytes = buffer }) (placed (frameBytes f) buffer)
+written f buffer = cond (ltb most (length (f .payload))) (record { answer = Written.TooLong; bytes = buffer }) (outcome (placed (frameBytes f) buffer))

@@ -1,11 +1,12 @@
 // The bench frame's writer: the head, the payload through the part of the request buffer from byte 10 on, the check.
+use wire::Placed;
 use wire::Written;
 ghost use mathlib.Core.Path.{_≡_};
 ghost use mathlib.Core.List.{_++_};
 ghost use Prim.Native.Nat.{_+_, _≤_};
 ghost use lib.ListN.{length, take, drop, replicate};
-ghost use Rattle.paper.specs.Frame.{le, check};
-ghost use Rattle.frame.specs.Writing.{frameOf, tagOf, headOf, written};
+ghost use Rattle.paper.specs.Frame.{le, check, frameBytes};
+ghost use Rattle.frame.specs.Writing.{frameOf, tagOf, headOf, placed, answerOf, written};
 
 pub struct Head {
     pub command: u8,
@@ -54,7 +55,31 @@ pub fn seal(buf: &mut [u8], n: usize)
     wire::put16(buf, n, c);
 }
 
-// A frame whose payload is the bytes given and then FF so many times.
+// A frame whose payload is the bytes given and then FF so many times, 1,024 bytes at most.
+pub fn place_frame(head: Head, bytes: &[u8], pad: usize, buf: &mut [u8]) -> Placed
+    requires { ⌜ length (now bytes) + pad ≤ 1024 ⌝ }
+    ensures { λ r. ⌜ record { answer = r; bytes = now (buf .exit) } ≡ placed (frameBytes (frameOf head (now (bytes .entry) ++ replicate pad 0xFF))) (now (buf .entry)) ⌝ }
+{
+    let n = bytes.len() + pad;
+    if buf.len() < n + 12 {
+        return Placed::Short(n + 12);
+    }
+    put_head(buf, head, n as u16);
+    put_padded(&mut buf[10..], bytes, pad);
+    seal(buf, n + 10);
+    Placed::Done(n + 12)
+}
+
+fn answer_of(p: Placed) -> Written
+    ensures { λ r. ⌜ r ≡ answerOf p ⌝ }
+{
+    match p {
+        Placed::Done(n) => Written::Done(n),
+        Placed::Short(n) => Written::Short(n),
+    }
+}
+
+// The same of any lengths.
 pub fn write_frame(head: Head, bytes: &[u8], pad: usize, buf: &mut [u8]) -> Written
     ensures { λ r. ⌜ record { answer = r; bytes = now (buf .exit) } ≡ written (frameOf head (now (bytes .entry) ++ replicate pad 0xFF)) (now (buf .entry)) ⌝ }
 {
@@ -65,12 +90,5 @@ pub fn write_frame(head: Head, bytes: &[u8], pad: usize, buf: &mut [u8]) -> Writ
     if 1024 - m < pad {
         return Written::TooLong;
     }
-    let n = m + pad;
-    if buf.len() < n + 12 {
-        return Written::Short(n + 12);
-    }
-    put_head(buf, head, n as u16);
-    put_padded(&mut buf[10..], bytes, pad);
-    seal(buf, n + 10);
-    Written::Done(n + 12)
+    answer_of(place_frame(head, bytes, pad, buf))
 }

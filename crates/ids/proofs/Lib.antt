@@ -1,4 +1,5 @@
 pub mod Shift
 pub mod Laws
+pub mod Pack
 pub mod Ways
 pub mod Instances

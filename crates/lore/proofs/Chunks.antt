@@ -1,12 +1,15 @@
--- What the rules on chunks and padding come to: a chunk is a multiple of 4 within 1024, a padded length a multiple of 4 within 3 bytes more.
+-- What the rules on chunks and padding come to: a chunk is a multiple of 4 within 1024, a padded length a multiple of 4 within 3 bytes more,
+-- a Write the smaller of a chunk and what is left.
 -- Assumes nothing.
-use Prim.Native.Nat.{ℕ, _+_, _*_, _/_, _%_, _<_, _≤_}
+use Prim.Native.Nat.{ℕ, _+_, _-_, _*_, _/_, _%_, _<_, _≤_, min}
 use mathlib.Core.Bool.{Bool, true, false, cond}
 use mathlib.Core.Path.{_≡_, refl}
 use native.Mathlib.Omega.{arith}
 use lib.Dec.{leb}
-use borrow.Author.Tests.{leb-true}
+use borrow.Author.Tests.{leb-true, leb-false}
+use Rattle.paper.specs.Frame.{Info}
 use Rattle.paper.specs.Answers.{chunk, padding, padded}
+use Rattle.paper.specs.Flash.{writeSize}
 
 pub chunk-multiple : (m : ℕ) → chunk m % 4 ≡ 0
 unfolding chunk
@@ -38,3 +41,14 @@ padded-multiple n = omega arith
 pub padded-close : (n : ℕ) → padded n < n + 4
 unfolding padding
 padded-close n = omega arith
+
+-- A Write is a chunk or what is left.
+pub write-size : (info : Info) (n o : ℕ) → writeSize info n o ≡ min (chunk (info .maxPayload)) (padded n - o)
+write-size info n o = go (leb (chunk (info .maxPayload)) (padded n - o)) refl
+  where
+    c : ℕ
+    c = chunk (info .maxPayload)
+
+    go : (b : Bool) → leb c (padded n - o) ≡ b → cond b c (padded n - o) ≡ min c (padded n - o)
+    go true e = omega (arith, leb-true c (padded n - o) e)
+    go false e = omega (arith, leb-false c (padded n - o) e)

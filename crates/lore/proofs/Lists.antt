@@ -7,15 +7,8 @@ use native.Mathlib.Nat.{zero-sub}
 use native.Mathlib.Numerals.{unary-clauses}
 use native.Mathlib.Omega.{arith}
 use lib.ListN.{length, take, drop, replicate}
-use lib.Seq.{take-nil}
 
 module _ {A : Type 0} where
-  pub drop-take : (n m : ℕ) (l : List A) → drop n (take m l) ≡ take (m - n) (drop n l)
-  drop-take zero m l = simp unary-clauses
-  drop-take (suc n) zero l = rw (zero-sub (suc n))
-  drop-take (suc n) (suc m) [] = rw (take-nil {A = A} (suc m - suc n))
-  drop-take (suc n) (suc m) (x ∷ l) = simp unary-clauses (drop-take n m l)
-
   pub drop-replicate : (n : ℕ) (v : A) (k : ℕ) → drop k (replicate n v) ≡ replicate (n - k) v
   drop-replicate n v zero = simp unary-clauses
   drop-replicate zero v (suc k) = rw (zero-sub (suc k))

@@ -12,7 +12,7 @@ use Rattle.client.specs.declared.Refusal.the-variants.{Io, Device, FirmwareTooL
 use Rattle.client.specs.declared.Progress.{Progress}
 use Rattle.client.specs.declared.Progress.the-variants.{None, Made}
 use Rattle.client.specs.declared.Says.{Says}
-use Rattle.client.specs.declared.Says.the-variants.{Granted, Onward, Over, Refused}
+use Rattle.client.specs.declared.Says.the-variants.{Granted, Closing, Onward, Over, Refused}
 use Rattle.client.specs.Numbers.{numberOf}
 use Rattle.notes.specs.Notes.{going, ending, refusing, heardTag, hasKey, keyOr0, outcomeNote, refusalNote, noteOf, gainOf, heardIn, keyIn, outcomeIn, refusalIn, saysIn, progressIn}
 
@@ -65,6 +65,7 @@ note-refusal OutOfTurn = refl
 pub note-says : (s : Says) → saysIn (noteOf s) ≡ s
 unfolding noteOf saysIn going
 note-says (Granted n) = refl
+note-says (Closing n) = refl
 note-says Onward = refl
 note-says (Over o) = note-outcome o
 note-says (Refused r) = note-refusal r

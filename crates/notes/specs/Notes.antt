@@ -16,7 +16,7 @@ use Rattle.client.specs.declared.Refusal.the-variants.{Io, Device, FirmwareTooL
 use Rattle.client.specs.declared.Progress.{Progress}
 use Rattle.client.specs.declared.Progress.the-variants.{None, Made}
 use Rattle.client.specs.declared.Says.{Says}
-use Rattle.client.specs.declared.Says.the-variants.{Granted, Onward, Over, Refused}
+use Rattle.client.specs.declared.Says.the-variants.{Granted, Closing, Onward, Over, Refused}
 use Rattle.client.specs.Numbers.{numberOf}
 use Rattle.flat.specs.Turns.{noInfo}
 use Rattle.notes.specs.declared.Note.{Note}
@@ -110,6 +110,7 @@ refusalNote number OutOfTurn = refusing number false 0 0 0
 
 unfoldable pub noteOf : Says → Note
 noteOf (Granted n) = going 1 n
+noteOf (Closing n) = going 4 n
 noteOf Onward = going 0 0
 noteOf (Over o) = outcomeNote o
 noteOf (Refused r) = refusalNote (numberOf r) r
@@ -158,7 +159,9 @@ refusalIn n =
 unfoldable pub saysIn : Note → Says
 saysIn n =
     cond (eqb (n .says) 0) Onward
-    (cond (eqb (n .says) 1) (Granted (n .length)) (cond (eqb (n .says) 2) (Over (outcomeIn n)) (Refused (refusalIn n))))
+    (cond (eqb (n .says) 1) (Granted (n .length))
+    (cond (eqb (n .says) 2) (Over (outcomeIn n))
+    (cond (eqb (n .says) 4) (Closing (n .length)) (Refused (refusalIn n)))))
 
 unfoldable pub progressIn : Gain → Progress
 progressIn g = cond (g .made) (Made (g .done) (g .total)) None

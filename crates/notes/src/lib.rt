@@ -177,6 +177,7 @@ pub fn note_of(says: Says) -> Note
 {
     match says {
         Says::Granted(n) => going(1, n as u64),
+        Says::Closing(n) => going(4, n as u64),
         Says::Onward => going(0, 0),
         Says::Over(o) => outcome_note(o),
         Says::Refused(r) => refusal_note(r, client::number(r)),

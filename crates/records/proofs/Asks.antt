@@ -18,6 +18,7 @@ use Rattle.theory.specs.Machine.{path, Phase, asked, mine, other, leaving, Stat
 use Rattle.theory.proofs.Fits.{Held, Fits}
 use Rattle.ids.specs.Ids.{setBit, idOf, idFrom}
 use Rattle.ids.proofs.Laws.{id-of-from}
+use Rattle.ids.proofs.Pack.{pack-one}
 use Rattle.walk.specs.declared.Ask.{Ask}
 use Rattle.walk.specs.declared.Walk.{Walk}
 use Rattle.walk.specs.declared.Phase as P
@@ -25,7 +26,6 @@ use Rattle.walk.specs.declared.Phase.the-variants.{Asked, Mine, Other, Leaving}
 use Rattle.walk.specs.Moves as Moves
 use Rattle.records.specs.Picture.{phaseOf, candidateOf, standingAt, walkOf}
 use Rattle.records.specs.Drive.{bitsAsked}
-use Rattle.records.proofs.Pack.{pack-one}
 
 after : (l : List Bool) (k : ℕ) → getD l k false ≡ bitAfter (drop k l)
 unfolding bitAfter

@@ -23,7 +23,7 @@ use Rattle.steps.specs.declared.Goes.the-variants.{Done, Stopped}
 use Rattle.steps.specs.declared.Next as Code
 use Rattle.walk.specs.Moves as Moves
 use Rattle.steps.specs.Steps as Steps
-use Rattle.records.specs.Picture.{tableOf, nextOf, walkOf, phaseOf}
+use Rattle.records.specs.Picture.{tableOf, endOf, nextOf, walkOf, phaseOf}
 use Rattle.records.specs.Drive.{driven, begun, told}
 use Rattle.records.proofs.Asks.{asks-sim}
 use Rattle.records.proofs.Pack.{pack-bytes}
@@ -94,6 +94,6 @@ lists wire pre le d = go ((run wire 0 (discover pre)) .0) refl
     go : (e : Ended (List Id)) → (run wire 0 (discover pre)) .0 ≡ e → Lists pre ((driven (limit pre) wire 0 (begun pre)) .0)
     go (done ids) f = record { ids = ids; listed = kept-listed wire pre ids f; walk = at ∙ ap (λ r. nextOf (ended r)) f }
     go (stopped c) f =
-        let s : _≡_ {A = Goes} Done (Stopped c) = sym d ∙ ap (λ n. n .goes) (at ∙ ap (λ r. nextOf (ended r)) f) in
+        let s : _≡_ {A = Goes} Done (Stopped (endOf c)) = sym d ∙ ap (λ n. n .goes) (at ∙ ap (λ r. nextOf (ended r)) f) in
         let z : _≡_ {A = ℕ} 0 1 = cc in
         absurd (omega arith)

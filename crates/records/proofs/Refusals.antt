@@ -1,27 +1,33 @@
 -- What a refusal leaves, and what each start answers, of every value of the client.
 -- Assumes nothing.
-use Prim.Native.Nat.{ℕ, _*_}
-use mathlib.Core.Bool.{Bool, true, false}
+use Prim.Native.Nat.{ℕ, _*_, _≤_}
+use mathlib.Core.Bool.{Bool, true, false, _&&_, cond}
 use mathlib.Core.List.{List}
-use mathlib.Core.Path.{_≡_, refl, sym}
-use lib.Dec.{ltb}
+use mathlib.Core.Path.{_≡_, refl, sym, _∙_, ap}
+use native.Mathlib.Omega.{arith}
+use lib.Dec.{leb, ltb}
 use lib.ListN.{length}
+use borrow.Author.Tests.{ltb-true, ltb-false, le-leb, lt-leb}
+use Rattle.paper.specs.Client.{short}
+use Rattle.lore.proofs.Choice.{and-yes, and-not-left, and-not-right, either}
 use Rattle.ids.specs.declared.Id.{Id}
+use Rattle.ids.specs.Ids.{noId, idFrom}
 use Rattle.walk.specs.declared.Walk.{Walk}
+use Rattle.walk.specs.declared.Phase.the-variants.{Asked}
+use Rattle.walk.specs.Moves.{noWalk, begin}
 use Rattle.client.specs.declared.Client.{Client}
+use Rattle.client.specs.declared.Job.the-variants.{Informing, Resetting}
 use Rattle.client.specs.declared.Phase.{Phase}
+use Rattle.client.specs.declared.Phase.the-variants.{Select, Demand, Leave}
+use Rattle.client.specs.declared.Purpose.the-variants.{Tell, Clear, Load}
 use Rattle.client.specs.declared.Refusal.{Refusal}
-use Rattle.client.specs.declared.Refusal.the-variants.{BadPrefix, OutOfTurn}
 use Rattle.client.specs.declared.Reset.{Reset}
-use Rattle.client.specs.declared.Says.the-variants.{Onward, Refused}
+use Rattle.client.specs.declared.Search.the-variants.{Probing, Parting, Seeking, Walking}
 use Rattle.client.specs.declared.Started.{Started}
-use Rattle.client.specs.declared.Turn.the-variants.{Idle}
-use Rattle.client.specs.Clients.{idle, cleared, running, refuse}
-use Rattle.client.specs.Numbers.{numberOf}
+use Rattle.client.specs.declared.Turn.the-variants.{Idle, Ready}
+use Rattle.client.specs.Clients.{begun, idle, cleared}
 use Rattle.starting.specs.Starting.{starts, demands, badPrefix, startSelect, startDeselect, startAttach, startAttachTo, startDiscover, startInfo, startErase, startFlash, resets, startReset, startSetBaud}
-use Rattle.records.specs.Refusals.{keeps, parts, leaves, Begins}
-use Rattle.lore.proofs.Choice.{by-test, either, clash}
-use Rattle.records.proofs.Cases.{unrefused, same-refusal}
+use Rattle.records.specs.Refusals.{keeps, parts, leaves, begins, goodCount, asking, resetPhase}
 
 -- What a refusal leaves.
 module _ (r : Refusal) (c : Client) where
@@ -41,76 +47,94 @@ module _ (r : Refusal) (c : Client) where
   unfolding leaves idle
   leaves-attached h = either (λ (d : Client). (d .attached ≡ c .attached) × (d .id ≡ c .id)) (keeps r) (refl, refl) (rw h (refl, refl))
 
--- Starts.
-late-begins : (c : Client) → running (c .turn) ≡ true → Begins c (refuse c OutOfTurn)
-unfolding keeps numberOf
-late-begins c h = record {
-  refused = λ r e. rw (← same-refusal OutOfTurn r e, h) (refl, (refl, refl));
-  late = λ k. refl;
-  seed = refl;
-}
-
-free-begins : (c : Client) (s : Started) → running (c .turn) ≡ false → ((r : Refusal) → s .says ≡ Refused r → (s .client ≡ c) × (r ≡ BadPrefix)) → s .client .seed ≡ c .seed → Begins c s
-unfolding keeps numberOf
-free-begins c s h k e = record {
-  refused = λ r f. (k r f .0, rw (k r f .1, h) (refl, refl));
-  late = λ l. clash (running (c .turn)) l h;
-  seed = e;
-}
-
+-- Starts: 21, then 13, else it begins.
 module _ (c : Client) where
-  starts-begins : (p : Phase) (x : Id) (bits : ℕ) (w : Walk) → Begins c (starts c p x bits w)
-  unfolding starts
-  starts-begins p x bits w = by-test (Begins c) (running (c .turn)) (late-begins c) (λ h. free-begins c _ h (λ r e. unrefused Onward r refl e) refl)
+  starts-begins : (p : Phase) (x : Id) (bits : ℕ) (w : Walk) → starts c p x bits w ≡ begins c true (begun c (Ready p) x bits w)
+  unfolding starts begins
+  starts-begins p x bits w = refl
 
-  bad-begins : Begins c (badPrefix c)
-  unfolding badPrefix
-  bad-begins = by-test (Begins c) (running (c .turn)) (late-begins c) (λ h. free-begins c (refuse c BadPrefix) h (λ r e. (refl, sym (same-refusal BadPrefix r e))) refl)
+  bad-begins : (next : Client) → badPrefix c ≡ begins c false next
+  unfolding badPrefix begins
+  bad-begins next = refl
 
-  demands-begins : (p : Phase) → Begins c (demands c p)
-  unfolding demands
-  demands-begins p = starts-begins p _ _ _
+  -- By what a test says of the arguments.
+  module _ (next : Client) (test : Bool) where
+    good : (s : Started) → s ≡ begins c true next → test ≡ true → s ≡ begins c test next
+    good s f e = f ∙ ap (λ (b : Bool). begins c b next) (sym e)
 
-  resets-begins : (reset : Reset) (inBoot : Bool) → Begins c (resets c reset inBoot)
-  unfolding resets
-  resets-begins reset inBoot = either (Begins c) inBoot (demands-begins _) (demands-begins _)
+    bad : test ≡ false → badPrefix c ≡ begins c test next
+    bad e = bad-begins next ∙ ap (λ (b : Bool). begins c b next) (sym e)
 
-  pub select-begins : (bytes : List ℕ) (bits : ℕ) → Begins c (startSelect c bytes bits)
+  by-length : (bytes : List ℕ) (next : Client) (s : Started) → s ≡ begins c true next → cond (ltb 16 (length bytes)) (badPrefix c) s ≡ begins c (short bytes) next
+  by-length bytes next s f = go (ltb 16 (length bytes)) refl
+    where
+      go : (b : Bool) → ltb 16 (length bytes) ≡ b → cond b (badPrefix c) s ≡ begins c (short bytes) next
+      go true e = bad next (short bytes) (lt-leb (length bytes) 16 (ltb-true 16 (length bytes) e))
+      go false e = good next (short bytes) s f (le-leb (length bytes) 16 (ltb-false 16 (length bytes) e))
+
+  pub select-begins : (bytes : List ℕ) (bits : ℕ) → startSelect c bytes bits ≡ begins c (goodCount bytes bits) (begun c (Ready (Select Probing)) (idFrom bytes) bits noWalk)
   unfolding startSelect
-  select-begins bytes bits = either (Begins c) (ltb 16 (length bytes)) bad-begins (either (Begins c) (ltb (8 * length bytes) bits) bad-begins (starts-begins _ _ _ _))
+  select-begins bytes bits = go (ltb 16 (length bytes)) refl (ltb (8 * length bytes) bits) refl
+    where
+      next : Client
+      next = begun c (Ready (Select Probing)) (idFrom bytes) bits noWalk
 
-  pub deselect-begins : Begins c (startDeselect c)
+      go : (a : Bool) → ltb 16 (length bytes) ≡ a → (b : Bool) → ltb (8 * length bytes) bits ≡ b
+          → cond a (badPrefix c) (cond b (badPrefix c) (starts c (Select Probing) (idFrom bytes) bits noWalk)) ≡ begins c (goodCount bytes bits) next
+      go true e b f = bad next (goodCount bytes bits) (and-not-left (short bytes) (leb bits 128 && leb bits (8 * length bytes)) (lt-leb (length bytes) 16 (ltb-true 16 (length bytes) e)))
+      go false e true f =
+          bad next (goodCount bytes bits)
+          (and-not-right (short bytes) (leb bits 128 && leb bits (8 * length bytes)) (and-not-right (leb bits 128) (leb bits (8 * length bytes)) (lt-leb bits (8 * length bytes) (ltb-true (8 * length bytes) bits f))))
+      go false e false f =
+          let l : length bytes ≤ 16 = ltb-false 16 (length bytes) e in
+          let m : bits ≤ 8 * length bytes = ltb-false (8 * length bytes) bits f in
+          good next (goodCount bytes bits) (starts c (Select Probing) (idFrom bytes) bits noWalk) (starts-begins (Select Probing) (idFrom bytes) bits noWalk)
+          (and-yes (short bytes) (leb bits 128 && leb bits (8 * length bytes)) (le-leb (length bytes) 16 l)
+          (and-yes (leb bits 128) (leb bits (8 * length bytes)) (le-leb bits 128 (omega arith)) (le-leb bits (8 * length bytes) m)))
+
+  pub deselect-begins : startDeselect c ≡ begins c true (begun c (Ready (Select Parting)) noId 0 noWalk)
   unfolding startDeselect
   deselect-begins = starts-begins _ _ _ _
 
-  pub attach-begins : Begins c (startAttach c)
+  pub attach-begins : startAttach c ≡ begins c true (begun c (Ready (Select (Seeking false))) noId 0 noWalk)
   unfolding startAttach
   attach-begins = starts-begins _ _ _ _
 
-  pub attach-to-begins : (bytes : List ℕ) → Begins c (startAttachTo c bytes)
+  pub attach-to-begins : (bytes : List ℕ) → startAttachTo c bytes ≡ begins c (short bytes) (begun c (Ready (Select (Seeking true))) (idFrom bytes) 0 noWalk)
   unfolding startAttachTo
-  attach-to-begins bytes = either (Begins c) (ltb 16 (length bytes)) bad-begins (starts-begins _ _ _ _)
+  attach-to-begins bytes = by-length bytes _ _ (starts-begins _ _ _ _)
 
-  pub discover-begins : (bytes : List ℕ) → Begins c (startDiscover c bytes)
+  pub discover-begins : (bytes : List ℕ) → startDiscover c bytes ≡ begins c (short bytes) (begun c (Ready (Select (Walking Asked))) noId 0 (begin (idFrom bytes)))
   unfolding startDiscover
-  discover-begins bytes = either (Begins c) (ltb 16 (length bytes)) bad-begins (starts-begins _ _ _ _)
+  discover-begins bytes = by-length bytes _ _ (starts-begins _ _ _ _)
 
-  pub info-begins : Begins c (startInfo c)
+  demands-begins : (p : Phase) → demands c p ≡ begins c true (asking c p)
+  unfolding demands
+  demands-begins p = starts-begins p _ _ _
+
+  pub info-begins : startInfo c ≡ begins c true (asking c (Demand (Informing Tell)))
   unfolding startInfo
   info-begins = demands-begins _
 
-  pub erase-begins : Begins c (startErase c)
+  pub erase-begins : startErase c ≡ begins c true (asking c (Demand (Informing Clear)))
   unfolding startErase
   erase-begins = demands-begins _
 
-  pub flash-begins : (image : List ℕ) → Begins c (startFlash c image)
+  pub flash-begins : (image : List ℕ) → startFlash c image ≡ begins c true (asking c (Demand (Informing (Load (length image)))))
   unfolding startFlash
   flash-begins image = demands-begins _
 
-  pub reset-begins : (bootloader inBoot : Bool) → Begins c (startReset c bootloader inBoot)
+  resets-begins : (reset : Reset) (inBoot : Bool) → resets c reset inBoot ≡ begins c true (asking c (resetPhase reset inBoot))
+  unfolding resets
+  resets-begins reset true = demands-begins _
+  resets-begins reset false = demands-begins _
+
+  pub reset-begins : (bootloader inBoot : Bool)
+      → startReset c bootloader inBoot ≡ begins c true (asking c (resetPhase (record { bootloader = bootloader; given = false; baud = 0 }) inBoot))
   unfolding startReset
   reset-begins bootloader inBoot = resets-begins _ inBoot
 
-  pub set-baud-begins : (baud : ℕ) (bootloader inBoot : Bool) → Begins c (startSetBaud c baud bootloader inBoot)
+  pub set-baud-begins : (baud : ℕ) (bootloader inBoot : Bool)
+      → startSetBaud c baud bootloader inBoot ≡ begins c true (asking c (resetPhase (record { bootloader = bootloader; given = true; baud = baud }) inBoot))
   unfolding startSetBaud
   set-baud-begins baud bootloader inBoot = resets-begins _ inBoot

@@ -21,6 +21,8 @@ use Rattle.image.specs.Images.{paperInfo, shownInfo, eraseAfter}
 use Rattle.pieces.specs.Pieces.{isLast}
 use Rattle.table.specs.declared.Table.{Table}
 use Rattle.walk.specs.declared.Walk.{Walk}
+use Rattle.steps.specs.declared.End.{End}
+use Rattle.steps.specs.declared.End.the-variants as End
 use Rattle.steps.specs.declared.Goes.{Goes}
 use Rattle.steps.specs.declared.Goes.the-variants as Goes
 use Rattle.steps.specs.Steps as Steps
@@ -124,28 +126,38 @@ not-io : {A : Type 0} (q : Refusal) → q ≡ Io → eqb (numberOf q) 1 ≡ fals
 unfolding numberOf
 not-io q e m = clash (eqb (numberOf q) 1) (ap (λ (x : Refusal). eqb (numberOf x) 1) e) m
 
--- What a record of n bytes makes of a client.
-record Tells (c : Client) (n : ℕ) (t : Told) : Type 0 where
+-- What a record of n bytes leaves of a client.
+record Leaves (c : Client) (n : ℕ) (t : Told) : Type 0 where
   client : (r : Refusal) → t .says ≡ Refused r → t .client ≡ leaves r c
   lost : t .says ≡ Refused Io → t .rest ≡ n
   whole : (r : Refusal) → t .says ≡ Refused r → keeps r ≡ true → t .rest ≡ 0
   seed : t .client .seed ≡ c .seed
 
-module _ (c : Client) (n : ℕ) where
-  unrefused-tells : (t : Told) → isRefused (t .says) ≡ false → t .client .seed ≡ c .seed → Tells c n t
-  unrefused-tells t h e = record {
-    client = λ r k. unrefused (t .says) r h k;
-    lost = λ k. unrefused (t .says) Io h k;
-    whole = λ r k. unrefused (t .says) r h k;
-    seed = e;
-  }
+-- One that is read, in turn and with the image that runs: each refusal ends the operation.
+record Tells (c : Client) (n : ℕ) (t : Told) : Type 0 where
+  client : (r : Refusal) → t .says ≡ Refused r → t .client ≡ leaves r c
+  lost : t .says ≡ Refused Io → t .rest ≡ n
+  ends : (r : Refusal) → t .says ≡ Refused r → keeps r ≡ false
+  seed : t .client .seed ≡ c .seed
 
-  refuses-tells : (q : Refusal) → keeps q ≡ true → eqb (numberOf q) 1 ≡ false → Tells c n (refuses c q)
-  refuses-tells q h m = record {
+module _ (c : Client) (n : ℕ) where
+  told-leaves : (t : Told) → Tells c n t → Leaves c n t
+  told-leaves t h = record { client = h .client; lost = h .lost; whole = λ r e k. clash (keeps r) k (h .ends r e); seed = h .seed }
+
+  refuses-leaves : (q : Refusal) → keeps q ≡ true → eqb (numberOf q) 1 ≡ false → Leaves c n (refuses c q)
+  refuses-leaves q h m = record {
     client = λ r e. rw (← same-refusal q r e) (sym (leaves-kept q c h));
     lost = λ e. not-io q (same-refusal q Io e) m;
     whole = λ r e k. refl;
     seed = refl;
+  }
+
+  unrefused-tells : (t : Told) → isRefused (t .says) ≡ false → t .client .seed ≡ c .seed → Tells c n t
+  unrefused-tells t h e = record {
+    client = λ r k. unrefused (t .says) r h k;
+    lost = λ k. unrefused (t .says) Io h k;
+    ends = λ r k. unrefused (t .says) r h k;
+    seed = e;
   }
 
   ends : (at : ℕ) (d : Client) (q : Refusal) (x : Id) (t : Table) → idle d ≡ leaves q c → (q ≡ Io → at ≡ n) → keeps q ≡ false → Tells c n (over d (Refused q) x t at)
@@ -153,7 +165,7 @@ module _ (c : Client) (n : ℕ) where
   ends at d q x t ed ea k = record {
     client = λ r e. rw (← same-refusal q r e) ed;
     lost = λ e. ea (same-refusal q Io e);
-    whole = λ r e h. clash (keeps r) h (rw (← same-refusal q r e) k);
+    ends = λ r e. rw (← same-refusal q r e) k;
     seed = ap (λ (y : Client). y .seed) ed ∙ leaves-seed q c;
   }
 
@@ -181,21 +193,18 @@ module _ (c : Client) (n : ℕ) where
     backed-tells true = ends-tells true Refusal.AmbiguousUid _ _ refl refl refl
     backed-tells false = ends-tells true Refusal.SeveralDevices _ _ refl refl refl
 
-    stopped-tells : (k : ℕ) → Tells c n (stops c (stopOf k) at)
+    stopped-tells : (end : End) → Tells c n (stops c (stopOf end) at)
     unfolding stopOf over idle keeps parts numberOf
-    stopped-tells k =
-        either says (eqb k 12) (ends-tells false Refusal.DuplicateUid _ _ refl refl refl)
-        (either says (eqb k 14) (ends-tells false Refusal.LongId _ _ refl refl refl)
-        (either says (eqb k 15) (ends-tells false Refusal.TableFull _ _ refl refl refl) (unrefused-tells _ refl refl)))
-      where
-        says : Says → Type 0
-        says s = Tells c n (stops c s at)
+    stopped-tells End.DuplicateUid = ends-tells false Refusal.DuplicateUid _ _ refl refl refl
+    stopped-tells End.LongId = ends-tells false Refusal.LongId _ _ refl refl refl
+    stopped-tells End.TableFull = ends-tells false Refusal.TableFull _ _ refl refl refl
+    stopped-tells End.Unaddressed = unrefused-tells _ refl refl
 
     walked-tells : (g : Goes) (w : Walk) → Tells c n (walked c g w at)
     unfolding walked over onward idle cleared
     walked-tells (Goes.On p) w = unrefused-tells _ refl refl
     walked-tells Goes.Done w = unrefused-tells _ refl refl
-    walked-tells (Goes.Stopped k) w = stopped-tells k
+    walked-tells (Goes.Stopped end) w = stopped-tells end
 
     probed-tells : (h : Heard) (x : Id) → Tells c n (probed c h x at)
     unfolding probed over idle keeps parts numberOf
@@ -232,25 +241,27 @@ module _ (c : Client) (image bytes : List ℕ) where
   answered-tells (Demand j) = tells-tells c (length bytes) j image bytes refl
   answered-tells (Leave reset) = unrefused-tells c (length bytes) _ refl refl
 
-  record-tells : Tells c (length bytes) (record′ c image bytes)
+  record-leaves : Leaves c (length bytes) (record′ c image bytes)
   unfolding record′ keeps numberOf
-  record-tells =
-      each-turn (λ (t : Turn) (o : Told). Tells c (length bytes) o) (c .turn)
-      (refuses-tells c (length bytes) OutOfTurn refl refl)
-      (λ p. refuses-tells c (length bytes) OutOfTurn refl refl)
-      (λ p. either (Tells c (length bytes)) (otherImage p (length image)) (refuses-tells c (length bytes) OtherImage refl refl) (answered-tells p))
+  record-leaves =
+      each-turn (λ (t : Turn) (o : Told). Leaves c (length bytes) o) (c .turn)
+      (refuses-leaves c (length bytes) OutOfTurn refl refl)
+      (λ p. refuses-leaves c (length bytes) OutOfTurn refl refl)
+      (λ p.
+      either (Leaves c (length bytes)) (otherImage p (length image)) (refuses-leaves c (length bytes) OtherImage refl refl)
+      (told-leaves c (length bytes) _ (answered-tells p)))
 
   pub told-refused : (r : Refusal) → record′ c image bytes .says ≡ Refused r → record′ c image bytes .client ≡ leaves r c
-  told-refused = record-tells .client
+  told-refused = record-leaves .client
 
   pub told-lost : record′ c image bytes .says ≡ Refused Io → record′ c image bytes .rest ≡ length bytes
-  told-lost = record-tells .lost
+  told-lost = record-leaves .lost
 
   pub told-kept : (r : Refusal) → record′ c image bytes .says ≡ Refused r → keeps r ≡ true → record′ c image bytes .rest ≡ 0
-  told-kept = record-tells .whole
+  told-kept = record-leaves .whole
 
   pub told-seed : record′ c image bytes .client .seed ≡ c .seed
-  told-seed = record-tells .seed
+  told-seed = record-leaves .seed
 
   -- "Order: 21, 20, .. then the record."
   pub told-idle : c .turn ≡ Idle → record′ c image bytes ≡ refuses c OutOfTurn
@@ -264,6 +275,10 @@ module _ (c : Client) (image bytes : List ℕ) where
   pub told-waiting : (p : Phase) → c .turn ≡ Waiting p → record′ c image bytes ≡ cond (otherImage p (length image)) (refuses c OtherImage) (answeredTo c p image bytes)
   unfolding record′
   told-waiting p e = sym (at-waiting (c .turn) _ _ _ p e)
+
+  -- A record that is read is refused with nothing that changes no state: 20 and 21 are given where they are due alone.
+  pub told-due : (p : Phase) → c .turn ≡ Waiting p → otherImage p (length image) ≡ false → (r : Refusal) → record′ c image bytes .says ≡ Refused r → keeps r ≡ false
+  told-due p e h r f = answered-tells p .ends r (ap (λ (t : Told). t .says) (sym (told-waiting p e ∙ rw h)) ∙ f)
 
 -- A failed link.
 module _ (c : Client) where
@@ -279,13 +294,16 @@ module _ (c : Client) where
   unfolding linkFailed
   failed-waiting p e = sym (at-waiting (c .turn) _ _ _ p e)
 
-  failed-tells : Tells c 0 (linkFailed c)
+  failed-leaves : Leaves c 0 (linkFailed c)
   unfolding linkFailed keeps numberOf
-  failed-tells =
-      each-turn (λ (t : Turn) (o : Told). Tells c 0 o) (c .turn) (refuses-tells c 0 OutOfTurn refl refl) (λ p. refuses-tells c 0 OutOfTurn refl refl) (λ p. lost-tells c 0)
+  failed-leaves =
+      each-turn (λ (t : Turn) (o : Told). Leaves c 0 o) (c .turn)
+      (refuses-leaves c 0 OutOfTurn refl refl)
+      (λ p. refuses-leaves c 0 OutOfTurn refl refl)
+      (λ p. told-leaves c 0 _ (lost-tells c 0))
 
   pub failed-refused : (r : Refusal) → linkFailed c .says ≡ Refused r → linkFailed c .client ≡ leaves r c
-  failed-refused = failed-tells .client
+  failed-refused = failed-leaves .client
 
   pub failed-seed : linkFailed c .client .seed ≡ c .seed
-  failed-seed = failed-tells .seed
+  failed-seed = failed-leaves .seed

@@ -10,10 +10,9 @@ use native.Mathlib.Omega.{arith}
 use lib.Dec.{ltb}
 use lib.ListN.{length, take, drop, replicate, length-take}
 use lib.Seq.{take-append-le, take-all}
-use borrow.Author.Tests.{le-ltb}
-use Rattle.paper.specs.Client.{otherLength, seedAfter, payloadOf, demandFrame, bytesOf, granted}
+use Rattle.paper.specs.Client.{otherLength, seedAfter, payloadOf, demandFrame, bytesOf, handing}
 use Rattle.paper.specs.Flash.{resetRequest}
-use Rattle.paper.specs.Frame.{le, most, Frame, frameBytes}
+use Rattle.paper.specs.Frame.{le, most, frameBytes}
 use Rattle.paper.specs.Hearing as Paper
 use Rattle.paper.specs.Hearing.{Prefix, bitsOf, counting, selectPayload, selectFrame}
 use Rattle.paper.specs.Talk.{Demand}
@@ -30,17 +29,15 @@ use Rattle.theory.proofs.FlashBytes.{write-carries}
 use Rattle.theory.proofs.Keeping.{FitsSearch, FitsPhase, FitsTurn, Fits}
 use Rattle.ids.specs.Ids.{noId, idOf, idFrom}
 use Rattle.ids.proofs.Laws.{id-of-from}
-use Rattle.wire.specs.declared.Written.the-variants as Written
-use Rattle.frame.specs.Writing as Frame
 use Rattle.select.specs.Selects.{asked}
 use Rattle.walk.specs.Moves as Moves
-use Rattle.client.specs.declared.Refusal.the-variants.{OtherImage}
+use Rattle.client.specs.declared.Refusal.the-variants.{ShortBuffer, OtherImage}
 use Rattle.client.specs.Clients as Clients
 use Rattle.demands.specs.Demands.{resetOf, demandOf}
 use Rattle.asking.specs.Asking as Code
-use Rattle.asking.specs.Asking.{Asking, asks, handing, withheld, askedFor}
+use Rattle.asking.specs.Asking.{asks, withheld, askedFor}
 use Rattle.records.specs.Picture.{walkOf, phaseOf}
-use Rattle.records.specs.Clients.{searchIn, resetIn, jobIn, phaseIn, recordOf, clientOf, refusedAs, askedAs}
+use Rattle.records.specs.Clients.{searchIn, resetIn, jobIn, phaseIn, recordOf, clientOf, refusedAs, shownSays, askedAs}
 use Rattle.records.proofs.Asks.{asks-sim, asks-count, nobody-back}
 use Rattle.records.proofs.Jobs.{other-sim, same-length}
 
@@ -125,54 +122,53 @@ demand-short (writing n info offset retries) image e =
 demand-short (verifying n info) image e = omega arith
 demand-short (resetting bootloader baud) image e = omega arith
 
-written-short : (f : Frame) (buffer : List ℕ) → length (f .payload) ≤ most → Frame.written f buffer ≡ Frame.placed (frameBytes f) buffer
-unfolding Frame.written
-written-short f buffer h = rw (le-ltb most (length (f .payload)) h)
+-- What a client of the machine says and leaves once its request is handed out.
+handing-sim : (ph : Phase) (n : ℕ) → Code.handing (phaseIn ph) n ≡ shownSays (handing (Phases.request ph) n) .says
+unfolding Code.handing
+handing-sim (selecting s) n = refl
+handing-sim (demanding j) n = refl
+handing-sim (leaving bootloader baud) n = refl
 
--- The request handed out, or a buffer too short for it.
-placed-sim : (c : Machine.Client) (seed : ℕ) (ph : Phase) (bytes buffer : List ℕ)
-    → handing (clientOf (turned c (ready ph))) (clientOf (record { seed = seed; id = c .id; turn = handedOut ph })) (Frame.placed bytes buffer) ≡ askedAs (grant (turned c (ready ph)) bytes seed ph buffer)
-unfolding handing Frame.placed Code.granted grant refusedAs
-placed-sim c seed ph bytes buffer = go (ltb (length buffer) (length bytes))
-  where
-    next : Machine.Client
-    next = record { seed = seed; id = c .id; turn = handedOut ph }
+module _ (c : Machine.Client) where
+  handed-sim : (ph : Phase)
+      → Code.handed (clientOf (turned c (ready ph))) (phaseIn ph) ≡ clientOf (record { seed = seedAfter (Phases.request ph) (c .seed); id = c .id; turn = handedOut ph })
+  unfolding Code.handed handedOut Clients.idle
+  handed-sim (selecting s) = refl
+  handed-sim (demanding j) = refl
+  handed-sim (leaving bootloader baud) = refl
 
-    go : (b : Bool)
-        → handing (clientOf (turned c (ready ph))) (clientOf next)
-        (cond b (record { answer = Written.Short (length bytes); bytes = buffer }) (record { answer = Written.Done (length bytes); bytes = bytes ++ drop (length bytes) buffer }))
-        ≡ askedAs (cond b (withholds (turned c (ready ph)) 16 (length bytes ∷ []) buffer) (record { says = granted (length bytes); client = next; buffer = bytes ++ drop (length bytes) buffer }))
-    go true = refl
-    go false = refl
+  -- The request handed out, or a buffer too short for it.
+  granting-sim : (ph : Phase) (bytes buffer : List ℕ)
+      → Code.granting (clientOf (turned c (ready ph))) (phaseIn ph) bytes buffer ≡ askedAs (grant (turned c (ready ph)) bytes (seedAfter (Phases.request ph) (c .seed)) ph buffer)
+  unfolding Code.granting grant refusedAs
+  granting-sim ph bytes buffer = go (ltb (length buffer) (length bytes))
+    where
+      next : Machine.Client
+      next = record { seed = seedAfter (Phases.request ph) (c .seed); id = c .id; turn = handedOut ph }
+
+      go : (b : Bool)
+          → cond b (withheld (clientOf (turned c (ready ph))) (ShortBuffer (length bytes)) buffer)
+          (record { answer = record { says = Code.handing (phaseIn ph) (length bytes); client = Code.handed (clientOf (turned c (ready ph))) (phaseIn ph) }; bytes = bytes ++ drop (length bytes) buffer })
+          ≡ askedAs (cond b (withholds (turned c (ready ph)) 16 (length bytes ∷ []) buffer) (record { says = handing (Phases.request ph) (length bytes); client = next; buffer = bytes ++ drop (length bytes) buffer }))
+      go true = refl
+      go false = λ i. record { answer = record { says = handing-sim ph (length bytes) i; client = handed-sim ph i }; bytes = bytes ++ drop (length bytes) buffer }
 
 module _ (c : Machine.Client) (image buffer : List ℕ) where
   abbrev bytes : Phase → List ℕ
   bytes ph = bytesOf (Phases.request ph) (seedAfter (Phases.request ph) (c .seed)) image
 
+  -- The request's bytes are the machine's.
+  frame-sim : (ph : Phase) → FitsPhase ph → otherLength (lends ph) image ≡ false → frameBytes (Code.frameOf (clientOf (turned c (ready ph))) (phaseIn ph) image) ≡ bytes ph
+  unfolding Code.frameOf Code.searchFrame bytesOf payloadOf
+  frame-sim (selecting s) f e = ap (λ (q : Prefix). frameBytes (selectFrame (Code.nextSeed (c .seed)) q)) (search-asks (c .seed) (c .id) s f)
+  frame-sim (demanding j) f e = ap (λ (d : Demand). frameBytes (demandFrame d image)) (demand-same j image e)
+  frame-sim (leaving bootloader baud) f e = ap (λ (d : Demand). frameBytes (demandFrame d [])) (reset-same bootloader baud)
+
   asked-sim : (ph : Phase) → FitsPhase ph → otherLength (lends ph) image ≡ false
       → askedFor (clientOf (turned c (ready ph))) (phaseIn ph) image buffer ≡ askedAs (grant (turned c (ready ph)) (bytes ph) (seedAfter (Phases.request ph) (c .seed)) ph buffer)
-  unfolding askedFor Code.selects handedOut bytesOf payloadOf Clients.idle
-  asked-sim (selecting s) f e =
-      ap (λ (q : Prefix). given (Frame.written (selectFrame (Code.nextSeed (c .seed)) q) buffer)) (search-asks (c .seed) (c .id) s f)
-      ∙ ap given (written-short (selectFrame (Code.nextSeed (c .seed)) (selected s)) buffer (omega (arith, search-bits s f, payload-length (Code.nextSeed (c .seed)) (selected s))))
-      ∙ placed-sim c (Code.nextSeed (c .seed)) (selecting s) (bytes (selecting s)) buffer
-    where
-      given : Frame.Outcome → Asking
-      given o = handing (clientOf (turned c (ready (selecting s)))) (clientOf (record { seed = Code.nextSeed (c .seed); id = c .id; turn = waiting (selecting s) })) o
-  asked-sim (demanding j) f e =
-      ap (λ (d : Demand). given (Frame.written (demandFrame d image) buffer)) (demand-same j image e)
-      ∙ ap given (written-short (demandFrame (demanded j) image) buffer (demand-short j image e))
-      ∙ placed-sim c (c .seed) (demanding j) (bytes (demanding j)) buffer
-    where
-      given : Frame.Outcome → Asking
-      given o = handing (clientOf (turned c (ready (demanding j)))) (clientOf (record { seed = c .seed; id = c .id; turn = waiting (demanding j) })) o
-  asked-sim (leaving bootloader baud) f e =
-      ap (λ (d : Demand). given (Frame.written (demandFrame d []) buffer)) (reset-same bootloader baud)
-      ∙ ap given (written-short (demandFrame (resetRequest bootloader baud) []) buffer (omega arith))
-      ∙ placed-sim c (c .seed) (leaving bootloader baud) (bytes (leaving bootloader baud)) buffer
-    where
-      given : Frame.Outcome → Asking
-      given o = handing (clientOf (turned c (ready (leaving bootloader baud)))) (clientOf (turned c idle)) o
+  unfolding askedFor
+  asked-sim ph f e =
+      ap (λ (l : List ℕ). Code.granting (clientOf (turned c (ready ph))) (phaseIn ph) l buffer) (frame-sim ph f e) ∙ granting-sim c ph (bytes ph) buffer
 
 pub request-asked : (c : Machine.Client) → Fits c → (image buffer : List ℕ) → Code.request (clientOf c) image buffer ≡ askedAs (Machine.request c image buffer)
 unfolding Code.request Machine.request refusedAs

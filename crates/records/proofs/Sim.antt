@@ -14,11 +14,13 @@ use Rattle.paper.specs.Hearing.{Prefix, bitsOf, matches, packed, nothing, one, 
 use Rattle.paper.specs.Walk.{long, isNothing, sameId, isOne, done, stopped}
 use Rattle.lore.proofs.Bits.{bits-length}
 use Rattle.lore.proofs.Packed.{packed-zero, packed-read}
+use Rattle.theory.specs.Machine as Machine
 use Rattle.theory.specs.Machine.{Marks, path, Phase, asked, mine, other, leaving, State, ended, to, leave, descend, silent, kept, confirming, hears, tell, tooLong, step}
 use Rattle.theory.proofs.Fits.{Short, Held, Fits}
 use Rattle.ids.specs.declared.Id.{Id}
 use Rattle.ids.specs.Ids.{setBit, noId, idFrom}
 use Rattle.ids.proofs.Laws.{id-of-from}
+use Rattle.ids.proofs.Pack.{pack-one}
 use Rattle.path.specs.Paths.{cut}
 use Rattle.hearing.specs.declared.Heard.the-variants.{One, TooLong}
 use Rattle.hearing.specs.declared.Hearing.{Hearing}
@@ -27,13 +29,14 @@ use Rattle.table.specs.declared.Table.{Table}
 use Rattle.table.specs.Rows.{keep}
 use Rattle.walk.specs.declared.Walk.{Walk}
 use Rattle.walk.specs.declared.Phase.the-variants.{Asked, Other}
+use Rattle.steps.specs.declared.End.the-variants.{DuplicateUid, LongId, TableFull}
 use Rattle.steps.specs.declared.Goes.the-variants.{Done}
 use Rattle.steps.specs.declared.Next.{Next}
 use Rattle.walk.specs.Moves as Moves
 use Rattle.steps.specs.Steps as Code
 use Rattle.records.specs.Picture.{padded, levels, rowOf, tableOf, candidateOf, phaseOf, standingAt, walkOf, nextOf}
 use Rattle.records.proofs.Levels.{length-levels, pad-set, pad-reset, pad-clear, lastMark, mark-of}
-use Rattle.records.proofs.Pack.{pack-one, pack-cut}
+use Rattle.records.proofs.Pack.{pack-cut}
 use Rattle.records.proofs.Tables.{table-keep, table-sorted}
 
 pub stand : (t : Table) (x : Id) {p q : List ℕ} {d e : ℕ} {m n : List ℕ} → p ≡ q → d ≡ e → m ≡ n
@@ -119,7 +122,7 @@ module _ (pre : Prefix) where
     descend-sim marks = go (ltb (length (path pre marks)) 128) refl
       where
         go : (b : Bool) → ltb (length (path pre marks)) 128 ≡ b
-            → cond b (Code.going Asked (Moves.lower (standingAt pre marks ids noId))) (Code.stopped 12) ≡ nextOf (cond b (to pre (false ∷ marks) ids asked) (ended (stopped 12)))
+            → cond b (Code.going Asked (Moves.lower (standingAt pre marks ids noId))) (Code.stopped DuplicateUid) ≡ nextOf (cond b (to pre (false ∷ marks) ids asked) (ended (stopped 12)))
         go true e = ap (Code.going Asked) (lower-sim marks (ltb-true (length (path pre marks)) 128 e))
         go false e = refl
 
@@ -135,7 +138,7 @@ module _ (pre : Prefix) where
     kept-sim id = go (ltb (length ids) 64)
       where
         go : (b : Bool)
-            → cond b (Code.leave (Moves.finding (standingAt pre marks ids noId) (keep (tableOf ids) (rowOf id)))) (Code.stopped 15)
+            → cond b (Code.leave (Moves.finding (standingAt pre marks ids noId) (keep (tableOf ids) (rowOf id)))) (Code.stopped TableFull)
             ≡ nextOf (cond b (leave pre marks (ids ++ (id ∷ []))) (ended (stopped 15)))
         go true = ap (λ (t : Table). Code.leave (Moves.finding (standingAt pre marks ids noId) t)) (table-keep ids id) ∙ leave-sim (ids ++ (id ∷ [])) marks h
         go false = refl
@@ -173,42 +176,61 @@ pub told : (x : Paper.Id) → long (one x) ≡ false → oneHeard x ≡ record {
 unfolding long oneHeard
 told x e = rw e
 
-one-is : (id : Paper.Id) (h : Paper.Heard) → Short id → long h ≡ false → Code.isOne (idFrom id) (shownHeard h .heard) (shownHeard h .id) ≡ isOne id h
-unfolding Code.isOne isOne
-one-is id nothing s e = refl
-one-is id (one x) s e =
-    ap (λ (r : Hearing). Code.isOne (idFrom id) (r .heard) (r .id)) (told x e) ∙ ap₂ sameId (id-of-from x (short-of x e)) (id-of-from id s)
-one-is id unaddressed s e = refl
-one-is id garble s e = refl
-
-nothing-is : (h : Paper.Heard) → Code.isNothing (shownHeard h .heard) ≡ isNothing h
-unfolding Code.isNothing isNothing oneHeard
-nothing-is nothing = refl
-nothing-is (one x) = go (ltb 16 (length x))
+-- One that is too long ends the walk.
+heard-one : (x : Paper.Id) (f : Hearing → Next) (m : Machine.Next) → f (heardAs TooLong) ≡ Code.stopped LongId → (Short x → f (record { heard = One; id = idFrom x }) ≡ nextOf m)
+    → f (oneHeard x) ≡ nextOf (cond (long (one x)) (ended (stopped 14)) m)
+unfolding long oneHeard
+heard-one x f m e g = go (ltb 16 (length x)) refl
   where
-    go : (b : Bool) → Code.isNothing (cond b (heardAs TooLong) (record { heard = One; id = idFrom x }) .heard) ≡ false
-    go true = refl
-    go false = refl
-nothing-is unaddressed = refl
-nothing-is garble = refl
+    go : (b : Bool) → ltb 16 (length x) ≡ b → f (cond b (heardAs TooLong) (record { heard = One; id = idFrom x })) ≡ nextOf (cond b (ended (stopped 14)) m)
+    go true t = e
+    go false t = g (ltb-false 16 (length x) t)
 
 module _ (pre : Prefix) (marks : Marks) (ids : List Paper.Id) (d : length (path pre marks) ≤ 128) (f : length ids ≤ 64) (s : All Short ids) where
-  hears-sim : (h : Paper.Heard) → long h ≡ false → Code.hears (standingAt pre marks ids noId) (shownHeard h .heard) (shownHeard h .id) ≡ nextOf (hears pre marks ids h)
-  unfolding Code.hears hears
-  hears-sim nothing e = silent-sim pre ids marks d
-  hears-sim (one x) e =
-      ap (λ (r : Hearing). Code.hears (standingAt pre marks ids noId) (r .heard) (r .id)) (told x e) ∙ one-sim pre marks ids d x (short-of x e)
-  hears-sim unaddressed e = refl
-  hears-sim garble e = descend-sim pre ids marks
+  -- The machine's step of a phase, refused where the id heard is too long.
+  abbrev steps : Phase → Paper.Heard → Machine.Next
+  steps phase h = cond (tooLong phase h) (ended (stopped 14)) (tell pre marks ids phase h)
 
-  tell-sim : (phase : Phase) (h : Paper.Heard) → Held (path pre marks) phase → tooLong phase h ≡ false
-      → Code.tell (standingAt pre marks ids (candidateOf phase)) (phaseOf phase) (shownHeard h .heard) (shownHeard h .id) ≡ nextOf (tell pre marks ids phase h)
+  hears-sim : (h : Paper.Heard) → Code.hears (standingAt pre marks ids noId) (shownHeard h .heard) (shownHeard h .id) ≡ nextOf (steps asked h)
+  unfolding Code.hears hears tooLong tell long
+  hears-sim nothing = silent-sim pre ids marks d
+  hears-sim (one x) =
+      heard-one x (λ (r : Hearing). Code.hears (standingAt pre marks ids noId) (r .heard) (r .id)) (hears pre marks ids (one x)) refl (one-sim pre marks ids d x)
+  hears-sim unaddressed = refl
+  hears-sim garble = descend-sim pre ids marks
+
+  module _ (id : Paper.Id) where
+    abbrev holding : Walk
+    holding = standingAt pre marks ids (idFrom id)
+
+    mine-sim : Short id → (h : Paper.Heard) → Code.mine holding (shownHeard h .heard) (shownHeard h .id) ≡ nextOf (steps (mine id) h)
+    unfolding Code.mine isOne tooLong tell long
+    mine-sim k nothing = refl
+    mine-sim k (one x) =
+        heard-one x (λ (r : Hearing). Code.mine holding (r .heard) (r .id)) (tell pre marks ids (mine id) (one x)) refl
+        (λ l. ap (λ (b : Bool). Code.going (Other b) holding) (ap₂ sameId (id-of-from x l) (id-of-from id k)))
+    mine-sim k unaddressed = refl
+    mine-sim k garble = refl
+
+    fails-sim : (good : Bool) → Code.settled holding false ≡ nextOf (cond (good && false) (kept pre marks ids id) (descend pre marks ids))
+    fails-sim true = settled-sim pre marks ids d id false
+    fails-sim false = settled-sim pre marks ids d id false
+
+    other-sim : (good : Bool) (h : Paper.Heard) → Code.other holding good (shownHeard h .heard) ≡ nextOf (steps (other id good) h)
+    unfolding Code.other isNothing tooLong tell long
+    other-sim true nothing = settled-sim pre marks ids d id true
+    other-sim false nothing = settled-sim pre marks ids d id false
+    other-sim good (one x) = heard-one x (λ (r : Hearing). Code.other holding good (r .heard)) (tell pre marks ids (other id good) (one x)) refl (λ l. fails-sim good)
+    other-sim good unaddressed = fails-sim good
+    other-sim good garble = fails-sim good
+
+  tell-sim : (phase : Phase) (h : Paper.Heard) → Held (path pre marks) phase
+      → Code.tell (standingAt pre marks ids (candidateOf phase)) (phaseOf phase) (shownHeard h .heard) (shownHeard h .id) ≡ nextOf (steps phase h)
   unfolding Code.tell tell tooLong Code.done
-  tell-sim asked h w e = hears-sim h e
-  tell-sim (mine id) h w e = ap (λ (b : Bool). Code.going (Other b) (standingAt pre marks ids (idFrom id))) (one-is id h (w .0) e)
-  tell-sim (other id good) h w e =
-      ap (λ (b : Bool). Code.settled (standingAt pre marks ids (idFrom id)) (good && b)) (nothing-is h) ∙ settled-sim pre marks ids d id (good && isNothing h)
-  tell-sim leaving h w e = ap ending (table-sorted ids f s)
+  tell-sim asked h w = hears-sim h
+  tell-sim (mine id) h w = mine-sim id (w .0) h
+  tell-sim (other id good) h w = other-sim id good h
+  tell-sim leaving h w = ap ending (table-sorted ids f s)
     where
       ending : Table → Next
       ending t = record { goes = Done; walk = Moves.finding Moves.noWalk t }
@@ -224,21 +246,9 @@ long-is (one x) = go (ltb 16 (length x))
 long-is unaddressed = refl
 long-is garble = refl
 
-too-long-is : (phase : Phase) (h : Paper.Heard) → Code.tooLong (phaseOf phase) (shownHeard h .heard) ≡ tooLong phase h
-unfolding Code.tooLong tooLong
-too-long-is asked h = long-is h
-too-long-is (mine id) h = long-is h
-too-long-is (other id good) h = long-is h
-too-long-is leaving h = refl
-
 -- One step.
 pub step-sim : (s : State) (h : Paper.Heard) → Fits s → Code.step (walkOf s) (phaseOf (s .phase)) (shownHeard h .heard) (shownHeard h .id) ≡ nextOf (step s h)
 unfolding Code.step step tableOf
 step-sim s h t =
-    rw (le-leb (length (path (s .pre) (s .marks))) 128 (t .depth), le-leb (length (s .ids)) 64 (t .few), too-long-is (s .phase) h) (go (tooLong (s .phase) h) refl)
-  where
-    go : (b : Bool) → tooLong (s .phase) h ≡ b
-        → cond b (Code.stopped 14) (Code.tell (walkOf s) (phaseOf (s .phase)) (shownHeard h .heard) (shownHeard h .id))
-        ≡ nextOf (cond b (ended (stopped 14)) (tell (s .pre) (s .marks) (s .ids) (s .phase) h))
-    go true e = refl
-    go false e = tell-sim (s .pre) (s .marks) (s .ids) (t .depth) (t .few) (t .short) (s .phase) h (t .held) e
+    rw (le-leb (length (path (s .pre) (s .marks))) 128 (t .depth), le-leb (length (s .ids)) 64 (t .few))
+    (tell-sim (s .pre) (s .marks) (s .ids) (t .depth) (t .few) (t .short) (s .phase) h (t .held))

@@ -42,7 +42,7 @@ use Rattle.client.specs.Clients as Clients
 use Rattle.client.specs.Clients.{over, stops, onward}
 use Rattle.telling.specs.Telling as Code
 use Rattle.telling.specs.Telling.{attaches, stopOf}
-use Rattle.records.specs.Picture.{nextOf}
+use Rattle.records.specs.Picture.{endOf, nextOf}
 use Rattle.records.specs.Clients.{searchIn, phaseIn, isThere, recordOf, clientOf, Shown, plainly, refusedAs, toldAs}
 use Rattle.records.proofs.Jobs.{other-sim, job-told}
 use Rattle.records.proofs.Sim.{step-sim, long-is}
@@ -124,7 +124,7 @@ module _ (seed : ℕ) (id : Option Paper.Id) (at : ℕ) where
 
   -- A walk's number, as the code shows it and as the machine's is shown.
   abbrev Same : ℕ → Type 0
-  Same n = plainly (stopOf n) ≡ refusedAs n []
+  Same n = plainly (stopOf (endOf n)) ≡ refusedAs n []
 
   undone-told : (s : State) (n : Walk.Next) → Undone Same n → Code.walked (code (walking s)) (nextOf n .goes) (nextOf n .walk) at ≡ settles (walking s) id (walked n)
   unfolding Code.walked settle over onward Clients.idle Steps.stopped

@@ -7,7 +7,7 @@ use mathlib.Core.Option.{Option, none, some}
 use lib.Dec.{eqb}
 use lib.ListN.{getD}
 use Rattle.paper.specs.Client as Paper
-use Rattle.paper.specs.Client.{refused, granted, onward, over}
+use Rattle.paper.specs.Client.{refused, granted, closing, onward, over}
 use Rattle.paper.specs.Hearing as Paper₂
 use Rattle.paper.specs.Talk as Paper₃
 use Rattle.paper.specs.Talk.{quiet, heard, attached, found, knows}
@@ -41,7 +41,7 @@ use Rattle.client.specs.declared.Client.{Client}
 use Rattle.client.specs.declared.Outcome.the-variants as Outcome
 use Rattle.client.specs.declared.Refusal.the-variants.{Io, Device, FirmwareTooLarge, CrcMismatch, BadInfo, Incompatible, NoDevice, SeveralDevices, NoSuchUid, AmbiguousUid, NotAddressable, DuplicateUid, BadPrefix, LongId, TableFull, ShortBuffer, RetriesSpent, ShortVerify, SpansTooFar, OtherImage, OutOfTurn}
 use Rattle.client.specs.declared.Says.{Says}
-use Rattle.client.specs.declared.Says.the-variants.{Granted, Onward, Over, Refused}
+use Rattle.client.specs.declared.Says.the-variants.{Granted, Closing, Onward, Over, Refused}
 use Rattle.client.specs.declared.Started.{Started}
 use Rattle.client.specs.declared.Told.{Told}
 use Rattle.asking.specs.Asking.{Asking}
@@ -189,6 +189,7 @@ endedAs p (knows info) = making (Over (Outcome.Knows (codeInfo info))) p
 abbrev pub shownSays : Paper.Says → Shown
 shownSays (refused n carries) = refusedAs n carries
 shownSays (granted n) = plainly (Granted n)
+shownSays (closing n) = plainly (Closing n)
 shownSays (onward p) = making Onward p
 shownSays (over p o) = endedAs p o
 

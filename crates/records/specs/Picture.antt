@@ -3,6 +3,7 @@
 use Prim.Native.Nat.{ℕ, _-_}
 use mathlib.Core.Bool.{cond}
 use mathlib.Core.List.{List, [], _∷_, _++_, map}
+use lib.Dec.{eqb}
 use lib.ListN.{length, replicate}
 use Rattle.paper.specs.Hearing as Paper
 use Rattle.paper.specs.Hearing.{Prefix, packed}
@@ -16,6 +17,8 @@ use Rattle.table.specs.Rows.{noTable, puts, counting}
 use Rattle.walk.specs.declared.Walk.{Walk}
 use Rattle.walk.specs.declared.Phase as Code
 use Rattle.walk.specs.declared.Phase.the-variants.{Asked, Mine, Other, Leaving}
+use Rattle.steps.specs.declared.End.{End}
+use Rattle.steps.specs.declared.End.the-variants.{DuplicateUid, LongId, TableFull, Unaddressed}
 use Rattle.steps.specs.declared.Goes.the-variants.{Done}
 use Rattle.steps.specs.declared.Next as Code₂
 use Rattle.walk.specs.Moves as Moves
@@ -61,7 +64,11 @@ standingAt pre marks ids x = record {
 abbrev pub walkOf : State → Walk
 walkOf s = standingAt (s .pre) (s .marks) (s .ids) (candidateOf (s .phase))
 
+-- The end of each number that a walk stops with: 12, 14, 15, 23.
+abbrev pub endOf : ℕ → End
+endOf c = cond (eqb c 12) DuplicateUid (cond (eqb c 14) LongId (cond (eqb c 15) TableFull Unaddressed))
+
 abbrev pub nextOf : Next → Code₂.Next
 nextOf (going s) = Steps.going (phaseOf (s .phase)) (walkOf s)
 nextOf (ended (done ids)) = record { goes = Done; walk = Moves.finding Moves.noWalk (tableOf ids) }
-nextOf (ended (stopped c)) = Steps.stopped c
+nextOf (ended (stopped c)) = Steps.stopped (endOf c)

@@ -1,19 +1,25 @@
 -- Document 01, "Refusal numbers": what a refusal leaves of the client, and what a start that is refused answers.
 -- Assumes nothing.
-use Prim.Native.Nat.{ℕ}
-use mathlib.Core.Bool.{Bool, true, false, _||_, cond}
-use mathlib.Core.Path.{_≡_}
-use lib.Dec.{eqb}
+use Prim.Native.Nat.{ℕ, _*_}
+use mathlib.Core.Bool.{Bool, true, false, _&&_, _||_, cond}
+use mathlib.Core.List.{List}
+use lib.Dec.{leb, eqb}
+use lib.ListN.{length}
+use Rattle.paper.specs.Client.{short}
+use Rattle.ids.specs.Ids.{noId}
+use Rattle.walk.specs.Moves.{noWalk}
 use Rattle.client.specs.declared.Client.{Client}
+use Rattle.client.specs.declared.Job.the-variants.{Resetting}
+use Rattle.client.specs.declared.Phase.{Phase}
+use Rattle.client.specs.declared.Phase.the-variants.{Demand, Leave}
 use Rattle.client.specs.declared.Refusal.{Refusal}
 use Rattle.client.specs.declared.Refusal.the-variants.{BadPrefix, OutOfTurn}
-use Rattle.client.specs.declared.Says.{Says}
-use Rattle.client.specs.declared.Says.the-variants.{Granted, Onward, Over, Refused}
+use Rattle.client.specs.declared.Reset.{Reset}
+use Rattle.client.specs.declared.Says.the-variants.{Onward}
 use Rattle.client.specs.declared.Started.{Started}
-use Rattle.client.specs.declared.Turn.{Turn}
-use Rattle.client.specs.Clients.{onTurn, onPhase, idle, cleared, running, refuse}
+use Rattle.client.specs.declared.Turn.the-variants.{Ready}
+use Rattle.client.specs.Clients.{begun, idle, cleared, running, refuse}
 use Rattle.client.specs.Numbers.{numberOf}
-use Rattle.asking.specs.Asking.{nextSeed}
 
 -- "13, 16, 20, 21, 22 change no state." 22 is the text's alone.
 unfoldable pub keeps : Refusal → Bool
@@ -27,18 +33,18 @@ parts r = eqb (numberOf r) 8 || eqb (numberOf r) 10
 unfoldable pub leaves : Refusal → Client → Client
 leaves r c = cond (keeps r) c (idle (cond (parts r) (cleared c) c))
 
--- A start changes nothing if it is refused: with 21 if an operation runs, whatever else is wrong, with 13 if none does.
-pub record Begins (c : Client) (s : Started) : Type 0 where
-  pub refused : (r : Refusal) → s .says ≡ Refused r → (s .client ≡ c) × ((r ≡ cond (running (c .turn)) OutOfTurn BadPrefix) × (keeps r ≡ true))
-  pub late : running (c .turn) ≡ true → s ≡ refuse c OutOfTurn
-  pub seed : s .client .seed ≡ c .seed
+-- "Out of turn is: a start while an operation runs"; "Order: 21, 20, 13": a start, whose arguments are good or bad, and the client that it begins.
+unfoldable pub begins : Client → Bool → Client → Started
+begins c good next = cond (running (c .turn)) (refuse c OutOfTurn) (cond good (record { says = Onward; client = next }) (refuse c BadPrefix))
 
-abbrev pub isGranted : Says → Bool
-isGranted (Granted n) = true
-isGranted Onward = false
-isGranted (Over o) = false
-isGranted (Refused r) = false
+-- "a count over 128 or over 8 times the bytes given is 13", and so is a "prefix or id given over 16 bytes".
+abbrev pub goodCount : List ℕ → ℕ → Bool
+goodCount bytes bits = short bytes && (leb bits 128 && leb bits (8 * length bytes))
 
--- "A Select adds 1 to the seed": the seed after a request of this turn.
-unfoldable pub seedAfter : Turn → ℕ → ℕ
-seedAfter t seed = onTurn t seed (λ p. onPhase p (λ s. nextSeed seed) (λ j. seed) (λ reset. seed)) (λ p. seed)
+-- A client at its first request, of an operation that selects nothing.
+abbrev pub asking : Client → Phase → Client
+asking c p = begun c (Ready p) noId 0 noWalk
+
+-- "In boot the reply is awaited".
+abbrev pub resetPhase : Reset → Bool → Phase
+resetPhase reset inBoot = cond inBoot (Demand (Resetting reset)) (Leave reset)

@@ -22,7 +22,7 @@ use Rattle.client.specs.declared.Client.{Client}
 use Rattle.client.specs.declared.Outcome.the-variants.{Found}
 use Rattle.client.specs.declared.Progress.the-variants.{None}
 use Rattle.client.specs.declared.Says.{Says}
-use Rattle.client.specs.declared.Says.the-variants.{Granted, Onward, Over, Refused}
+use Rattle.client.specs.declared.Says.the-variants.{Granted, Closing, Onward, Over, Refused}
 use Rattle.client.specs.declared.Started.{Started}
 use Rattle.client.specs.declared.Told.{Told}
 use Rattle.client.specs.declared.Turn.the-variants.{Idle}
@@ -37,22 +37,24 @@ use Rattle.records.specs.Clients.{isThere, valueOf}
 abbrev pub Wire : Type 0
 Wire = ℕ → List ℕ → List ℕ
 
-abbrev pub onSays {ℓ} : {A : Type ℓ} → Says → (ℕ → A) → A → A → A
-onSays (Granted n) granted onward other = granted n
-onSays Onward granted onward other = onward
-onSays (Over o) granted onward other = other
-onSays (Refused r) granted onward other = other
+-- A request stands in the buffer, awaited or not; it goes on; anything else.
+abbrev pub onSays {ℓ} : {A : Type ℓ} → Says → (ℕ → A) → (ℕ → A) → A → A → A
+onSays (Granted n) granted closing onward other = granted n
+onSays (Closing n) granted closing onward other = closing n
+onSays Onward granted closing onward other = onward
+onSays (Over o) granted closing onward other = other
+onSays (Refused r) granted closing onward other = other
 
--- The request's bytes, where one was granted.
+-- The request's bytes, where one stands in the buffer.
 unfoldable pub sent : Asking → List ℕ
-sent a = onSays (a .answer .says) (λ n. take n (a .bytes)) [] []
+sent a = onSays (a .answer .says) (λ n. take n (a .bytes)) (λ n. take n (a .bytes)) [] []
 
 -- A request asked for, with a buffer lent, and the wire's record to it handed in.
 unfoldable pub round : List ℕ → Wire → ℕ → Client → Told
 round buffer wire k c = record′ (request c [] buffer .answer .client) [] (wire k (sent (request c [] buffer)))
 
 unfoldable pub isOnward : Says → Bool
-isOnward s = onSays s (λ n. false) true false
+isOnward s = onSays s (λ n. false) (λ n. false) true false
 
 -- While the operation goes on, at most n rounds more, after k Selects: the last answer, and the Selects by then.
 unfoldable pub served : ℕ → List ℕ → Wire → ℕ → Told → Told × ℕ

@@ -13,7 +13,7 @@ use Rattle.client.specs.declared.Refusal.{Refusal}
 use Rattle.client.specs.declared.Outcome.{Outcome}
 use Rattle.client.specs.declared.Outcome.the-variants as Outcome
 use Rattle.client.specs.declared.Says.{Says}
-use Rattle.client.specs.declared.Says.the-variants.{Granted, Onward, Over, Refused}
+use Rattle.client.specs.declared.Says.the-variants.{Granted, Closing, Onward, Over, Refused}
 use Rattle.client.specs.declared.Started.{Started}
 use Rattle.client.specs.Clients.{fresh}
 use Rattle.client.specs.Numbers.{numberOf}
@@ -31,11 +31,12 @@ onStage First f r e = f
 onStage Running f r e = r
 onStage (Ended k) f r e = e k
 
-abbrev pub onSays {ℓ} : {A : Type ℓ} → Says → (ℕ → A) → A → (Outcome → A) → (Refusal → A) → A
-onSays (Granted n) g o v r = g n
-onSays Onward g o v r = o
-onSays (Over x) g o v r = v x
-onSays (Refused x) g o v r = r x
+abbrev pub onSays {ℓ} : {A : Type ℓ} → Says → (ℕ → A) → (ℕ → A) → A → (Outcome → A) → (Refusal → A) → A
+onSays (Granted n) g c o v r = g n
+onSays (Closing n) g c o v r = c n
+onSays Onward g c o v r = o
+onSays (Over x) g c o v r = v x
+onSays (Refused x) g c o v r = r x
 
 -- The number that a run ends with.
 abbrev pub outcome : Outcome → ℕ
@@ -47,7 +48,7 @@ outcome (Outcome.Knows info) = 0
 outcome Outcome.Unaddressed = 23
 
 abbrev pub code : Says → ℕ
-code says = onSays says (λ n. 0) 0 outcome numberOf
+code says = onSays says (λ n. 0) (λ n. 0) 0 outcome numberOf
 
 abbrev pub isEnded : Stage → Bool
 isEnded s = onStage s false false (λ k. true)
@@ -65,10 +66,10 @@ abbrev pub running : Client → ℕ → Replay
 running c k = record { client = c; stage = Running; selects = (k + 1) % 65536; found = noTable }
 
 abbrev pub isGranted : Says → Bool
-isGranted says = onSays says (λ n. true) false (λ o. false) (λ r. false)
+isGranted says = onSays says (λ n. true) (λ n. false) false (λ o. false) (λ r. false)
 
 abbrev pub isOnward : Says → Bool
-isOnward says = onSays says (λ n. false) true (λ o. false) (λ r. false)
+isOnward says = onSays says (λ n. false) (λ n. false) true (λ o. false) (λ r. false)
 
 -- One Select more is out, if it was granted.
 unfoldable pub handed : Started → ℕ → Replay

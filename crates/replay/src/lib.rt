@@ -40,6 +40,7 @@ pub fn code(says: Says) -> u8
 {
     match says {
         Says::Granted(_) => 0,
+        Says::Closing(_) => 0,
         Says::Onward => 0,
         Says::Over(o) => outcome(o),
         Says::Refused(r) => client::number(r),
@@ -85,6 +86,7 @@ fn is_granted(says: Says) -> bool
 {
     match says {
         Says::Granted(_) => true,
+        Says::Closing(_) => false,
         Says::Onward => false,
         Says::Over(_) => false,
         Says::Refused(_) => false,
@@ -96,6 +98,7 @@ fn is_onward(says: Says) -> bool
 {
     match says {
         Says::Granted(_) => false,
+        Says::Closing(_) => false,
         Says::Onward => true,
         Says::Over(_) => false,
         Says::Refused(_) => false,

@@ -1,51 +1,113 @@
 -- The ways through the Select's writer.
 -- Assumes nothing.
-use Prim.Native.Nat.{ℕ, _+_, _-_, _%_, _^_, _<_, _≤_}
-use mathlib.Core.Bool.{false}
+use Prim.Native.Nat.{ℕ, _+_, _-_, _*_, _/_, _%_, _^_, _<_, _≤_}
+use mathlib.Core.Bool.{Bool, true, false, cond}
 use mathlib.Core.List.{List, [], _∷_, _++_}
-use mathlib.Core.Path.{_≡_, sym, _∙_, ap, ap₂}
+use mathlib.Core.Path.{_≡_, refl, sym, _∙_, ap, ap₂}
+use native.Mathlib.Decide.{decLt}
+use native.Mathlib.Numerals.{add-one}
 use native.Mathlib.Omega.{arith}
-use lib.ListN.{length, take, drop, set, replicate, length-take, length-append, length-replicate}
-use lib.Seq.{drop-drop}
-use borrow.Author.Tests.{le-leb}
+use lib.Bits.{bitOr}
+use lib.ListN.{length, take, drop, getD, set, replicate, length-take, length-append, length-replicate, getD-replicate, List·getD-eq-default, List·getD-append}
+use lib.Seq.{take-all, take-suc, length-take-le, drop-at, drop-drop, getD-take, getD-append-add, set-append-left}
 use borrow.Rule.Slice.PartMut.{putMid}
-use Rattle.paper.specs.Frame.{le, check}
-use Rattle.paper.specs.Hearing.{bitsOf, packed, selectPayload, selectFrame}
-use Rattle.lore.proofs.Bits.{bits-length}
-use Rattle.lore.proofs.Copy.{copy-more, copy-done}
-use Rattle.lore.proofs.Packed.{packed-length}
+use Rattle.paper.specs.Frame.{le, check, frameBytes}
+use Rattle.paper.specs.Hearing.{bit, bitsOf, packed, selectPayload, selectFrame}
+use Rattle.paper.specs.Walk.{_▹_}
+use Rattle.lore.proofs.Bits.{bits-length, bits-at}
+use Rattle.lore.proofs.Packed.{packed-length, packed-zero, packed-none}
 use Rattle.lore.proofs.Parts.{part-all, mid-all}
+use Rattle.ids.specs.Ids.{withOne, setBit}
+use Rattle.ids.proofs.Shift.{one-shl, or-shl}
+use Rattle.ids.proofs.Pack.{pack-one}
 use Rattle.frame.specs.declared.Head.{Head}
-use Rattle.frame.specs.Writing.{headOf, written}
+use Rattle.frame.specs.Writing.{headOf, placed}
 use Rattle.frame.proofs.Assembled.{too-short, assembled}
-use Rattle.wire.specs.declared.Written.the-variants.{Done, Short}
-use Rattle.select.specs.Selects.{asked, bytesFor, lowest, byteAt}
-use Rattle.select.proofs.Bytes.{packed-byte}
+use Rattle.wire.specs.declared.Placed.the-variants.{Done, Short}
+use Rattle.select.specs.Selects.{asked, bytesFor}
 
-pub whole-byte : (x left : ℕ) → x < 256 → 8 ≤ left → x ≡ lowest x left
-unfolding lowest
-whole-byte x left small l = let e : x ≡ x % 2 ^ 8 = omega arith in rw (le-leb 8 left l) e
+-- A bit of the prefix, in its bytes and after them.
+module _ (bits : List ℕ) (k : ℕ) (long : length bits ≡ 16) where
+  pub bit-after : 128 ≤ k → false ≡ getD (bitsOf bits) k false
+  bit-after h = sym (List·getD-eq-default (bitsOf bits) false {n = k} (omega (arith, bits-length bits)))
 
--- One byte further, and all of them.
-module _ (bits : List ℕ) (count : ℕ) (dst l : List ℕ) (i n : ℕ) (en : n ≡ bytesFor count)
-    (e : l ≡ take i (packed (bytesFor count) (asked bits count)) ++ drop i dst) where
-  pub bits-more : (v : ℕ) → length bits ≡ 16 → i < n → bytesFor count ≤ length dst → v ≡ byteAt bits count i
-      → set l i v ≡ take (i + 1) (packed (bytesFor count) (asked bits count)) ++ drop (i + 1) dst
-  bits-more v long h room ev =
-      ap (set l i) (ev ∙ sym (packed-byte bits count i long (omega arith)))
-      ∙ copy-more (packed (bytesFor count) (asked bits count)) dst l i e
-      (rw (packed-length (bytesFor count) (asked bits count)) (omega arith)) (rw (packed-length (bytesFor count) (asked bits count)) room)
+  pub bit-within : (b : Bool) → k < 128 → b ≡ bit bits k → b ≡ getD (bitsOf bits) k false
+  bit-within b h e = e ∙ sym (bits-at bits k (omega arith))
 
-  pub bits-done : i ≤ n → n ≤ i → l ≡ packed (bytesFor count) (asked bits count) ++ drop (bytesFor count) dst
-  bits-done h k =
-      copy-done (packed (bytesFor count) (asked bits count)) dst l i e
-      (rw (packed-length (bytesFor count) (asked bits count)) (omega arith)) (rw (packed-length (bytesFor count) (asked bits count)) (omega arith))
-      ∙ ap (λ (m : ℕ). packed (bytesFor count) (asked bits count) ++ drop m dst) (packed-length (bytesFor count) (asked bits count))
+-- `dst[k / 8] |= 1 << (k % 8)` where the bit is 1, and nothing where it is 0.
+module _ (d : List ℕ) (k : ℕ) (b one : Bool) (e : one ≡ b) where
+  pub one-put : one ≡ true → set d (k / 8) (bitOr (getD d (k / 8) 0) (1 * 2 ^ (k % 8) % 256)) ≡ cond b (setBit d k) d
+  unfolding setBit
+  one-put h = rw (← e, h) (ap (set d (k / 8)) (ap (bitOr (getD d (k / 8) 0)) (one-shl (k % 8) (omega arith)) ∙ or-shl (getD d (k / 8) 0) (k % 8)))
+
+  pub zero-put : one ≡ false → d ≡ cond b (setBit d k) d
+  zero-put h = rw (← e, h)
+
+-- A bit of some bytes is set where others follow.
+set-front : (a rest : List ℕ) (k : ℕ) → k < 8 * length a → setBit (a ++ rest) k ≡ setBit a k ++ rest
+unfolding setBit
+set-front a rest k h =
+    ap (λ (x : ℕ). set (a ++ rest) (k / 8) (withOne x (k % 8))) (List·getD-append a rest 0 (k / 8) (omega arith))
+    ∙ set-append-left a rest (k / 8) (withOne (getD a (k / 8) 0) (k % 8)) (omega arith)
+
+-- The first k bits in n bytes, and one more.
+module _ (n : ℕ) (q : List Bool) (k : ℕ) (h : k < length q) (room : length q ≤ 8 * n) where
+  bit-more : cond (getD q k false) (setBit (packed n (take k q)) k) (packed n (take k q)) ≡ packed n (take (k + 1) q)
+  bit-more = go (getD q k false) ∙ ap (packed n) (sym (take-suc q k false h) ∙ ap (λ (m : ℕ). take m q) (sym (add-one k)))
+    where
+      so-many : length (take k q) ≡ k
+      so-many = length-take-le k q (omega arith)
+
+      go : (b : Bool) → cond b (setBit (packed n (take k q)) k) (packed n (take k q)) ≡ packed n (take k q ▹ b)
+      go true = ap (setBit (packed n (take k q))) (sym so-many) ∙ sym (pack-one n (take k q) (omega (arith, so-many)))
+      go false = sym (packed-zero n (take k q))
 
 -- As many bits as asked for.
 asked-length : (bits : List ℕ) (count : ℕ) → length bits ≡ 16 → count < 256 → length (asked bits count) ≡ count
 asked-length bits count long h =
     omega (arith, length-take count (bitsOf bits ++ replicate 127 false), length-append (bitsOf bits) (replicate 127 false), bits-length bits, length-replicate 127 false)
+
+-- The bits of a prefix put one by one behind zeros.
+module _ (bits : List ℕ) (count : ℕ) (long : length bits ≡ 16) (small : count < 256) where
+  abbrev q : List Bool
+  q = asked bits count
+
+  abbrev n : ℕ
+  n = bytesFor count
+
+  asked-bit : (k : ℕ) → k < count → getD q k false ≡ getD (bitsOf bits) k false
+  asked-bit k h = getD-take count (bitsOf bits ++ replicate 127 false) k false h ∙ go (decLt k 128)
+    where
+      go : Dec (k < 128) → getD (bitsOf bits ++ replicate 127 false) k false ≡ getD (bitsOf bits) k false
+      go (yes l) = List·getD-append (bitsOf bits) (replicate 127 false) false k (omega (arith, bits-length bits))
+      go (no l) =
+          let e : length (bitsOf bits) + (k - 128) ≡ k = omega (arith, bits-length bits) in
+          ap (λ (i : ℕ). getD (bitsOf bits ++ replicate 127 false) i false) (sym e)
+          ∙ getD-append-add (bitsOf bits) (replicate 127 false) (k - 128) false
+          ∙ getD-replicate 127 (k - 128) false false (omega arith)
+          ∙ bit-after bits k long (omega arith)
+
+  module _ (m : ℕ) (dst d₀ : List ℕ) (em : m ≡ n) (e₀ : d₀ ≡ replicate m 0 ++ drop m dst) where
+    behind : drop n d₀ ≡ drop n dst
+    behind = ap (drop n) (rw em at e₀) ∙ drop-at (replicate n 0) (drop n dst) n (length-replicate n 0)
+
+    pub bits-none : d₀ ≡ packed n (take 0 q) ++ drop n d₀
+    bits-none = (rw em at e₀) ∙ ap₂ (λ (x y : List ℕ). x ++ y) (sym (packed-none n)) (sym behind)
+
+    pub bits-done : (k : ℕ) (d : List ℕ) → k ≤ count → count ≤ k → d ≡ packed n (take k q) ++ drop n d₀ → d ≡ packed n q ++ drop n dst
+    bits-done k d l g e = e ∙ ap₂ (λ (x : List Bool) (y : List ℕ). packed n x ++ y) (take-all k q (omega (arith, asked-length bits count long small))) behind
+
+  pub bits-more : (k : ℕ) (d₀ d d′ : List ℕ) → k < count → d ≡ packed n (take k q) ++ drop n d₀ → d′ ≡ cond (getD (bitsOf bits) k false) (setBit d k) d
+      → d′ ≡ packed n (take (k + 1) q) ++ drop n d₀
+  bits-more k d₀ d d′ h e e′ =
+      e′
+      ∙ ap₂ (λ (b : Bool) (x : List ℕ). cond b (setBit x k) x) (sym (asked-bit k h)) e
+      ∙ go (getD q k false)
+      ∙ ap (λ (x : List ℕ). x ++ drop n d₀) (bit-more n q k (omega (arith, asked-length bits count long small)) (omega (arith, asked-length bits count long small)))
+    where
+      go : (b : Bool) → cond b (setBit (packed n (take k q) ++ drop n d₀) k) (packed n (take k q) ++ drop n d₀) ≡ cond b (setBit (packed n (take k q)) k) (packed n (take k q)) ++ drop n d₀
+      go true = set-front (packed n (take k q)) (drop n d₀) k (rw (packed-length n (take k q)) (omega arith))
+      go false = refl
 
 module _ (seed : ℕ) (bits : List ℕ) (count : ℕ) (long : length bits ≡ 16) (small : count < 256) where
   payload-is : selectPayload seed (asked bits count) ≡ seed ∷ count ∷ packed (bytesFor count) (asked bits count)
@@ -72,14 +134,14 @@ module _ (seed : ℕ) (bits : List ℕ) (count : ℕ) (long : length bits ≡ 16
     sized : length (selectPayload seed (asked bits count)) ≡ 2 + n
     sized = payload-length ∙ ap (λ (k : ℕ). 2 + k) (sym en)
 
-    pub select-short : length buf < 2 + n + 12 → record { answer = Short (2 + n + 12); bytes = buf } ≡ written (selectFrame seed (asked bits count)) buf
-    select-short k = too-short head (selectPayload seed (asked bits count)) buf (2 + n) sized (omega arith) k
+    pub select-short : length buf < 2 + n + 12 → record { answer = Short (2 + n + 12); bytes = buf } ≡ placed (frameBytes (selectFrame seed (asked bits count))) buf
+    select-short k = too-short head (selectPayload seed (asked bits count)) buf (2 + n) sized k
 
     pub select-wrote : (d₁ d₂ d₃ : List ℕ) → 2 + n + 12 ≤ length buf → d₁ ≡ headOf head (2 + n) ++ drop 10 buf
         → d₂ ≡ selectPayload seed (asked bits count) ++ drop (2 + bytesFor count) (take (length d₁ - 10) (drop 10 d₁))
         → d₃ ≡ take (2 + n + 10) (putMid 10 (length d₁ - 10) d₁ d₂) ++ le 2 (check (take (2 + n + 10) (putMid 10 (length d₁ - 10) d₁ d₂)))
         ++ drop (2 + n + 10 + 2) (putMid 10 (length d₁ - 10) d₁ d₂)
-        → record { answer = Done (2 + n + 12); bytes = d₃ } ≡ written (selectFrame seed (asked bits count)) buf
+        → record { answer = Done (2 + n + 12); bytes = d₃ } ≡ placed (frameBytes (selectFrame seed (asked bits count))) buf
     select-wrote d₁ d₂ d₃ room e₁ e₂ e₃ =
         assembled head (selectPayload seed (asked bits count)) buf (2 + n) sized d₁ d₂ d₃ e₁
-        (e₂ ∙ ap (λ (k : ℕ). selectPayload seed (asked bits count) ++ drop (2 + k) (take (length d₁ - 10) (drop 10 d₁))) (sym en)) (omega arith) room e₃
+        (e₂ ∙ ap (λ (k : ℕ). selectPayload seed (asked bits count) ++ drop (2 + k) (take (length d₁ - 10) (drop 10 d₁))) (sym en)) room e₃

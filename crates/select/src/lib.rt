@@ -1,13 +1,16 @@
 // The Select's request: seed, bit count and prefix bits, written through the part of the buffer from byte 10 on.
 use frame::Head;
-use wire::Written;
+use wire::Placed;
 ghost use mathlib.Core.Path.{_≡_};
+ghost use mathlib.Core.Bool.{false, cond};
 ghost use mathlib.Core.List.{[], _∷_, _++_};
-ghost use Prim.Native.Nat.{_+_, _≤_, _<_};
-ghost use lib.ListN.{length, drop};
-ghost use Rattle.paper.specs.Hearing.{packed, selectPayload, selectFrame};
-ghost use Rattle.frame.specs.Writing.{written};
-ghost use Rattle.select.specs.Selects.{asked, bytesFor, lowest, byteAt};
+ghost use Prim.Native.Nat.{_+_, _/_, _≤_, _<_};
+ghost use lib.ListN.{length, getD, drop};
+ghost use Rattle.paper.specs.Frame.{frameBytes};
+ghost use Rattle.paper.specs.Hearing.{bitsOf, packed, selectPayload, selectFrame};
+ghost use Rattle.ids.specs.Ids.{setBit};
+ghost use Rattle.frame.specs.Writing.{placed};
+ghost use Rattle.select.specs.Selects.{asked, bytesFor};
 
 // How many bytes hold so many bits.
 fn bytes_for(count: u8) -> usize
@@ -17,36 +20,36 @@ fn bytes_for(count: u8) -> usize
     (count as usize + 7) / 8
 }
 
-// As many of a byte's lowest bits as are left, by shift and mask.
-fn lowest(x: u8, left: usize) -> u8
-    ensures { λ r. ⌜ r ≡ lowest x left ⌝ }
+// Bit k of the prefix, by shift and mask; zero after the sixteenth byte.
+fn bit(bits: [u8; 16], k: usize) -> bool
+    ensures { λ r. ⌜ r ≡ getD (bitsOf bits) k false ⌝ }
 {
-    if 8 <= left {
-        return x;
+    if 128 <= k {
+        return false;
     }
-    path::low_bits(x, left)
+    ids::bit_at(bits, k)
 }
 
-// Byte i of the first bits. There is no bit after the sixteenth byte.
-fn byte_at(bits: [u8; 16], count: u8, i: usize) -> u8
-    requires { ⌜ i < bytesFor count ⌝ }
-    ensures { λ r. ⌜ r ≡ byteAt bits count i ⌝ }
+// Bit k of the prefix put where it is still zero, by shift and mask.
+fn put_bit(dst: &mut [u8], bits: [u8; 16], k: usize)
+    requires { ⌜ k / 8 < length (now dst) ⌝ }
+    ensures { λ _. ⌜ now (dst .exit) ≡ cond (getD (bitsOf bits) k false) (setBit (now (dst .entry)) k) (now (dst .entry)) ⌝ }
 {
-    if 16 <= i {
-        return 0;
+    if bit(bits, k) {
+        dst[k / 8] |= 1 << (k % 8);
     }
-    lowest(bits[i], count as usize - 8 * i)
 }
 
+// The first so many bits, in as few bytes as hold them: those zero at first, then bit after bit.
 fn put_bits(dst: &mut [u8], bits: [u8; 16], count: u8)
     requires { ⌜ bytesFor count ≤ length (now dst) ⌝ }
     ensures { λ _. ⌜ now (dst .exit) ≡ packed (bytesFor count) (asked bits count) ++ drop (bytesFor count) (now (dst .entry)) ⌝ }
 {
-    let n = bytes_for(count);
-    let mut i = 0;
-    while i < n {
-        dst[i] = byte_at(bits, count, i);
-        i += 1;
+    wire::fill(dst, bytes_for(count), 0);
+    let mut k = 0;
+    while k < count as usize {
+        put_bit(dst, bits, k);
+        k += 1;
     }
 }
 
@@ -68,12 +71,12 @@ fn put_select(dst: &mut [u8], seed: u8, bits: [u8; 16], count: u8)
 }
 
 // A Select of the first so many bits, those after the sixteenth byte zero.
-pub fn write_select(seed: u8, bits: [u8; 16], count: u8, buf: &mut [u8]) -> Written
-    ensures { λ r. ⌜ record { answer = r; bytes = now (buf .exit) } ≡ written (selectFrame seed (asked bits count)) (now (buf .entry)) ⌝ }
+pub fn write_select(seed: u8, bits: [u8; 16], count: u8, buf: &mut [u8]) -> Placed
+    ensures { λ r. ⌜ record { answer = r; bytes = now (buf .exit) } ≡ placed (frameBytes (selectFrame seed (asked bits count))) (now (buf .entry)) ⌝ }
 {
     let n = 2 + bytes_for(count);
     if buf.len() < n + 12 {
-        return Written::Short(n + 12);
+        return Placed::Short(n + 12);
     }
     let head = Head {
         command: wire::SELECT,
@@ -84,5 +87,5 @@ pub fn write_select(seed: u8, bits: [u8; 16], count: u8, buf: &mut [u8]) -> Writ
     frame::put_head(buf, head, n as u16);
     put_select(&mut buf[10..], seed, bits, count);
     frame::seal(buf, n + 10);
-    Written::Done(n + 12)
+    Placed::Done(n + 12)
 }

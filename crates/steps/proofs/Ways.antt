@@ -1,7 +1,7 @@
 -- The ways through the step, from the facts that the code has.
 -- Assumes nothing.
 use Prim.Native.Nat.{ℕ, _*_, _<_, _≤_}
-use mathlib.Core.Bool.{Bool, true, false, _&&_}
+use mathlib.Core.Bool.{Bool, true, false}
 use mathlib.Core.Path.{_≡_, _∙_}
 use lib.ListN.{length, take}
 use borrow.Author.Tests.{lt-ltb, le-ltb, le-leb, lt-leb, eq-eqb, ne-eqb}
@@ -17,16 +17,18 @@ use Rattle.walk.specs.declared.Walk.{Walk}
 use Rattle.walk.specs.declared.Phase.{Phase}
 use Rattle.walk.specs.declared.Phase.the-variants.{Asked, Mine, Other, Leaving}
 use Rattle.walk.specs.Moves.{finding, holding, noWalk, mark, lower, turn, climb}
+use Rattle.steps.specs.declared.End.{End}
+use Rattle.steps.specs.declared.End.the-variants as End
 use Rattle.steps.specs.declared.Goes.the-variants.{Done, Stopped}
 use Rattle.steps.specs.declared.Next.{Next}
-use Rattle.steps.specs.Steps.{going, stopped, descend, onward, leave, silent, kept, confirming, hears, isOne, isNothing, settled, done, tell, long, tooLong, step}
+use Rattle.steps.specs.Steps.{going, stopped, descend, onward, leave, silent, kept, confirming, hears, mine, other, settled, done, tell, step}
 
-pub stopped-is : (w : Walk) (n : ℕ) → w ≡ noWalk → _≡_ {A = Next} (record { goes = Stopped n; walk = w }) (stopped n)
+pub stopped-is : (w : Walk) (end : End) → w ≡ noWalk → _≡_ {A = Next} (record { goes = Stopped end; walk = w }) (stopped end)
 unfolding stopped
-stopped-is w n e = rw e
+stopped-is w end e = rw e
 
 module _ (w : Walk) where
-  pub descend-no : (r : Next) → 128 ≤ w .depth → r ≡ stopped 12 → r ≡ descend w
+  pub descend-no : (r : Next) → 128 ≤ w .depth → r ≡ stopped End.DuplicateUid → r ≡ descend w
   unfolding descend
   descend-no r h e = e ∙ rw (le-ltb (w .depth) 128 h)
 
@@ -57,7 +59,7 @@ module _ (w : Walk) where
   holding-deep v x e h = rw e h
 
   module _ (x : Id) (r : Next) where
-    pub kept-full : 64 ≤ w .found .count → r ≡ stopped 15 → r ≡ kept w x
+    pub kept-full : 64 ≤ w .found .count → r ≡ stopped End.TableFull → r ≡ kept w x
     unfolding kept
     kept-full h e = e ∙ rw (le-ltb (w .found .count) 64 h)
 
@@ -86,11 +88,11 @@ module _ (w : Walk) where
       unfolding hears
       hears-other b eh eb t e = e ∙ rw (eh, ← eb, t)
 
-      pub hears-long : h ≡ TooLong → r ≡ stopped 14 → r ≡ hears w h x
+      pub hears-long : h ≡ TooLong → r ≡ stopped End.LongId → r ≡ hears w h x
       unfolding hears
       hears-long eh e = e ∙ rw eh
 
-      pub hears-unaddressed : h ≡ Unaddressed → r ≡ stopped 23 → r ≡ hears w h x
+      pub hears-unaddressed : h ≡ Unaddressed → r ≡ stopped End.Unaddressed → r ≡ hears w h x
       unfolding hears
       hears-unaddressed eh e = e ∙ rw eh
 
@@ -98,38 +100,75 @@ module _ (w : Walk) where
       unfolding hears
       hears-garble eh e = e ∙ rw eh
 
+      pub mine-nothing : h ≡ Nothing → r ≡ going (Other false) w → r ≡ mine w h x
+      unfolding mine
+      mine-nothing eh e = e ∙ rw eh
+
+      pub mine-one : (b : Bool) → h ≡ One → b ≡ sameId (idOf x) (idOf (w .candidate)) → r ≡ going (Other b) w → r ≡ mine w h x
+      unfolding mine
+      mine-one b eh eb e = e ∙ rw (eh, eb)
+
+      pub mine-long : h ≡ TooLong → r ≡ stopped End.LongId → r ≡ mine w h x
+      unfolding mine
+      mine-long eh e = e ∙ rw eh
+
+      pub mine-unaddressed : h ≡ Unaddressed → r ≡ going (Other false) w → r ≡ mine w h x
+      unfolding mine
+      mine-unaddressed eh e = e ∙ rw eh
+
+      pub mine-garble : h ≡ Garble → r ≡ going (Other false) w → r ≡ mine w h x
+      unfolding mine
+      mine-garble eh e = e ∙ rw eh
+
+      module _ (good : Bool) where
+        pub other-nothing : h ≡ Nothing → r ≡ settled w good → r ≡ other w good h
+        unfolding other
+        other-nothing eh e = e ∙ rw eh
+
+        pub other-one : h ≡ One → r ≡ settled w false → r ≡ other w good h
+        unfolding other
+        other-one eh e = e ∙ rw eh
+
+        pub other-long : h ≡ TooLong → r ≡ stopped End.LongId → r ≡ other w good h
+        unfolding other
+        other-long eh e = e ∙ rw eh
+
+        pub other-unaddressed : h ≡ Unaddressed → r ≡ settled w false → r ≡ other w good h
+        unfolding other
+        other-unaddressed eh e = e ∙ rw eh
+
+        pub other-garble : h ≡ Garble → r ≡ settled w false → r ≡ other w good h
+        unfolding other
+        other-garble eh e = e ∙ rw eh
+
       module _ (p : Phase) where
         pub tell-asked : p ≡ Asked → r ≡ hears w h x → r ≡ tell w p h x
         unfolding tell
         tell-asked ep e = e ∙ rw ep
 
-        pub tell-mine : (b : Bool) → p ≡ Mine → b ≡ isOne (w .candidate) h x → r ≡ going (Other b) w → r ≡ tell w p h x
+        pub tell-mine : p ≡ Mine → r ≡ mine w h x → r ≡ tell w p h x
         unfolding tell
-        tell-mine b ep eb e = e ∙ rw (ep, eb)
+        tell-mine ep e = e ∙ rw ep
 
-        pub tell-other : (good b held : Bool) → p ≡ Other good → b ≡ isNothing h → held ≡ good && b → r ≡ settled w held → r ≡ tell w p h x
+        pub tell-other : (good : Bool) → p ≡ Other good → r ≡ other w good h → r ≡ tell w p h x
         unfolding tell
-        tell-other good b held ep eb eh e = e ∙ rw (ep, eh, eb)
+        tell-other good ep e = e ∙ rw ep
 
         pub tell-leaving : p ≡ Leaving → r ≡ done w → r ≡ tell w p h x
         unfolding tell
         tell-leaving ep e = e ∙ rw ep
 
-        pub step-deep : 128 < w .depth → r ≡ stopped 12 → r ≡ step w p h x
+        pub step-deep : 128 < w .depth → r ≡ stopped End.DuplicateUid → r ≡ step w p h x
         unfolding step
         step-deep l e = e ∙ rw (lt-leb (w .depth) 128 l)
 
-        pub step-many : w .depth ≤ 128 → 64 < w .found .count → r ≡ stopped 12 → r ≡ step w p h x
+        pub step-many : w .depth ≤ 128 → 64 < w .found .count → r ≡ stopped End.DuplicateUid → r ≡ step w p h x
         unfolding step
         step-many d l e = e ∙ rw (le-leb (w .depth) 128 d, lt-leb (w .found .count) 64 l)
 
-        pub step-long : (b : Bool) → w .depth ≤ 128 → w .found .count ≤ 64 → b ≡ tooLong p h → b ≡ true → r ≡ stopped 14 → r ≡ step w p h x
+        pub step-tells : w .depth ≤ 128 → w .found .count ≤ 64 → r ≡ tell w p h x → r ≡ step w p h x
         unfolding step
-        step-long b d l eb t e = e ∙ rw (le-leb (w .depth) 128 d, le-leb (w .found .count) 64 l, ← eb, t)
-
-        pub step-tells : (b : Bool) → w .depth ≤ 128 → w .found .count ≤ 64 → b ≡ tooLong p h → b ≡ false → r ≡ tell w p h x → r ≡ step w p h x
-        unfolding step
-        step-tells b d l eb t e = e ∙ rw (le-leb (w .depth) 128 d, le-leb (w .found .count) 64 l, ← eb, t)
+        step-tells d l e = e ∙ rw (le-leb (w .depth) 128 d, le-leb (w .found .count) 64 l)
 
   module _ (held : Bool) (none : Id) (v : Walk) (r : Next) (en : none ≡ noId) (ev : v ≡ holding w none) where
     pub settled-yes : held ≡ true → r ≡ kept v (w .candidate) → r ≡ settled w held
@@ -143,20 +182,3 @@ module _ (w : Walk) where
   pub done-is : (t : Table) (n v : Walk) → t ≡ sorted (w .found) → n ≡ noWalk → v ≡ finding n t → _≡_ {A = Next} (record { goes = Done; walk = v }) (done w)
   unfolding done
   done-is t n v et en ev = rw (ev, en, et)
-
-pub is-one-same : (h : Heard) (x y : Id) (r : Bool) → h ≡ One → r ≡ sameId (idOf y) (idOf x) → r ≡ isOne x h y
-unfolding isOne
-is-one-same h x y r e f = f ∙ rw e
-
-module _ (p : Phase) (h : Heard) (r : Bool) (e : r ≡ long h) where
-  pub too-long-asked : p ≡ Asked → r ≡ tooLong p h
-  unfolding tooLong
-  too-long-asked ep = e ∙ rw ep
-
-  pub too-long-mine : p ≡ Mine → r ≡ tooLong p h
-  unfolding tooLong
-  too-long-mine ep = e ∙ rw ep
-
-  pub too-long-other : (good : Bool) → p ≡ Other good → r ≡ tooLong p h
-  unfolding tooLong
-  too-long-other good ep = e ∙ rw ep

@@ -15,17 +15,19 @@ use Rattle.walk.specs.declared.Walk.{Walk}
 use Rattle.walk.specs.declared.Phase.{Phase}
 use Rattle.walk.specs.declared.Phase.the-variants.{Asked, Mine, Other, Leaving}
 use Rattle.walk.specs.Moves.{onPhase, finding, holding, noWalk, mark, lower, turn, climb}
+use Rattle.steps.specs.declared.End.{End}
+use Rattle.steps.specs.declared.End.the-variants.{DuplicateUid, LongId, TableFull, Unaddressed}
 use Rattle.steps.specs.declared.Goes.the-variants.{On, Done, Stopped}
 use Rattle.steps.specs.declared.Next.{Next}
 
 abbrev pub going : Phase → Walk → Next
 going p w = record { goes = On p; walk = w }
 
-unfoldable pub stopped : ℕ → Next
-stopped n = record { goes = Stopped n; walk = noWalk }
+unfoldable pub stopped : End → Next
+stopped end = record { goes = Stopped end; walk = noWalk }
 
 unfoldable pub descend : Walk → Next
-descend w = cond (ltb (w .depth) 128) (going Asked (lower w)) (stopped 12)
+descend w = cond (ltb (w .depth) 128) (going Asked (lower w)) (stopped DuplicateUid)
 
 unfoldable pub onward : Walk → Next
 onward w = cond (eqb (mark w) 1) (going Asked (turn w)) (going Leaving w)
@@ -39,7 +41,7 @@ unfoldable pub silent : Walk → Next
 silent w = cond (eqb (mark w) 1) (descend (turn w)) (leave w)
 
 unfoldable pub kept : Walk → Id → Next
-kept w x = cond (ltb (w .found .count) 64) (leave (finding w (keep (w .found) (record { id = x })))) (stopped 15)
+kept w x = cond (ltb (w .found .count) 64) (leave (finding w (keep (w .found) (record { id = x })))) (stopped TableFull)
 
 unfoldable pub confirming : Walk → Id → Next
 confirming w x = cond (ltb (w .depth) (8 * length (idOf x))) (going Mine (holding w x)) (kept w x)
@@ -49,15 +51,9 @@ hears w h x =
     onHeard h
     (silent w)
     (cond (begins (take (w .depth) (bitsOf (w .path))) (bitsOf (idOf x))) (confirming w x) (descend w))
-    (stopped 14)
-    (stopped 23)
+    (stopped LongId)
+    (stopped Unaddressed)
     (descend w)
-
-unfoldable pub isOne : Id → Heard → Id → Bool
-isOne x h y = onHeard h false (sameId (idOf y) (idOf x)) false false false
-
-unfoldable pub isNothing : Heard → Bool
-isNothing h = onHeard h true false false false false
 
 -- Both children have been asked: the candidate is kept, or the path is gone down.
 unfoldable pub settled : Walk → Bool → Next
@@ -67,21 +63,27 @@ settled w held = cond held (kept (holding w noId) (w .candidate)) (descend (hold
 unfoldable pub done : Walk → Next
 done w = record { goes = Done; walk = finding noWalk (sorted (w .found)) }
 
-unfoldable pub tell : Walk → Phase → Heard → Id → Next
-tell w p h x =
-    onPhase p
-    (hears w h x)
-    (going (Other (isOne (w .candidate) h x)) w)
-    (λ good. settled w (good && isNothing h))
-    (done w)
+-- The candidate's own child was asked: whether the candidate was heard again.
+unfoldable pub mine : Walk → Heard → Id → Next
+mine w h x =
+    onHeard h
+    (going (Other false) w)
+    (going (Other (sameId (idOf x) (idOf (w .candidate)))) w)
+    (stopped LongId)
+    (going (Other false) w)
+    (going (Other false) w)
 
--- An id over 16 bytes is refused, but in the deselect.
+-- The other child was asked: the candidate holds if it was heard again in its own, and nothing in this one.
+unfoldable pub other : Walk → Bool → Heard → Next
+other w good h = onHeard h (settled w good) (settled w false) (stopped LongId) (settled w false) (settled w false)
+
+unfoldable pub tell : Walk → Phase → Heard → Id → Next
+tell w p h x = onPhase p (hears w h x) (mine w h x) (λ good. other w good h) (done w)
+
+-- An id over 16 bytes was heard.
 unfoldable pub long : Heard → Bool
 long h = onHeard h false false true false false
 
-unfoldable pub tooLong : Phase → Heard → Bool
-tooLong p h = onPhase p (long h) (long h) (λ good. long h) false
-
 -- The step of any record: one that holds more levels or rows than there are ends at once.
 unfoldable pub step : Walk → Phase → Heard → Id → Next
-step w p h x = cond (leb (w .depth) 128 && leb (w .found .count) 64) (cond (tooLong p h) (stopped 14) (tell w p h x)) (stopped 12)
+step w p h x = cond (leb (w .depth) 128 && leb (w .found .count) 64) (tell w p h x) (stopped DuplicateUid)

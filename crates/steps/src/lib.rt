@@ -1,4 +1,4 @@
-// What each thing heard does to the walk: it goes on, is done, or stops with an answer number.
+// What each thing heard does to the walk: it goes on, is done, or ends before its time.
 use hearing::Heard;
 use ids::Id;
 use table::Entry;
@@ -6,13 +6,20 @@ use walk::Phase;
 use walk::Walk;
 ghost use mathlib.Core.Path.{_≡_};
 ghost use Prim.Native.Nat.{_≤_};
-ghost use mathlib.Core.Bool.{_&&_};
-ghost use Rattle.steps.specs.Steps.{going, stopped, descend, leave, silent, kept, confirming, hears, isNothing, isOne, long, tooLong, settled, done, tell, step};
+ghost use Rattle.steps.specs.Steps.{going, stopped, descend, leave, silent, kept, confirming, hears, mine, other, long, settled, done, tell, step};
+
+// How a walk ends before its time: document 01's 12, 14 and 15, and its outcome 23.
+pub enum End {
+    DuplicateUid,
+    LongId,
+    TableFull,
+    Unaddressed,
+}
 
 pub enum Goes {
     On(Phase),
     Done,
-    Stopped(u8),
+    Stopped(End),
 }
 
 pub struct Next {
@@ -20,17 +27,17 @@ pub struct Next {
     pub walk: Walk,
 }
 
-pub fn stopped(n: u8) -> Next
-    ensures { λ r. ⌜ r ≡ stopped n ⌝ }
+fn stopped(end: End) -> Next
+    ensures { λ r. ⌜ r ≡ stopped end ⌝ }
 {
     let w = walk::no_walk();
     Next {
-        goes: Goes::Stopped(n),
+        goes: Goes::Stopped(end),
         walk: w,
     }
 }
 
-pub fn going(p: Phase, w: Walk) -> Next
+fn going(p: Phase, w: Walk) -> Next
     ensures { λ r. ⌜ r ≡ going p w ⌝ }
 {
     Next {
@@ -40,17 +47,17 @@ pub fn going(p: Phase, w: Walk) -> Next
 }
 
 // Into the zero child, while there is a level left.
-pub fn descend(w: Walk) -> Next
+fn descend(w: Walk) -> Next
     ensures { λ r. ⌜ r ≡ descend w ⌝ }
 {
     if 128 <= w.depth {
-        return stopped(12);
+        return stopped(End::DuplicateUid);
     }
     going(Phase::Asked, w.lower())
 }
 
 // The branch has ended.
-pub fn leave(w: Walk) -> Next
+fn leave(w: Walk) -> Next
     requires { ⌜ w .depth ≤ 128 ⌝ }
     ensures { λ r. ⌜ r ≡ leave w ⌝ }
 {
@@ -62,7 +69,7 @@ pub fn leave(w: Walk) -> Next
 }
 
 // Nothing was heard: after a zero child its sibling counts as garble.
-pub fn silent(w: Walk) -> Next
+fn silent(w: Walk) -> Next
     requires { ⌜ w .depth ≤ 128 ⌝ }
     ensures { λ r. ⌜ r ≡ silent w ⌝ }
 {
@@ -73,20 +80,20 @@ pub fn silent(w: Walk) -> Next
 }
 
 // The id goes into the list, while there is room.
-pub fn kept(w: Walk, id: Id) -> Next
+fn kept(w: Walk, id: Id) -> Next
     requires { ⌜ w .depth ≤ 128 ⌝ }
     ensures { λ r. ⌜ r ≡ kept w id ⌝ }
 {
     let t = w.found;
     if 64 <= t.count {
-        return stopped(15);
+        return stopped(End::TableFull);
     }
     let u = t.keep(Entry { id });
     leave(w.finding(u))
 }
 
 // An id that begins with the path.
-pub fn confirming(w: Walk, id: Id) -> Next
+fn confirming(w: Walk, id: Id) -> Next
     requires { ⌜ w .depth ≤ 128 ⌝ }
     ensures { λ r. ⌜ r ≡ confirming w id ⌝ }
 {
@@ -97,7 +104,7 @@ pub fn confirming(w: Walk, id: Id) -> Next
     kept(w, id)
 }
 
-pub fn hears(w: Walk, h: Heard, id: Id) -> Next
+fn hears(w: Walk, h: Heard, id: Id) -> Next
     requires { ⌜ w .depth ≤ 128 ⌝ }
     ensures { λ r. ⌜ r ≡ hears w h id ⌝ }
 {
@@ -110,14 +117,14 @@ pub fn hears(w: Walk, h: Heard, id: Id) -> Next
             }
             descend(w)
         }
-        Heard::TooLong => stopped(14),
-        Heard::Unaddressed => stopped(23),
+        Heard::TooLong => stopped(End::LongId),
+        Heard::Unaddressed => stopped(End::Unaddressed),
         Heard::Garble => descend(w),
     }
 }
 
 // Both children have been asked.
-pub fn settled(w: Walk, held: bool) -> Next
+fn settled(w: Walk, held: bool) -> Next
     requires { ⌜ w .depth ≤ 128 ⌝ }
     ensures { λ r. ⌜ r ≡ settled w held ⌝ }
 {
@@ -129,7 +136,7 @@ pub fn settled(w: Walk, held: bool) -> Next
     descend(v)
 }
 
-pub fn done(w: Walk) -> Next
+fn done(w: Walk) -> Next
     requires { ⌜ w .found .count ≤ 64 ⌝ }
     ensures { λ r. ⌜ r ≡ done w ⌝ }
 {
@@ -141,56 +148,50 @@ pub fn done(w: Walk) -> Next
     }
 }
 
-pub fn both(a: bool, b: bool) -> bool
-    ensures { λ r. ⌜ r ≡ a && b ⌝ }
-{
-    if a { b } else { false }
-}
-
-pub fn is_nothing(h: Heard) -> bool
-    ensures { λ r. ⌜ r ≡ isNothing h ⌝ }
+// The candidate's own child was asked: whether the candidate was heard again.
+fn mine(w: Walk, h: Heard, id: Id) -> Next
+    ensures { λ r. ⌜ r ≡ mine w h id ⌝ }
 {
     match h {
-        Heard::Nothing => true,
-        Heard::One => false,
-        Heard::TooLong => false,
-        Heard::Unaddressed => false,
-        Heard::Garble => false,
+        Heard::Nothing => going(Phase::Other(false), w),
+        Heard::One => {
+            let x = w.candidate;
+            going(Phase::Other(id.same(x)), w)
+        }
+        Heard::TooLong => stopped(End::LongId),
+        Heard::Unaddressed => going(Phase::Other(false), w),
+        Heard::Garble => going(Phase::Other(false), w),
     }
 }
 
-pub fn is_one(x: Id, h: Heard, y: Id) -> bool
-    ensures { λ r. ⌜ r ≡ isOne x h y ⌝ }
+// The other child was asked: the candidate holds if it was heard again in its own, and nothing in this one.
+fn other(w: Walk, good: bool, h: Heard) -> Next
+    requires { ⌜ w .depth ≤ 128 ⌝ }
+    ensures { λ r. ⌜ r ≡ other w good h ⌝ }
 {
     match h {
-        Heard::Nothing => false,
-        Heard::One => y.same(x),
-        Heard::TooLong => false,
-        Heard::Unaddressed => false,
-        Heard::Garble => false,
+        Heard::Nothing => settled(w, good),
+        Heard::One => settled(w, false),
+        Heard::TooLong => stopped(End::LongId),
+        Heard::Unaddressed => settled(w, false),
+        Heard::Garble => settled(w, false),
     }
 }
 
-pub fn tell(w: Walk, p: Phase, h: Heard, id: Id) -> Next
+fn tell(w: Walk, p: Phase, h: Heard, id: Id) -> Next
     requires { ⌜ w .depth ≤ 128 ⌝ }
     requires { ⌜ w .found .count ≤ 64 ⌝ }
     ensures { λ r. ⌜ r ≡ tell w p h id ⌝ }
 {
     match p {
         Phase::Asked => hears(w, h, id),
-        Phase::Mine => {
-            let x = w.candidate;
-            let good = is_one(x, h, id);
-            going(Phase::Other(good), w)
-        }
-        Phase::Other(good) => {
-            let held = both(good, is_nothing(h));
-            settled(w, held)
-        }
+        Phase::Mine => mine(w, h, id),
+        Phase::Other(good) => other(w, good, h),
         Phase::Leaving => done(w),
     }
 }
 
+// An id over 16 bytes was heard.
 pub fn long(h: Heard) -> bool
     ensures { λ r. ⌜ r ≡ long h ⌝ }
 {
@@ -203,30 +204,16 @@ pub fn long(h: Heard) -> bool
     }
 }
 
-pub fn too_long(p: Phase, h: Heard) -> bool
-    ensures { λ r. ⌜ r ≡ tooLong p h ⌝ }
-{
-    match p {
-        Phase::Asked => long(h),
-        Phase::Mine => long(h),
-        Phase::Other(_) => long(h),
-        Phase::Leaving => false,
-    }
-}
-
 // The whole step, of any walk in any phase on anything heard.
 pub fn step(w: Walk, p: Phase, h: Heard, id: Id) -> Next
     ensures { λ r. ⌜ r ≡ step w p h id ⌝ }
 {
     if 128 < w.depth {
-        return stopped(12);
+        return stopped(End::DuplicateUid);
     }
     let t = w.found;
     if 64 < t.count {
-        return stopped(12);
-    }
-    if too_long(p, h) {
-        return stopped(14);
+        return stopped(End::DuplicateUid);
     }
     tell(w, p, h, id)
 }

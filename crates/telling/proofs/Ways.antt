@@ -5,7 +5,6 @@ use mathlib.Core.Bool.{Bool, true, false}
 use mathlib.Core.List.{List}
 use mathlib.Core.Path.{_≡_, sym, _∙_}
 use lib.ListN.{length}
-use borrow.Author.Tests.{eq-eqb, ne-eqb}
 use Rattle.paper.specs.Hearing.{hear}
 use Rattle.lore.proofs.Choice.{cond-yes, cond-no}
 use Rattle.ids.specs.declared.Id.{Id}
@@ -19,6 +18,7 @@ use Rattle.table.specs.Rows.{noTable}
 use Rattle.walk.specs.declared.Walk.{Walk}
 use Rattle.steps.specs.declared.Next.{Next}
 use Rattle.walk.specs.declared.Phase as Walk
+use Rattle.steps.specs.declared.End.{End}
 use Rattle.steps.specs.declared.Goes.{Goes}
 use Rattle.steps.specs.declared.Goes.the-variants.{On, Done, Stopped}
 use Rattle.steps.specs.Steps as Steps
@@ -83,23 +83,6 @@ module _ (c d : Client) (given : Bool) (at : ℕ) (r : Told) (ed : d ≡ cleared
   unfolding backed
   backed-none g f = rw g (rw ed at f)
 
-module _ (n : ℕ) where
-  pub stop-12 : n ≡ 12 → Refused DuplicateUid ≡ stopOf n
-  unfolding stopOf
-  stop-12 e = rw (eq-eqb n 12 e)
-
-  pub stop-14 : (n ≡ 12 → ⊥) → n ≡ 14 → Refused LongId ≡ stopOf n
-  unfolding stopOf
-  stop-14 a e = rw (ne-eqb n 12 a, eq-eqb n 14 e)
-
-  pub stop-15 : (n ≡ 12 → ⊥) → (n ≡ 14 → ⊥) → n ≡ 15 → Refused TableFull ≡ stopOf n
-  unfolding stopOf
-  stop-15 a b e = rw (ne-eqb n 12 a, ne-eqb n 14 b, eq-eqb n 15 e)
-
-  pub stop-23 : (n ≡ 12 → ⊥) → (n ≡ 14 → ⊥) → (n ≡ 15 → ⊥) → Over Outcome.Unaddressed ≡ stopOf n
-  unfolding stopOf
-  stop-23 a b e = rw (ne-eqb n 12 a, ne-eqb n 14 b, ne-eqb n 15 e)
-
 module _ (c : Client) (g : Goes) (w : Walk) (at : ℕ) (r : Told) where
   pub walked-on : (p : Walk.Phase) → g ≡ On p → r ≡ onward c (Select (Walking p)) w at → r ≡ walked c g w at
   unfolding walked
@@ -109,9 +92,9 @@ module _ (c : Client) (g : Goes) (w : Walk) (at : ℕ) (r : Told) where
   unfolding walked
   walked-done d x e ed ex f = rw e (rw (ed, ex) at f)
 
-  pub walked-stopped : (n : ℕ) (s : Says) → g ≡ Stopped n → s ≡ stopOf n → r ≡ stops c s at → r ≡ walked c g w at
+  pub walked-stopped : (end : End) (s : Says) → g ≡ Stopped end → s ≡ stopOf end → r ≡ stops c s at → r ≡ walked c g w at
   unfolding walked
-  walked-stopped n s e es f = rw (e, ← es) f
+  walked-stopped end s e es f = rw (e, ← es) f
 
 module _ (c : Client) (h : Heard) (x : Id) (at : ℕ) (r : Told) (b : Bool) (eb : b ≡ Steps.long h) where
   pub probed-long : b ≡ true → r ≡ stops c (Refused LongId) at → r ≡ probed c h x at

@@ -3,7 +3,6 @@
 use Prim.Native.Nat.{ℕ}
 use mathlib.Core.Bool.{Bool, true, false, cond}
 use mathlib.Core.List.{List}
-use lib.Dec.{eqb}
 use lib.ListN.{length}
 use Rattle.paper.specs.Hearing.{hear}
 use Rattle.ids.specs.declared.Id.{Id}
@@ -13,6 +12,8 @@ use Rattle.hearing.specs.Heard.{onHeard, shownHeard}
 use Rattle.table.specs.Rows.{noTable}
 use Rattle.walk.specs.declared.Walk.{Walk}
 use Rattle.walk.specs.declared.Phase as Walk
+use Rattle.steps.specs.declared.End.{End}
+use Rattle.steps.specs.declared.End.the-variants as End
 use Rattle.steps.specs.declared.Goes.{Goes}
 use Rattle.steps.specs.declared.Goes.the-variants.{On, Done, Stopped}
 use Rattle.steps.specs.Steps as Steps
@@ -29,10 +30,10 @@ use Rattle.client.specs.declared.Says.the-variants.{Over, Refused}
 use Rattle.client.specs.declared.Told.{Told}
 use Rattle.client.specs.Clients.{onTurn, onPhase, onSearch, otherImage, holding, cleared, refuses, over, stops, onward}
 
-abbrev pub onGoes {ℓ} : {A : Type ℓ} → Goes → (Walk.Phase → A) → A → (ℕ → A) → A
+abbrev pub onGoes {ℓ} : {A : Type ℓ} → Goes → (Walk.Phase → A) → A → (End → A) → A
 onGoes (On p) on done stopped = on p
 onGoes Done on done stopped = done
-onGoes (Stopped n) on done stopped = stopped n
+onGoes (Stopped end) on done stopped = stopped end
 
 unfoldable pub attaches : Client → Bool → Id → ℕ → Told
 attaches c any x at = over (holding c any x) (Over (Outcome.Attached any)) x noTable at
@@ -52,16 +53,18 @@ unfoldable pub backed : Client → Bool → ℕ → Told
 backed c given at =
     cond given (over (cleared c) (Refused AmbiguousUid) (c .prefix) noTable at) (stops (cleared c) (Refused SeveralDevices) at)
 
-unfoldable pub stopOf : ℕ → Says
-stopOf n =
-    cond (eqb n 12) (Refused DuplicateUid) (cond (eqb n 14) (Refused LongId) (cond (eqb n 15) (Refused TableFull) (Over Outcome.Unaddressed)))
+unfoldable pub stopOf : End → Says
+stopOf End.DuplicateUid = Refused DuplicateUid
+stopOf End.LongId = Refused LongId
+stopOf End.TableFull = Refused TableFull
+stopOf End.Unaddressed = Over Outcome.Unaddressed
 
 unfoldable pub walked : Client → Goes → Walk → ℕ → Told
 walked c g w at =
     onGoes g
     (λ p. onward c (Select (Walking p)) w at)
     (over (cleared c) (Over Outcome.Found) noId (w .found) at)
-    (λ n. stops c (stopOf n) at)
+    (λ end. stops c (stopOf end) at)
 
 unfoldable pub probed : Client → Heard → Id → ℕ → Told
 probed c h x at = cond (Steps.long h) (stops c (Refused LongId) at) (over c (Over (Outcome.Heard h)) x noTable at)

@@ -9,6 +9,7 @@ use client::Told;
 use client::Turn;
 use hearing::Heard;
 use ids::Id;
+use steps::End;
 use steps::Goes;
 use table::Table;
 use walk::Walk;
@@ -24,20 +25,16 @@ fn attaches(c: Client, any: bool, id: Id, at: usize) -> Told
         .over(Says::Over(Outcome::Attached(any)), id, Table::none(), at)
 }
 
-// What ended a walk, by its number.
-fn stop_of(n: u8) -> Says
-    ensures { λ r. ⌜ r ≡ stopOf n ⌝ }
+// What a walk that ends before its time says.
+fn stop_of(end: End) -> Says
+    ensures { λ r. ⌜ r ≡ stopOf end ⌝ }
 {
-    if n == 12 {
-        return Says::Refused(Refusal::DuplicateUid);
+    match end {
+        End::DuplicateUid => Says::Refused(Refusal::DuplicateUid),
+        End::LongId => Says::Refused(Refusal::LongId),
+        End::TableFull => Says::Refused(Refusal::TableFull),
+        End::Unaddressed => Says::Over(Outcome::Unaddressed),
     }
-    if n == 14 {
-        return Says::Refused(Refusal::LongId);
-    }
-    if n == 15 {
-        return Says::Refused(Refusal::TableFull);
-    }
-    Says::Over(Outcome::Unaddressed)
 }
 
 // What an attach makes of what it heard.
@@ -95,7 +92,7 @@ fn walked(c: Client, goes: Goes, walk: Walk, at: usize) -> Told
             c.cleared()
                 .over(Says::Over(Outcome::Found), Id::none(), found, at)
         }
-        Goes::Stopped(n) => c.stops(stop_of(n), at),
+        Goes::Stopped(end) => c.stops(stop_of(end), at),
     }
 }
 

@@ -14,9 +14,8 @@ use Rattle.paper.specs.Flash.{writeSize, writeRequest, flash}
 use Rattle.paper.specs.Client.{payloadOf}
 use Rattle.theory.specs.FlashOrder.{Past, Event, play, everything, carried, written, InOrder, toInform, toErase, toWrite, toVerify, Ordered, Allowed, Flashed}
 use Rattle.theory.proofs.FlashOrder.{flash-in-order}
-use Rattle.theory.proofs.Writes.{write-size}
 use Rattle.theory.proofs.Conversations.{each-asked}
-use Rattle.lore.proofs.Chunks.{chunk-most}
+use Rattle.lore.proofs.Chunks.{chunk-most, write-size}
 
 -- A piece of the image, of any size that the padding allows.
 piece-padded : (image : List ℕ) (o k : ℕ) → k ≤ padded (length image) - o

@@ -18,7 +18,8 @@ use Rattle.paper.specs.Flash.{infoRequest, eraseRequest, writeRequest, verifyRe
 use Rattle.theory.specs.FlashOrder.{Exchange, met, Past, Event, play, asks, everything, toldBy, toldIn, told, isOk, carried, wroteIn, written, erasedIn, erased, eraseIn, erases, writeIn, writesAt, planned, FrontOf, Passed, MayWrite, toInform, toErase, toWrite, toVerify, Fronts, Front, Allowed, Kept, Stands, Flashed}
 use Rattle.theory.proofs.Conversations.{Always, always-bind, always-each, always-refuseIf, always-test, always-transact, play-kept, all-asked}
 use Rattle.theory.proofs.Infos.{sound-chunk, informed-sound}
-use Rattle.theory.proofs.Writes.{First, first, last, write-size, at-most, counted, uncounted}
+use Rattle.theory.proofs.Writes.{First, first, last, at-most, counted, uncounted}
+use Rattle.lore.proofs.Chunks.{write-size}
 
 pub told-still : (x : Exchange) (past : Past) (i : Info × List ℕ) → told past ≡ some i → told (x ∷ past) ≡ some i
 unfolding told

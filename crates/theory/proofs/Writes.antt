@@ -1,16 +1,14 @@
--- The offsets of Writes one after the other, how long each Write is, and how many stand at an offset.
+-- The offsets of Writes one after the other, and how many stand at an offset.
 -- Assumes nothing.
-use Prim.Native.Nat.{ℕ, _+_, _-_, _≤_, _<_, min}
+use Prim.Native.Nat.{ℕ, _+_, _≤_, _<_}
 use mathlib.Core.Bool.{Bool, true, false, cond}
 use mathlib.Core.List.{List, [], _∷_}
 use mathlib.Core.Path.{_≡_, refl}
 use native.Mathlib.Omega.{arith}
-use lib.Dec.{leb, ltb, eqb}
-use borrow.Author.Tests.{ltb-true, ltb-false, leb-true, leb-false, eqb-true}
+use lib.Dec.{ltb, eqb}
+use borrow.Author.Tests.{ltb-true, ltb-false, eqb-true}
 use Rattle.lore.proofs.Rows.{below-nil, below-cons}
-use Rattle.paper.specs.Frame.{Info}
-use Rattle.paper.specs.Answers.{chunk, padded, below}
-use Rattle.paper.specs.Flash.{writeSize}
+use Rattle.paper.specs.Answers.{below}
 
 -- The first of the offsets that are left.
 pub record First (c p o x : ℕ) (xs : List ℕ) : Type 0 where
@@ -39,16 +37,6 @@ last c p o pc e = go (ltb o p) refl
         let z : _≡_ {A = ℕ} 0 1 = cc in
         absurd (omega arith)
     go false h = ltb-false o p h
-
-pub write-size : (info : Info) (n o : ℕ) → writeSize info n o ≡ min (chunk (info .maxPayload)) (padded n - o)
-write-size info n o = go (leb (chunk (info .maxPayload)) (padded n - o)) refl
-  where
-    c : ℕ
-    c = chunk (info .maxPayload)
-
-    go : (b : Bool) → leb c (padded n - o) ≡ b → cond b c (padded n - o) ≡ min c (padded n - o)
-    go true e = omega (arith, leb-true c (padded n - o) e)
-    go false e = omega (arith, leb-false c (padded n - o) e)
 
 -- One more Write at x.
 pub at-most : (b : Bool) → cond b 1 0 ≤ 1

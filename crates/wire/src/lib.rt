@@ -41,6 +41,12 @@ pub enum Written {
     TooLong,
 }
 
+// What a writer of a request answers: the bytes written at the buffer's front, or the length that the buffer lacks.
+pub enum Placed {
+    Done(usize),
+    Short(usize),
+}
+
 pub fn wide16(x: u8) -> u16
     ensures { λ r. ⌜ r ≡ x ⌝ }
     ensures { λ r. ⌜ r < 256 ⌝ }

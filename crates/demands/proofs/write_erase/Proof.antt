@@ -14,11 +14,11 @@ cast-t10 c = search needs
 head-requires : tie.Need-head-requires
 head-requires c κs = search needs
 
-slice-aggregate-write-frame : tie.Need-slice-aggregate-write-frame
-slice-aggregate-write-frame c = search needs
+slice-aggregate-place-frame : tie.Need-slice-aggregate-place-frame
+slice-aggregate-place-frame c = search needs
 
-write-frame-requires : tie.Need-write-frame-requires
-write-frame-requires c κs = search needs
+place-frame-requires : tie.Need-place-frame-requires
+place-frame-requires c κs = search needs
 
 same-length : tie.Need-same-length
 same-length c = search needs
@@ -33,7 +33,7 @@ write-erase-spec =
     cast-t7
     cast-t10
     head-requires
-    slice-aggregate-write-frame
-    write-frame-requires
+    slice-aggregate-place-frame
+    place-frame-requires
     same-length
     returns)

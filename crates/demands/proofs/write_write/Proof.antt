@@ -1,6 +1,6 @@
 -- `demands::write_write` meets its contract.
 -- Assumes nothing.
-use Rattle.demands.proofs.Ways.{held-within, sent-write}
+use Rattle.demands.proofs.Ways.{held-within, write-fits, sent-write}
 use borrow.Author.Needs.{needs}
 use Rattle.demands.proofs.write_write.Statement.{statement}
 use Rattle.demands.proofs.write_write.Tie as tie
@@ -26,11 +26,11 @@ cast-head c = search needs
 head-requires : tie.Need-head-requires
 head-requires c κs = search needs
 
-sub-write-frame : tie.Need-sub-write-frame
-sub-write-frame c = search (held-within, needs)
+sub-place-frame : tie.Need-sub-place-frame
+sub-place-frame c = search (held-within, needs)
 
-write-frame-requires : tie.Need-write-frame-requires
-write-frame-requires c κs = search needs
+place-frame-requires : tie.Need-place-frame-requires
+place-frame-requires c κs = search (write-fits, needs)
 
 same-length : tie.Need-same-length
 same-length c = search needs
@@ -49,7 +49,7 @@ write-write-spec =
     part-requires
     cast-head
     head-requires
-    sub-write-frame
-    write-frame-requires
+    sub-place-frame
+    place-frame-requires
     same-length
     returns)

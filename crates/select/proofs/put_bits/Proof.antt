@@ -7,31 +7,31 @@ use mathlib.Core.Path.{_≡_}
 use lib.ListN.{length, take, drop}
 use Rattle.paper.specs.Hearing.{packed}
 use Rattle.select.specs.Selects.{asked, bytesFor}
-use Rattle.select.proofs.Ways.{bits-more, bits-done}
+use Rattle.select.proofs.Ways.{bits-none, bits-more, bits-done}
 use Rattle.select.proofs.put_bits.Statement.{statement}
 use Rattle.select.proofs.put_bits.Tie as tie
 
 abbrev Inv-loop : tie.InvT-loop
-Inv-loop dst₀ bits count n i₀ dst i =
-    (i ≤ n) × (length dst ≡ length dst₀) × (dst ≡ take i (packed (bytesFor count) (asked bits count)) ++ drop i dst₀)
+Inv-loop dst₀ bits count k₀ dst k =
+    (k ≤ count) × (length dst ≡ length dst₀) × (dst ≡ packed (bytesFor count) (take k (asked bits count)) ++ drop (bytesFor count) dst₀)
 
 abbrev μ-loop : tie.MeasureT-loop
-μ-loop dst₀ bits count n i₀ dst i = n - i
+μ-loop dst₀ bits count k₀ dst k = count - k
 
 bytes-for-requires : tie.Need-bytes-for-requires Inv-loop μ-loop
 bytes-for-requires c κs = search needs
 
+fill-requires : tie.Need-fill-requires Inv-loop μ-loop
+fill-requires c κs = search needs
+
 loop-holds : tie.Need-loop-holds Inv-loop μ-loop
-loop-holds c = search needs
+loop-holds c = (search needs, search needs, search (bits-none, needs))
 
-byte-at-requires : tie.Need-byte-at-requires Inv-loop μ-loop
-byte-at-requires c κs = search needs
+put-bit-requires : tie.Need-put-bit-requires Inv-loop μ-loop
+put-bit-requires c κs = search needs
 
-slice-write-dst : tie.Need-slice-write-dst Inv-loop μ-loop
-slice-write-dst c = search needs
-
-add-i : tie.Need-add-i Inv-loop μ-loop
-add-i c = search needs
+add-k : tie.Need-add-k Inv-loop μ-loop
+add-k c = search needs
 
 loop-less : tie.Need-loop-less Inv-loop μ-loop
 loop-less c = search needs
@@ -52,10 +52,10 @@ put-bits-spec =
     Inv-loop
     μ-loop
     bytes-for-requires
+    fill-requires
     loop-holds
-    byte-at-requires
-    slice-write-dst
-    add-i
+    put-bit-requires
+    add-k
     loop-less
     loop-again
     same-length

@@ -1,6 +1,6 @@
 -- `steps::step` meets its contract.
 -- Assumes nothing.
-use Rattle.steps.proofs.Ways.{step-deep, step-many, step-long, step-tells}
+use Rattle.steps.proofs.Ways.{step-deep, step-many, step-tells}
 use borrow.Author.Needs.{needs}
 use Rattle.steps.proofs.step.Statement.{statement}
 use Rattle.steps.proofs.step.Tie as tie
@@ -17,31 +17,13 @@ stopped-requires-2 c κs = search needs
 returns-2 : tie.Need-returns-2
 returns-2 c = search (step-many, needs)
 
-too-long-requires : tie.Need-too-long-requires
-too-long-requires c κs = search needs
-
-stopped-requires-3 : tie.Need-stopped-requires-3
-stopped-requires-3 c κs = search needs
-
-returns-3 : tie.Need-returns-3
-returns-3 c = search (step-long, needs)
-
 tell-requires : tie.Need-tell-requires
 tell-requires c κs = search needs
 
-returns-4 : tie.Need-returns-4
-returns-4 c = search (step-tells, needs)
+returns-3 : tie.Need-returns-3
+returns-3 c = search (step-tells, needs)
 
 pub step-spec : {M : Type 1} → statement M
 step-spec =
     tie.close
-    (tie.spec
-    stopped-requires
-    returns
-    stopped-requires-2
-    returns-2
-    too-long-requires
-    stopped-requires-3
-    returns-3
-    tell-requires
-    returns-4)
+    (tie.spec stopped-requires returns stopped-requires-2 returns-2 tell-requires returns-3)

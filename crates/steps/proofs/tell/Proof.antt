@@ -14,23 +14,14 @@ hears-requires c κs = search needs
 enum-told-2 : tie.Need-enum-told-2
 enum-told-2 c = search needs
 
-is-one-requires : tie.Need-is-one-requires
-is-one-requires c κs = search needs
-
-going-requires : tie.Need-going-requires
-going-requires c κs = search needs
+mine-requires : tie.Need-mine-requires
+mine-requires c κs = search needs
 
 enum-known-p : tie.Need-enum-known-p
 enum-known-p c = search needs
 
-is-nothing-requires : tie.Need-is-nothing-requires
-is-nothing-requires c κs = search needs
-
-both-requires : tie.Need-both-requires
-both-requires c κs = search needs
-
-settled-requires : tie.Need-settled-requires
-settled-requires c κs = search needs
+other-requires : tie.Need-other-requires
+other-requires c κs = search needs
 
 enum-told-3 : tie.Need-enum-told-3
 enum-told-3 c = search needs
@@ -57,12 +48,9 @@ tell-spec =
     enum-told
     hears-requires
     enum-told-2
-    is-one-requires
-    going-requires
+    mine-requires
     enum-known-p
-    is-nothing-requires
-    both-requires
-    settled-requires
+    other-requires
     enum-told-3
     done-requires
     returns

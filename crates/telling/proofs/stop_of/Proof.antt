@@ -1,21 +1,40 @@
 -- `telling::stop_of` meets its contract.
 -- Assumes nothing.
+use Rattle.lore.proofs.Choice.{at-value}
+use Rattle.telling.specs.Telling.{stopOf}
 use borrow.Author.Needs.{needs}
-use Rattle.telling.proofs.Ways.{stop-12, stop-14, stop-15, stop-23}
 use Rattle.telling.proofs.stop_of.Statement.{statement}
 use Rattle.telling.proofs.stop_of.Tie as tie
 
+enum-told : tie.Need-enum-told
+enum-told c = search needs
+
+enum-told-2 : tie.Need-enum-told-2
+enum-told-2 c = search needs
+
+enum-told-3 : tie.Need-enum-told-3
+enum-told-3 c = search needs
+
+enum-told-4 : tie.Need-enum-told-4
+enum-told-4 c = search needs
+
 returns : tie.Need-returns
-returns c = search (stop-12, needs)
+unfolding stopOf
+returns c = search (at-value stopOf, needs)
 
 returns-2 : tie.Need-returns-2
-returns-2 c = search (stop-14, needs)
+unfolding stopOf
+returns-2 c = search (at-value stopOf, needs)
 
 returns-3 : tie.Need-returns-3
-returns-3 c = search (stop-15, needs)
+unfolding stopOf
+returns-3 c = search (at-value stopOf, needs)
 
 returns-4 : tie.Need-returns-4
-returns-4 c = search (stop-23, needs)
+unfolding stopOf
+returns-4 c = search (at-value stopOf, needs)
 
 pub stop-of-spec : {M : Type 1} → statement M
-stop-of-spec = tie.close (tie.spec returns returns-2 returns-3 returns-4)
+stop-of-spec =
+    tie.close
+    (tie.spec enum-told enum-told-2 enum-told-3 enum-told-4 returns returns-2 returns-3 returns-4)
