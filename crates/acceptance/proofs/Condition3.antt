@@ -6,10 +6,8 @@ use mathlib.Core.List.{List, []}
 use mathlib.Core.Option.{Option}
 use mathlib.Core.Path.{_≡_}
 use lib.ListN.{length}
-use Rattle.paper.specs.Client.{bytesOf}
-use Rattle.paper.specs.Count.{matching, heardOf, All, Pods, count, selects, limit}
-use Rattle.paper.specs.Hearing.{Id, Prefix, bitsOf, hear}
-use Rattle.paper.specs.Talk.{select}
+use Rattle.paper.specs.Count.{matching, All, Pods, count, selects, limit}
+use Rattle.paper.specs.Hearing.{Id, bitsOf}
 use Rattle.paper.specs.Walk.{sort, discover, run}
 use Rattle.lore.proofs.Words.{Bytes}
 use Rattle.theory.specs.Clients.{Brief}
@@ -18,7 +16,7 @@ use Rattle.client.specs.declared.Says.the-variants.{Over}
 use Rattle.client.specs.declared.Turn.the-variants.{Idle}
 use Rattle.client.specs.Clients.{fresh}
 use Rattle.records.specs.Calls.{Call, Good, reached, Rests}
-use Rattle.records.specs.Served.{Wire, isOnward, discovered, resting, heardBy, EndsAs, Finds, Lists, devices}
+use Rattle.records.specs.Served.{Wire, isOnward, discovered, resting, heardBy, Honest, EndsAs, Finds, Lists, devices}
 use Rattle.records.proofs.Calls as Calls
 use Rattle.records.proofs.Devices as Devices
 use Rattle.records.proofs.Discovers as Discovers
@@ -42,13 +40,13 @@ module _ (buffer : List ℕ) (room : 31 ≤ length buffer) (seed : ℕ) (byte : 
     pub lists : (discovered buffer wire (resting seed id) given) .0 .says ≡ Over Found → Lists (bitsOf given) (discovered buffer wire (resting seed id) given)
     lists = Discovers.lists buffer room wire seed byte id brief given short bytes
 
-    -- On a wire that lets hear the ids S: it has found exactly those that match, sorted, after exactly the Selects counted, and those are few.
-    pub finds : (S : List Id) (L : ℕ) → ((k n : ℕ) (q : Prefix) → hear (wire k (bytesOf (select q) n [])) ≡ heardOf (matching q S)) → Pods L (matching (bitsOf given) S)
+    -- On an honest wire of the ids S: it has found exactly those that match, sorted, after exactly the Selects counted, and those are few.
+    pub finds : (S : List Id) (L : ℕ) → Honest wire seed (bitsOf given) S → Pods L (matching (bitsOf given) S)
         → Finds seed (sort (matching (bitsOf given) S)) (selects S L (bitsOf given)) (discovered buffer wire (resting seed id) given)
         × (selects S L (bitsOf given) ≤ 2 + count S (bitsOf given) * (8 * L - length (bitsOf given) + 2))
     finds = Discovers.finds buffer room wire seed byte id brief given short bytes
 
-  -- There is such a wire for any ids of at most 16 bytes.
-  pub finds-devices : (S : List Id) (L : ℕ) → All (λ x. (length x ≤ 16) × Bytes x) S → Pods L (matching (bitsOf given) S)
+  -- There is such a wire for any ids, whatever those are that do not match.
+  pub finds-devices : (S : List Id) (L : ℕ) → Pods L (matching (bitsOf given) S)
       → Finds seed (sort (matching (bitsOf given) S)) (selects S L (bitsOf given)) (discovered buffer (devices S) (resting seed id) given)
-  finds-devices S L small pods = (finds (devices S) S L (Devices.devices-honest S small) pods) .0
+  finds-devices S L pods = (finds (devices S) S L (Devices.pods-honest S L seed (bitsOf given) pods) pods) .0

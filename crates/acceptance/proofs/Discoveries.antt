@@ -40,7 +40,7 @@ use Rattle.asking.specs.Asking.{asks, handing, askedFor, request}
 use Rattle.telling.specs.Telling.{probed, hears, answeredTo, record′, linkFailed}
 use Rattle.records.specs.Calls.{Call, Good, paperCall, codeCall, Answer, paperAnswers, codeAnswers, reached, Rests}
 use Rattle.records.specs.Served.{isOnward, resting, discovered, heardBy, EndsAs, Finds, Lists, devices}
-use Rattle.records.proofs.Devices.{devices-honest}
+use Rattle.records.proofs.Devices.{pods-honest}
 use Rattle.acceptance.proofs.BenchLog as BenchLog
 use Rattle.acceptance.proofs.Calls as Calls
 use Rattle.acceptance.proofs.Condition3 as Condition3
@@ -56,7 +56,7 @@ found = (0xC1 ∷ 0x07 ∷ []) ∷ (0xC1 ∷ 0x87 ∷ []) ∷ []
 abbrev given : Id
 given = 0xC1 ∷ []
 
-abbrev selectRoom : List ℕ
+abbrev pub selectRoom : List ℕ
 selectRoom = replicate 31 0
 
 run-honest : run (honest ids) 0 (discover (bitsOf given)) ≡ (done found, 15)
@@ -75,11 +75,8 @@ pods = record {
 
 -- No computation could sum over all prefixes: the count is what was run.
 takes-15 : selects ids 2 (bitsOf given) ≡ 15
-unfolding honest bitsOf counting bit
-takes-15 = ap (λ p. p .1) (sym (discover-exact (honest ids) ids 2 (bitsOf given) (λ k q. refl) (omega arith) pods) ∙ run-honest)
-
-small : All (λ x. (length x ≤ 16) × Bytes x) ids
-small = ((omega arith, (omega arith, (omega arith, tt))), ((omega arith, (omega arith, (omega arith, tt))), ((omega arith, (omega arith, (omega arith, tt))), tt)))
+unfolding bitsOf counting bit
+takes-15 = ap (λ p. p .1) (sym (discover-exact (honest ids) ids 2 (bitsOf given) (λ k q l b n. refl) (omega arith) pods) ∙ run-honest)
 
 found-is : sort (matching (bitsOf given) ids) ≡ found
 unfolding matching begins bitsOf counting bit sort insert before
@@ -92,13 +89,13 @@ abbrev discovers : Told × ℕ
 discovers = discovered selectRoom (devices ids) (resting 250 attached) given
 
 pub finds-devices-met : Finds 250 found 15 discovers
-finds-devices-met = rw (← found-is, ← takes-15) (Condition3.finds-devices selectRoom room₃ 250 (omega arith) attached (omega arith) given (omega arith) (omega arith, tt) ids 2 small pods)
+finds-devices-met = rw (← found-is, ← takes-15) (Condition3.finds-devices selectRoom room₃ 250 (omega arith) attached (omega arith) given (omega arith) (omega arith, tt) ids 2 pods)
 
 pub finds-met : Finds 250 found 15 discovers × (15 ≤ 2 + 2 * (8 * 2 - 8 + 2))
 unfolding matching begins bitsOf counting bit
 finds-met =
     rw (← found-is, ← takes-15)
-    (Condition3.finds selectRoom room₃ 250 (omega arith) attached (omega arith) given (omega arith) (omega arith, tt) (devices ids) ids 2 (devices-honest ids small) pods)
+    (Condition3.finds selectRoom room₃ 250 (omega arith) attached (omega arith) given (omega arith) (omega arith, tt) (devices ids) ids 2 (pods-honest ids 2 250 (bitsOf given) pods) pods)
 
 pub ends-within-met : (isOnward (discovers .0 .says) ≡ false) × (discovers .1 ≤ 31332)
 unfolding bitsOf counting

@@ -9,3 +9,4 @@ pub mod BenchLog
 pub mod Instances
 pub mod Condition1Met
 pub mod Discoveries
+pub mod HonestMet

@@ -5,7 +5,7 @@ use mathlib.Core.List.{List, []}
 use mathlib.Core.Path.{_≡_, refl, sym, _∙_, ap}
 use native.Mathlib.Omega.{arith}
 use lib.ListN.{length, replicate, length-replicate, replicate-append-replicate}
-use Rattle.paper.specs.Count.{matching, heardOf, All, Pods, count, selects, limit}
+use Rattle.paper.specs.Count.{matching, honest, All, Pods, count, selects, limit}
 use Rattle.paper.specs.Hearing.{Id, Prefix, bitsOf}
 use Rattle.paper.specs.Walk.{Wire, Ended, run, discover, sort, done, stopped}
 use Rattle.lore.proofs.Bits.{bits-length}
@@ -14,6 +14,7 @@ use Rattle.theory.specs.Own.{Apart, ownSelects}
 use Rattle.theory.proofs.Fits.{FitsNext, step-fits, start-fits}
 use Rattle.theory.proofs.Kept.{Listed, kept-listed}
 use Rattle.theory.proofs.Condition3 as Machine
+use Rattle.theory.proofs.Sent.{Alike}
 use Rattle.ids.specs.Ids.{noId, idFrom}
 use Rattle.ids.proofs.Laws.{id-of-from}
 use Rattle.table.specs.Rows.{noTable, puts}
@@ -63,7 +64,7 @@ pub ends : (wire : Wire) (pre : Prefix) → length pre ≤ 128
 ends wire pre le = (follows (limit pre) wire pre le ∙ ap (λ r. (nextOf (r .0), r .1)) ((Machine.ends wire pre) .0), (Machine.ends wire pre) .1)
 
 -- On an honest wire: exactly the ids that match, sorted, after exactly the Selects counted with each id's own length, and those are few.
-pub finds-apart : (wire : Wire) (S : List Id) (L : ℕ) (pre : Prefix) → ((k : ℕ) (q : Prefix) → wire k q ≡ heardOf (matching q S)) → length pre ≤ 128 → Apart (matching pre S)
+pub finds-apart : (wire : Wire) (S : List Id) (L : ℕ) (pre : Prefix) → Alike wire (honest S) pre → length pre ≤ 128 → Apart (matching pre S)
     → All (λ x. length x ≤ L) (matching pre S)
     → (driven (limit pre) wire 0 (begun pre) ≡ (nextOf (ended (done (sort (matching pre S)))), ownSelects S pre)) × (ownSelects S pre ≤ 2 + count S pre * (8 * L - length pre + 2))
 finds-apart wire S L pre h le apart w =
@@ -71,7 +72,7 @@ finds-apart wire S L pre h le apart w =
     (follows (limit pre) wire pre le ∙ ap (λ r. (nextOf (r .0), r .1)) (m .0), m .1)
 
 -- The same for distinct ids of one length, with document 01's count.
-pub finds : (wire : Wire) (S : List Id) (L : ℕ) (pre : Prefix) → ((k : ℕ) (q : Prefix) → wire k q ≡ heardOf (matching q S)) → length pre ≤ 128 → Pods L (matching pre S)
+pub finds : (wire : Wire) (S : List Id) (L : ℕ) (pre : Prefix) → Alike wire (honest S) pre → length pre ≤ 128 → Pods L (matching pre S)
     → (driven (limit pre) wire 0 (begun pre) ≡ (nextOf (ended (done (sort (matching pre S)))), selects S L pre)) × (selects S L pre ≤ 2 + count S pre * (8 * L - length pre + 2))
 finds wire S L pre h le pods =
     let m = Machine.finds wire S L pre h le pods in

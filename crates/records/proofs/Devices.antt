@@ -1,23 +1,24 @@
 -- The wire of some devices lets hear what document 01's honest wire does: the premise on wires is met.
 -- Assumes nothing.
-use Prim.Native.Nat.{ℕ, _+_, _/_, _≤_}
-use mathlib.Core.Bool.{Bool, true, false, cond}
+use Prim.Native.Nat.{ℕ, suc, _+_, _/_, _%_, _≤_}
 use mathlib.Core.List.{List, [], _∷_}
 use mathlib.Core.Path.{_≡_, refl, _∙_, ap}
 use native.Mathlib.Omega.{arith}
 use lib.ListN.{length, take}
 use lib.Seq.{take-append-le}
 use Rattle.paper.specs.Client.{bytesOf}
-use Rattle.paper.specs.Count.{matching, heardOf, All}
+use Rattle.paper.specs.Count.{matching, heardOf, All, Pods}
 use Rattle.paper.specs.Frame.{le, check, read, readSynced, skipped, frameHead, frameBody, frameBytes, command-Select, status-Ok}
-use Rattle.paper.specs.Hearing.{Id, Prefix, bitsOf, matches, garble, selectPayload, packed, clean, frames, hear, selectFrame}
+use Rattle.paper.specs.Hearing.{Id, Prefix, bitsOf, garble, selectPayload, packed, clean, frames, hear, selectFrame}
 use Rattle.paper.specs.Talk.{select}
 use Rattle.lore.proofs.Bits.{bits-length}
 use Rattle.lore.proofs.Packed.{packed-length, packed-read}
 use Rattle.lore.proofs.Words.{Bytes}
+use Rattle.theory.proofs.Each.{all-weaken, all-both}
 use Rattle.theory.proofs.Frames as Frames
 use Rattle.theory.proofs.Heard.{nothing-heard, hear-ok}
-use Rattle.records.specs.Served.{bitsIn, spoken, devices}
+use Rattle.theory.proofs.Matched.{matching-extends, all-matching}
+use Rattle.records.specs.Served.{heardBy, Honest, bitsIn, spoken, devices}
 use Rattle.records.proofs.Requests.{bits-append}
 
 -- The bits that were asked for are those that the bytes hold.
@@ -47,16 +48,16 @@ spoken-heard [] h = nothing-heard
 spoken-heard (x ∷ []) h = hear-ok _ (reply-fits x (h .0 .0) (h .0 .1)) refl
 spoken-heard (x ∷ y ∷ zs) h = stray
 
-matching-all : (P : Id → Type 0) (q : Prefix) (ids : List Id) → All P ids → All P (matching q ids)
-unfolding matching
-matching-all P q [] h = tt
-matching-all P q (x ∷ xs) h = go (matches q x) (matching-all P q xs (h .1))
+-- Any ids of which those that match the given prefix are of at most 16 bytes: what the others are does not matter.
+pub devices-honest : (S : List Id) (seed : ℕ) (given : Prefix) → All (λ x. (length x ≤ 16) × Bytes x) (matching given S) → Honest (devices S) seed given S
+unfolding heardBy devices
+devices-honest S seed given small k q l e n = rw (bits-in q ((seed + suc k) % 256)) (spoken-heard (matching q S) under)
   where
-    go : (b : Bool) → All P (matching q xs) → All P (cond b (x ∷ matching q xs) (matching q xs))
-    go true r = (h .0, r)
-    go false r = r
+    under : All (λ x. (length x ≤ 16) × Bytes x) (matching q S)
+    under = rw (matching-extends given q S e) at (all-matching q _ (matching given S) small)
 
--- Any ids of at most 16 bytes.
-pub devices-honest : (S : List Id) → All (λ x. (length x ≤ 16) × Bytes x) S → (k n : ℕ) (q : Prefix) → hear (devices S k (bytesOf (select q) n [])) ≡ heardOf (matching q S)
-unfolding devices
-devices-honest S h k n q = rw (bits-in q n) (spoken-heard (matching q S) (matching-all _ q S h))
+pub pods-honest : (S : List Id) (L seed : ℕ) (given : Prefix) → Pods L (matching given S) → Honest (devices S) seed given S
+pods-honest S L seed given pods = devices-honest S seed given (all-both _ Bytes (matching given S) small (pods .bytes))
+  where
+    small : All (λ x. length x ≤ 16) (matching given S)
+    small = all-weaken _ _ (matching given S) (λ x e. omega (arith, pods .short)) (pods .sized)

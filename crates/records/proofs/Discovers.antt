@@ -9,11 +9,10 @@ use native.Mathlib.Nat.{mod-eq-of-lt, add-zero}
 use native.Mathlib.Omega.{arith}
 use lib.ListN.{length}
 use borrow.Author.Tests.{le-leb}
-use Rattle.paper.specs.Client.{bytesOf, idAfter, refused}
-use Rattle.paper.specs.Count.{matching, heardOf, All, Pods, count, selects, limit}
+use Rattle.paper.specs.Client.{idAfter, refused}
+use Rattle.paper.specs.Count.{matching, honest, All, Pods, count, selects, limit}
 use Rattle.paper.specs.Hearing as Paper
-use Rattle.paper.specs.Hearing.{Id, Prefix, bitsOf, before, hear}
-use Rattle.paper.specs.Talk.{select}
+use Rattle.paper.specs.Hearing.{Id, Prefix, bitsOf, before}
 use Rattle.paper.specs.Walk as Paper₂
 use Rattle.paper.specs.Walk.{Ended, done, stopped, run, discover, insert, sort}
 use Rattle.lore.proofs.Bits.{bits-length}
@@ -38,7 +37,7 @@ use Rattle.client.specs.declared.Says.the-variants.{Over}
 use Rattle.client.specs.declared.Told.{Told}
 use Rattle.client.specs.Numbers.{idsOf, endOf, saysOf}
 use Rattle.starting.specs.Starting.{startDiscover}
-use Rattle.records.specs.Served.{Wire, isOnward, opening, discovered, resting, heardBy, endSays, endTable, endId, EndsAs, Finds, Lists}
+use Rattle.records.specs.Served.{Wire, isOnward, opening, discovered, resting, heardBy, Honest, endSays, endTable, endId, EndsAs, Finds, Lists}
 use Rattle.records.proofs.Readable.{ids-back, Stops, step-stops, walked-read}
 use Rattle.records.proofs.Serving.{stood, Stands, serve-walks, ended-onward, refused-table}
 use Rattle.records.proofs.Starts.{discover-started}
@@ -154,12 +153,12 @@ module _ (buffer : List ℕ) (room : 31 ≤ length buffer) (wire : Wire) (seed :
     rw (stands .count) ((Machine₂.ends (heardBy wire seed) (bitsOf given)) .1),
   )
 
-  -- On the wire of some devices: exactly the ids that match, sorted, after exactly document 01's count of Selects, and those are few.
-  pub finds : (S : List Id) (L : ℕ) → ((k n : ℕ) (q : Prefix) → hear (wire k (bytesOf (select q) n [])) ≡ heardOf (matching q S)) → Pods L (matching (bitsOf given) S)
+  -- On an honest wire: exactly the ids that match, sorted, after exactly document 01's count of Selects, and those are few.
+  pub finds : (S : List Id) (L : ℕ) → Honest wire seed (bitsOf given) S → Pods L (matching (bitsOf given) S)
       → Finds seed (sort (matching (bitsOf given) S)) (selects S L (bitsOf given)) code × (selects S L (bitsOf given) ≤ 2 + count S (bitsOf given) * (8 * L - length (bitsOf given) + 2))
-  unfolding heardBy ended-as settle idAfter
-  finds S L honest pods =
-      let m : paper ≡ (done (sort (matching (bitsOf given) S)), selects S L (bitsOf given)) = discover-exact (heardBy wire seed) S L (bitsOf given) (λ k q. honest k ((seed + suc k) % 256) q) room-bits pods in
+  unfolding honest ended-as settle idAfter
+  finds S L h pods =
+      let m : paper ≡ (done (sort (matching (bitsOf given) S)), selects S L (bitsOf given)) = discover-exact (heardBy wire seed) S L (bitsOf given) h room-bits pods in
       let t : code .0 ≡ stood seed id (selects S L (bitsOf given)) (ended (done (sort (matching (bitsOf given) S)))) (stands .at) =
       stands .told ∙ ap (λ (r : Ended (List Id) × ℕ). stood seed id (r .1) (ended (r .0)) (stands .at)) m in (
         record {

@@ -134,5 +134,5 @@ unfolding bitsOf counting
 ends-met = Condition3.ends (honest ids) under (omega arith)
 
 pub finds-met : (driven 31332 (honest ids) 0 (begun under) ≡ (nextOf (ended (done found)), selects ids 2 under)) × (selects ids 2 under ≤ 22)
-unfolding honest matching begins bitsOf counting bit sort insert before
-finds-met = Condition3.finds (honest ids) ids 2 under (λ k q. refl) (omega arith) pods
+unfolding matching begins bitsOf counting bit sort insert before
+finds-met = Condition3.finds (honest ids) ids 2 under (λ k q l b n. refl) (omega arith) pods

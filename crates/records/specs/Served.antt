@@ -1,6 +1,6 @@
 -- A client driven over a wire, from bytes to bytes: a request is asked for, the wire is handed its bytes, and its record is handed in.
 -- Assumes nothing.
-use Prim.Native.Nat.{ℕ, zero, suc, _+_, _%_, _≤_}
+use Prim.Native.Nat.{ℕ, zero, suc, _+_, _%_, _≤_, _<_}
 use mathlib.Core.Bool.{Bool, true, false, cond}
 use mathlib.Core.List.{List, [], _∷_}
 use mathlib.Core.Option.{Option, none}
@@ -8,9 +8,9 @@ use mathlib.Core.Path.{_≡_}
 use lib.ListN.{length, take, drop}
 use Rattle.paper.specs.Client as Paper
 use Rattle.paper.specs.Client.{bytesOf, refused, over}
-use Rattle.paper.specs.Count.{matching, All, Distinct, limit}
+use Rattle.paper.specs.Count.{matching, heardOf, All, Distinct, limit}
 use Rattle.paper.specs.Frame.{byte, frameBytes, command-Select, status-Ok}
-use Rattle.paper.specs.Hearing.{Id, Prefix, bitsOf, matches, hear}
+use Rattle.paper.specs.Hearing.{Id, Prefix, bitsOf, begins, matches, hear}
 use Rattle.paper.specs.Talk.{select, found}
 use Rattle.paper.specs.Walk as Paper₃
 use Rattle.paper.specs.Walk.{sort, Ended, done, stopped}
@@ -76,6 +76,13 @@ resting seed id = record { seed = seed; attached = isThere id; id = valueOf id; 
 -- What document 01's discovery hears over a wire, from a client of that seed on: each Select has the next seed.
 unfoldable pub heardBy : Wire → ℕ → Paper₃.Wire
 heardBy wire seed k q = hear (wire k (bytesOf (select q) ((seed + suc k) % 256) []))
+
+-- "an honest wire", of the Selects that a discovery under this prefix hands out before its deselect, from a client of this
+-- seed: fewer than the limit went before, and the prefix asked extends the given one and has at most 128 bits. Each is heard
+-- as silence, the one id, or garble, as none, one or several ids match. Of any other Select it says nothing.
+abbrev pub Honest : Wire → ℕ → Prefix → List Id → Type 0
+Honest wire seed given ids =
+    (k : ℕ) (q : Prefix) → k < limit given → begins given q ≡ true → length q ≤ 128 → heardBy wire seed k q ≡ heardOf (matching q ids)
 
 -- What a discovery's end says, its table, and the attached id after it: one that is done has deselected.
 abbrev pub endSays : Ended (List Id) → Paper.Says

@@ -14,7 +14,7 @@ use Rattle.paper.specs.Walk.{_▹_, Walk, return, stop, select, _>>=_, ask, isN
 use Rattle.theory.proofs.Always.{Always, always-run, always-weaken, always-bind, always-ask}
 use Rattle.theory.proofs.Runs.{down, walk-judge, walk-nothing}
 
-Within : {A : Type 0} → ℕ → Ended A → ℕ → Type 0
+unfoldable pub Within : {A : Type 0} → ℕ → Ended A → ℕ → Type 0
 Within m e c = c ≤ m
 
 confirm-bound : (pre : Prefix) (id : Id) (k : ℕ) → Always (Within (k + 2)) k (confirm pre id)
@@ -116,9 +116,9 @@ unfolding down Spent
 walk-bound zero k pre ids h le e = rw (walk-judge zero pre ids h) (judge-bound zero k pre ids h (stop 12) le e (λ c. omega arith))
 walk-bound (suc n) k pre ids h le e = rw (walk-judge (suc n) pre ids h) (judge-bound (suc n) k pre ids h _ le e (λ c. down-bound n c pre ids le (walk-bound n)))
 
-pub discover-bound : (wire : Wire) (pre : Prefix) → (run wire 0 (discover pre)) .1 ≤ limit pre
+pub discover-within : (pre : Prefix) → Always (Within (limit pre)) 0 (discover pre)
 unfolding discover Spent Within isNothing _>>=_
-discover-bound wire pre = always-run (Within m) wire 0 (discover pre) (always-ask (Within m) 0 pre _ (λ h l. heard h) (omega arith))
+discover-within pre = always-ask (Within m) 0 pre _ (λ h l. heard h) (omega arith)
   where
     n : ℕ
     n = 128 - length pre
@@ -138,3 +138,7 @@ discover-bound wire pre = always-run (Within m) wire 0 (discover pre) (always-as
     heard (one x) = loudly (one x) refl
     heard unaddressed = loudly unaddressed refl
     heard garble = loudly garble refl
+
+pub discover-bound : (wire : Wire) (pre : Prefix) → (run wire 0 (discover pre)) .1 ≤ limit pre
+unfolding Within
+discover-bound wire pre = always-run (Within (limit pre)) wire 0 (discover pre) (discover-within pre)

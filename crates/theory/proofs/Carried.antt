@@ -1,6 +1,6 @@
--- A heard id consists of bytes of its record; and what holds of every id heard holds of every id that the walk carries.
+-- A heard id consists of bytes of its record, of few; what holds of every id heard holds of every id that the walk carries.
 -- Assumes nothing.
-use Prim.Native.Nat.{ℕ, zero, suc}
+use Prim.Native.Nat.{ℕ, zero, suc, _≤_}
 use mathlib.Core.Bool.{Bool, true, false, _&&_, cond}
 use mathlib.Core.List.{List, [], _∷_, _++_}
 use mathlib.Core.Option.{Option, none, some}
@@ -8,7 +8,7 @@ use mathlib.Core.Path.{_≡_, refl}
 use lib.Dec.{ltb, eqb}
 use lib.ListN.{drop, length}
 use Rattle.paper.specs.Count.{All}
-use Rattle.paper.specs.Frame.{Frame, size, Reading, short, tooLong, badCheck, whole, read, status-Request, status-Ok, status-Unsupported}
+use Rattle.paper.specs.Frame.{Frame, most, size, Reading, short, tooLong, badCheck, whole, read, status-Request, status-Ok, status-Unsupported}
 use Rattle.paper.specs.Hearing.{Id, Prefix, bitsOf, matches, onSome, clean, frames, replies, Heard, nothing, one, unaddressed, garble, alone, hear}
 use Rattle.paper.specs.Walk.{isNothing, done, stopped}
 use Rattle.lore.proofs.Readings.{read-known}
@@ -19,47 +19,6 @@ use Rattle.theory.proofs.Each.{all-append}
 use Rattle.theory.proofs.Frames.{bytes-take, bytes-drop}
 use Rattle.theory.proofs.Sorting.{sort-all}
 
--- The frames of bytes have payloads of bytes.
-abbrev Laden : List Frame → Type 0
-Laden fs = All (λ f. Bytes (f .payload)) fs
-
-abbrev LadenAny : Option (List Frame) → Type 0
-LadenAny none = Unit {0}
-LadenAny (some fs) = Laden fs
-
-payload-bytes : (s : List ℕ) (k : ℕ) (f : Frame) → Bytes s → read s ≡ whole k f → Bytes (f .payload)
-payload-bytes s k f h e = rw (read-known s k f true e .frame) (bytes-take (length (f .payload)) (drop 10 (drop k s)) (bytes-drop 10 (drop k s) (bytes-drop k s h)))
-
-frames-laden : (n : ℕ) (s : List ℕ) → Bytes s → LadenAny (frames n s)
-unfolding frames clean
-frames-laden zero s h = tt
-frames-laden (suc n) [] h = tt
-frames-laden (suc n) (b ∷ bs) h = go (λ k. frames-laden n (drop k (b ∷ bs)) (bytes-drop k (b ∷ bs) h)) (read (b ∷ bs)) refl
-  where
-    more : (f : Frame) → Bytes (f .payload) → (o : Option (List Frame)) → LadenAny o → LadenAny (onSome o none (λ fs. some (f ∷ fs)))
-    more f p none l = tt
-    more f p (some fs) l = (p, l)
-
-    fit : ((k : ℕ) → LadenAny (frames n (drop k (b ∷ bs)))) → (f : Frame) → Bytes (f .payload) → (b′ : Bool)
-        → LadenAny (onSome (cond b′ (some f) none) none (λ f. onSome (frames n (drop (size f) (b ∷ bs))) none (λ fs. some (f ∷ fs))))
-    fit ih f p true = more f p (frames n (drop (size f) (b ∷ bs))) (ih (size f))
-    fit ih f p false = tt
-
-    go : ((k : ℕ) → LadenAny (frames n (drop k (b ∷ bs)))) → (r : Reading) → read (b ∷ bs) ≡ r → LadenAny (onSome (clean r) none (λ f. onSome (frames n (drop (size f) (b ∷ bs))) none (λ fs. some (f ∷ fs))))
-    go ih short e = tt
-    go ih tooLong e = tt
-    go ih (badCheck k f) e = tt
-    go ih (whole k f) e = fit ih f (payload-bytes (b ∷ bs) k f h e) (eqb k 0)
-
-replies-laden : (fs : List Frame) → Laden fs → Laden (replies fs)
-unfolding replies
-replies-laden [] l = tt
-replies-laden (f ∷ fs) l = go (replies-laden fs (l .1)) (eqb (f .status) status-Request)
-  where
-    go : Laden (replies fs) → (b : Bool) → Laden (cond b (replies fs) (f ∷ replies fs))
-    go r true = r
-    go r false = (l .0, r)
-
 -- P holds of the id that is heard, if there is one.
 abbrev pub Telling : (Id → Type 0) → Heard → Type 0
 Telling P nothing = Unit {0}
@@ -67,24 +26,73 @@ Telling P (one id) = P id
 Telling P unaddressed = Unit {0}
 Telling P garble = Unit {0}
 
-alone-bytes : (fs : List Frame) → Laden fs → Telling Bytes (alone fs)
-unfolding alone
-alone-bytes [] l = tt
-alone-bytes (f ∷ []) l = go (eqb (f .status) status-Ok) (eqb (f .status) status-Unsupported)
-  where
-    go : (a b : Bool) → Telling Bytes (cond a (one (f .payload)) (cond b unaddressed garble))
-    go true b = l .0
-    go false true = tt
-    go false false = tt
-alone-bytes (f ∷ g ∷ fs) l = tt
+-- What holds of the payload of each frame read whole, in records of which Q holds, holds of the id that is heard.
+module _ (P : Id → Type 0) (Q : List ℕ → Type 0) (rest : (k : ℕ) (s : List ℕ) → Q s → Q (drop k s)) (payload : (s : List ℕ) (k : ℕ) (f : Frame) → Q s → read s ≡ whole k f → P (f .payload)) where
+  abbrev Laden : List Frame → Type 0
+  Laden fs = All (λ f. P (f .payload)) fs
+
+  abbrev LadenAny : Option (List Frame) → Type 0
+  LadenAny none = Unit {0}
+  LadenAny (some fs) = Laden fs
+
+  frames-laden : (n : ℕ) (s : List ℕ) → Q s → LadenAny (frames n s)
+  unfolding frames clean
+  frames-laden zero s h = tt
+  frames-laden (suc n) [] h = tt
+  frames-laden (suc n) (b ∷ bs) h = go (λ k. frames-laden n (drop k (b ∷ bs)) (rest k (b ∷ bs) h)) (read (b ∷ bs)) refl
+    where
+      more : (f : Frame) → P (f .payload) → (o : Option (List Frame)) → LadenAny o → LadenAny (onSome o none (λ fs. some (f ∷ fs)))
+      more f p none l = tt
+      more f p (some fs) l = (p, l)
+
+      fit : ((k : ℕ) → LadenAny (frames n (drop k (b ∷ bs)))) → (f : Frame) → P (f .payload) → (b′ : Bool)
+          → LadenAny (onSome (cond b′ (some f) none) none (λ f. onSome (frames n (drop (size f) (b ∷ bs))) none (λ fs. some (f ∷ fs))))
+      fit ih f p true = more f p (frames n (drop (size f) (b ∷ bs))) (ih (size f))
+      fit ih f p false = tt
+
+      go : ((k : ℕ) → LadenAny (frames n (drop k (b ∷ bs)))) → (r : Reading) → read (b ∷ bs) ≡ r → LadenAny (onSome (clean r) none (λ f. onSome (frames n (drop (size f) (b ∷ bs))) none (λ fs. some (f ∷ fs))))
+      go ih short e = tt
+      go ih tooLong e = tt
+      go ih (badCheck k f) e = tt
+      go ih (whole k f) e = fit ih f (payload (b ∷ bs) k f h e) (eqb k 0)
+
+  replies-laden : (fs : List Frame) → Laden fs → Laden (replies fs)
+  unfolding replies
+  replies-laden [] l = tt
+  replies-laden (f ∷ fs) l = go (replies-laden fs (l .1)) (eqb (f .status) status-Request)
+    where
+      go : Laden (replies fs) → (b : Bool) → Laden (cond b (replies fs) (f ∷ replies fs))
+      go r true = r
+      go r false = (l .0, r)
+
+  alone-laden : (fs : List Frame) → Laden fs → Telling P (alone fs)
+  unfolding alone
+  alone-laden [] l = tt
+  alone-laden (f ∷ []) l = go (eqb (f .status) status-Ok) (eqb (f .status) status-Unsupported)
+    where
+      go : (a b : Bool) → Telling P (cond a (one (f .payload)) (cond b unaddressed garble))
+      go true b = l .0
+      go false true = tt
+      go false false = tt
+  alone-laden (f ∷ g ∷ fs) l = tt
+
+  heard-laden : (s : List ℕ) → Q s → Telling P (hear s)
+  unfolding hear
+  heard-laden s h = go (frames (length s) s) (frames-laden (length s) s h)
+    where
+      go : (o : Option (List Frame)) → LadenAny o → Telling P (onSome o garble (λ fs. alone (replies fs)))
+      go none l = tt
+      go (some fs) l = alone-laden (replies fs) (replies-laden fs l)
+
+payload-bytes : (s : List ℕ) (k : ℕ) (f : Frame) → Bytes s → read s ≡ whole k f → Bytes (f .payload)
+payload-bytes s k f h e = rw (read-known s k f true e .frame) (bytes-take (length (f .payload)) (drop 10 (drop k s)) (bytes-drop 10 (drop k s) (bytes-drop k s h)))
 
 pub heard-bytes : (s : List ℕ) → Bytes s → Telling Bytes (hear s)
-unfolding hear
-heard-bytes s h = go (frames (length s) s) (frames-laden (length s) s h)
-  where
-    go : (o : Option (List Frame)) → LadenAny o → Telling Bytes (onSome o garble (λ fs. alone (replies fs)))
-    go none l = tt
-    go (some fs) l = alone-bytes (replies fs) (replies-laden fs l)
+heard-bytes = heard-laden Bytes Bytes bytes-drop payload-bytes
+
+-- Whatever the record is: no frame carries more than 1,024 bytes.
+pub heard-small : (s : List ℕ) → Telling (λ x. length x ≤ most) (hear s)
+heard-small s = heard-laden (λ x. length x ≤ most) (λ r. Unit {0}) (λ k r h. tt) (λ r k f h e. read-known r k f true e .small) s tt
 
 -- The ids of a state.
 abbrev pub OfPhase : (Id → Type 0) → Phase → Type 0

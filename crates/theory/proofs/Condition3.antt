@@ -4,7 +4,7 @@ use Prim.Native.Nat.{ℕ, _+_, _-_, _*_, _≤_}
 use mathlib.Core.List.{List}
 use mathlib.Core.Path.{_≡_, sym, _∙_, ap}
 use lib.ListN.{length}
-use Rattle.paper.specs.Count.{matching, heardOf, All, Pods, count, selects, limit}
+use Rattle.paper.specs.Count.{matching, honest, All, Pods, count, selects, limit}
 use Rattle.paper.specs.Hearing.{Id, Prefix}
 use Rattle.paper.specs.Walk.{sort, discover, Wire, done, run}
 use Rattle.theory.specs.Machine.{ended, start, drive}
@@ -15,6 +15,7 @@ use Rattle.theory.proofs.Kept.{Listed, kept-listed}
 use Rattle.theory.proofs.Most.{own-most, selects-most}
 use Rattle.theory.proofs.OneLength.{discover-exact}
 use Rattle.theory.proofs.Refine.{machine-discovers}
+use Rattle.theory.proofs.Sent.{Alike}
 
 -- Whatever is heard: the machine has ended within the limit, as the discovery ends and after as many Selects.
 pub ends : (wire : Wire) (pre : Prefix)
@@ -22,14 +23,14 @@ pub ends : (wire : Wire) (pre : Prefix)
 ends wire pre = (machine-discovers wire pre, discover-bound wire pre)
 
 -- On an honest wire: exactly the ids that match, sorted, after exactly the Selects counted with each id's own length, and those are few.
-pub finds-apart : (wire : Wire) (S : List Id) (L : ℕ) (pre : Prefix) → ((k : ℕ) (q : Prefix) → wire k q ≡ heardOf (matching q S)) → length pre ≤ 128 → Apart (matching pre S)
+pub finds-apart : (wire : Wire) (S : List Id) (L : ℕ) (pre : Prefix) → Alike wire (honest S) pre → length pre ≤ 128 → Apart (matching pre S)
     → All (λ x. length x ≤ L) (matching pre S)
     → (drive (limit pre) wire 0 (start pre) ≡ (ended (done (sort (matching pre S))), ownSelects S pre)) × (ownSelects S pre ≤ 2 + count S pre * (8 * L - length pre + 2))
 finds-apart wire S L pre h le apart w =
     (machine-discovers wire pre ∙ ap (λ r. (ended (r .0), r .1)) (discover-apart wire S pre h le apart), own-most S L pre apart w)
 
 -- The same for distinct ids of one length, with the paper's count.
-pub finds : (wire : Wire) (S : List Id) (L : ℕ) (pre : Prefix) → ((k : ℕ) (q : Prefix) → wire k q ≡ heardOf (matching q S)) → length pre ≤ 128 → Pods L (matching pre S)
+pub finds : (wire : Wire) (S : List Id) (L : ℕ) (pre : Prefix) → Alike wire (honest S) pre → length pre ≤ 128 → Pods L (matching pre S)
     → (drive (limit pre) wire 0 (start pre) ≡ (ended (done (sort (matching pre S))), selects S L pre)) × (selects S L pre ≤ 2 + count S pre * (8 * L - length pre + 2))
 finds wire S L pre h le pods =
     (machine-discovers wire pre ∙ ap (λ r. (ended (r .0), r .1)) (discover-exact wire S L pre h le pods), selects-most S L pre pods)

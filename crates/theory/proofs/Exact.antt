@@ -3,7 +3,7 @@
 use Prim.Native.Nat.{ℕ, zero, suc, _+_, _-_, _*_, _≤_, _<_}
 use mathlib.Core.Bool.{Bool, true, false, not, cond}
 use mathlib.Core.List.{List, [], _∷_, _++_}
-use mathlib.Core.Path.{_≡_, refl, sym, _∙_, ap, subst, fun-ext}
+use mathlib.Core.Path.{_≡_, refl, sym, _∙_, ap, subst}
 use native.Mathlib.Nat.{add-zero}
 use native.Mathlib.Numerals.{add-one}
 use native.Mathlib.Omega.{arith}
@@ -20,6 +20,7 @@ use Rattle.theory.proofs.Counting.{sum-quiet, alone-here, alone-never}
 use Rattle.theory.proofs.Matched.{matching-yes, matching-not, matching-matching, all-matches, Under, under-child, Side, two-shorter, two-sides, part-length, part-sum, part-insert}
 use Rattle.theory.proofs.Matching.{beq-refl, beq-not, begins-child, begins-whole, sameId-refl}
 use Rattle.theory.proofs.Runs.{down, walk-judge, walk-nothing, run-then, run-ask}
+use Rattle.theory.proofs.Sent.{Alike, discover-alike}
 use Rattle.theory.proofs.Sorting.{insertAll, sort-snoc, sort-insertAll}
 
 -- Several ids match every shorter prefix of at least p bits.
@@ -200,8 +201,7 @@ discover-honest S pre le apart =
     total : suc (1 + spent S (length pre) (128 - length pre) pre) ≡ ownSelects S pre
     total = let n : 129 - length pre ≡ suc (128 - length pre) = omega arith in rw n (omega arith)
 
--- On every honest wire, whatever it is made of.
-pub discover-apart : (wire : Wire) (S : List Id) (pre : Prefix) → ((k : ℕ) (q : Prefix) → wire k q ≡ heardOf (matching q S)) → length pre ≤ 128 → Apart (matching pre S)
+-- On every wire that lets the Selects sent be heard as an honest one does, whatever it is made of.
+pub discover-apart : (wire : Wire) (S : List Id) (pre : Prefix) → Alike wire (honest S) pre → length pre ≤ 128 → Apart (matching pre S)
     → run wire 0 (discover pre) ≡ (done (sort (matching pre S)), ownSelects S pre)
-unfolding honest
-discover-apart wire S pre h le apart = ap (λ w. run w 0 (discover pre)) (fun-ext (λ k. fun-ext (λ q. h k q))) ∙ discover-honest S pre le apart
+discover-apart wire S pre h le apart = discover-alike wire (honest S) pre le h ∙ discover-honest S pre le apart

@@ -39,8 +39,7 @@ abbrev Counts : Row → Type 0
 Counts r = selects (r .ids) (r .bytes) (r .under) ≡ r .takes
 
 counted : (r : Row) → length (r .under) ≤ 128 → Pods (r .bytes) (matching (r .under) (r .ids)) → Runs r → Counts r
-unfolding honest
-counted r le pods e = ap (λ p. p .1) (sym (discover-exact (honest (r .ids)) (r .ids) (r .bytes) (r .under) (λ k q. refl) le pods) ∙ e)
+counted r le pods e = ap (λ p. p .1) (sym (discover-exact (honest (r .ids)) (r .ids) (r .bytes) (r .under) (λ k q l b n. refl) le pods) ∙ e)
 
 pods-empty : Pods 0 ([] ∷ [])
 pods-empty = record { few = omega arith; distinct = (tt, tt); sized = (refl, tt); bytes = (tt, tt); short = omega arith }

@@ -38,10 +38,12 @@ use Rattle.theory.proofs.Images.{addresses-fit, addresses-below}
 use Rattle.theory.proofs.Keeping as Keeping
 use Rattle.theory.proofs.Keeping.{turn-sound, record-fits}
 use Rattle.theory.proofs.Kept.{Listed, kept-listed, kept-distinct}
+use Rattle.theory.proofs.Matched.{matching-extends}
 use Rattle.theory.proofs.Most.{own-most, selects-most}
 use Rattle.theory.proofs.OneLength.{discover-exact}
 use Rattle.theory.proofs.Order.{before-total, before-antisym, before-trans}
 use Rattle.theory.proofs.Rests.{host-moves}
+use Rattle.theory.proofs.Sent.{Sends, discover-sends, discover-alike}
 use Rattle.theory.proofs.Talking.{SoundTurn, paperOf, toldOf, record-sim}
 use Rattle.theory.proofs.Text.{lowerCase, lower, parse-of-written, written-of-parsed, parsed-even, parsed-short, parsed-bytes}
 
@@ -276,8 +278,17 @@ unfolding matching begins bitsOf counting bit sort insert before
 found-is = refl
 
 pub discover-exact-met : run (honest ids) 0 (discover under) ≡ (done found, selects ids 2 under)
+unfolding bitsOf counting
+discover-exact-met = rw found-is at (discover-exact (honest ids) ids 2 under (λ k q l b n. refl) (omega arith) pods)
+
+-- One of the three ids does not match: without it the discovery is the same.
+pub discover-alike-met : run (honest (matching under ids)) 0 (discover under) ≡ run (honest ids) 0 (discover under)
 unfolding honest bitsOf counting
-discover-exact-met = rw found-is at (discover-exact (honest ids) ids 2 under (λ k q. refl) (omega arith) pods)
+discover-alike-met = discover-alike (honest (matching under ids)) (honest ids) under (omega arith) (λ k q l e n. ap heardOf (matching-extends under q ids e))
+
+pub discover-sends-met : Sends (λ q. (begins under q ≡ true) × (length q ≤ 128)) (discover under)
+unfolding bitsOf counting
+discover-sends-met = discover-sends under (omega arith)
 
 pub selects-most-met : selects ids 2 under ≤ 22
 unfolding matching begins bitsOf counting bit
@@ -301,8 +312,8 @@ apart-met = record {
 }
 
 pub discover-apart-met : run (honest uneven) 0 (discover []) ≡ (done uneven, ownSelects uneven [])
-unfolding honest matching begins bitsOf counting bit sort insert before
-discover-apart-met = discover-apart (honest uneven) uneven [] (λ k q. refl) (omega arith) apart-met
+unfolding matching begins bitsOf counting bit sort insert before
+discover-apart-met = discover-apart (honest uneven) uneven [] (λ k q l b n. refl) (omega arith) apart-met
 
 pub own-most-met : ownSelects uneven [] ≤ 80
 unfolding matching begins bitsOf counting bit

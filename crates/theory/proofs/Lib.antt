@@ -13,6 +13,7 @@ pub mod Counting
 pub mod Always
 pub mod Runs
 pub mod Bound
+pub mod Sent
 pub mod Exact
 pub mod OneLength
 pub mod Most

@@ -9,11 +9,11 @@ use lib.Dec.{ltb}
 use lib.ListN.{drop, length, length-drop}
 use borrow.Author.Tests.{ltb-false, ltb-true}
 use Rattle.paper.specs.Count.{matching, All, count, sumOver}
-use Rattle.paper.specs.Hearing.{Id, Prefix, bitsOf, matches}
+use Rattle.paper.specs.Hearing.{Id, Prefix, bitsOf, begins, matches}
 use Rattle.paper.specs.Walk.{_▹_, insert}
 use Rattle.lore.proofs.Bits.{bits-length}
 use Rattle.theory.specs.Own.{Unlike, Separate}
-use Rattle.theory.proofs.Matching.{begins-front, begins-child, begins-whole}
+use Rattle.theory.proofs.Matching.{begins-front, begins-child, begins-splits, begins-whole}
 use Rattle.theory.proofs.Sorting.{insertAll, insertAll-insert}
 
 pub matching-yes : (q : Prefix) (x : Id) (xs : List Id) → matches q x ≡ true → matching q (x ∷ xs) ≡ x ∷ matching q xs
@@ -33,6 +33,10 @@ matching-matching q r (x ∷ xs) = go (matching-matching q r xs) (matches q x) r
     go ih true e b f = ap (matching (q ++ r)) (matching-yes q x xs e) ∙ ap (λ l. cond (matches (q ++ r) x) (x ∷ l) l) ih
     go ih false e true f = absurd (true≢false (sym (begins-front q r (bitsOf x) f) ∙ e))
     go ih false e false f = ap (matching (q ++ r)) (matching-not q x xs e) ∙ ih ∙ sym (matching-not (q ++ r) x xs f)
+
+-- Under a prefix that extends q, only ids under q count.
+pub matching-extends : (q r : Prefix) (xs : List Id) → begins q r ≡ true → matching r (matching q xs) ≡ matching r xs
+matching-extends q r xs e = rw (begins-splits q r e) at (matching-matching q (drop (length q) r) xs)
 
 module _ (q : Prefix) where
   pub all-matches : (xs : List Id) → All (λ x. matches q x ≡ true) (matching q xs)

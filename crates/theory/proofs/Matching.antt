@@ -7,7 +7,7 @@ use mathlib.Core.Path.{_≡_, refl, sym, _∙_, ap}
 use native.Mathlib.Nat.{div-div-eq-div-mul, div-eq-of-lt, div-one, pow-suc}
 use native.Mathlib.Omega.{arith}
 use lib.Dec.{eqb}
-use lib.ListN.{drop, getD, length, take}
+use lib.ListN.{drop, getD, length, take, take-append-drop}
 use lib.Seq.{take-all}
 use borrow.Author.Tests.{eq-eqb, eqb-false, eqb-true}
 use Rattle.paper.specs.Count.{All}
@@ -61,6 +61,15 @@ unfolding begins
 begins-take [] xs e = refl
 begins-take (p ∷ q) [] e = absurd (false≢true e)
 begins-take (p ∷ q) (x ∷ xs) e = let w = begins-cons p q x xs e in let t = begins-take q xs (w .1) in cc
+
+pub begins-more : (q xs r : List Bool) → begins q xs ≡ true → begins q (xs ++ r) ≡ true
+unfolding begins
+begins-more [] xs r e = refl
+begins-more (p ∷ q) [] r e = absurd (false≢true e)
+begins-more (p ∷ q) (x ∷ xs) r e = let w = begins-cons p q x xs e in rw (w .0, beq-refl x) (begins-more q xs r (w .1))
+
+pub begins-splits : (q xs : List Bool) → begins q xs ≡ true → q ++ drop (length q) xs ≡ xs
+begins-splits q xs e = ap (λ (r : List Bool). r ++ drop (length q) xs) (sym (begins-take q xs e)) ∙ take-append-drop (length q) xs
 
 pub begins-whole : (q xs : List Bool) → begins q xs ≡ true → length xs ≤ length q → q ≡ xs
 begins-whole q xs e h = sym (begins-take q xs e) ∙ take-all (length q) xs h

@@ -6,7 +6,7 @@ use mathlib.Core.List.{List, [], _∷_}
 use mathlib.Core.Path.{_≡_, refl, sym, _∙_, ap}
 use native.Mathlib.Omega.{arith}
 use lib.ListN.{length}
-use Rattle.paper.specs.Count.{matching, heardOf, All, Distinct, Pods, sumOver, sumUnder, alone, forked, selects}
+use Rattle.paper.specs.Count.{matching, honest, All, Distinct, Pods, sumOver, sumUnder, alone, forked, selects}
 use Rattle.paper.specs.Hearing.{Id, Prefix, bitsOf, matches}
 use Rattle.paper.specs.Walk.{sort, discover, Wire, done, run}
 use Rattle.lore.proofs.Bits.{bits-length}
@@ -14,6 +14,7 @@ use Rattle.theory.specs.Own.{Unlike, Separate, Apart, ownAlone, ownSelec
 use Rattle.theory.proofs.Each.{all-weaken}
 use Rattle.theory.proofs.Exact.{discover-apart}
 use Rattle.theory.proofs.Matching.{begins-whole, bitsOf-inj}
+use Rattle.theory.proofs.Sent.{Alike}
 
 module _ (L : ℕ) where
   unlike : (x y : Id) → length x ≡ length y → All (λ b. b < 256) x → All (λ b. b < 256) y → ¬ (x ≡ y) → matches (bitsOf x) y ≡ false
@@ -49,7 +50,7 @@ module _ (L : ℕ) where
   unfolding selects ownSelects
   selects-own S pre s = ap (λ n. 2 + (n + sumUnder (129 - length pre) pre (forked S))) (sum-alone S (length pre) (matching pre S) s)
 
-pub discover-exact : (wire : Wire) (S : List Id) (L : ℕ) (pre : Prefix) → ((k : ℕ) (q : Prefix) → wire k q ≡ heardOf (matching q S)) → length pre ≤ 128 → Pods L (matching pre S)
+pub discover-exact : (wire : Wire) (S : List Id) (L : ℕ) (pre : Prefix) → Alike wire (honest S) pre → length pre ≤ 128 → Pods L (matching pre S)
     → run wire 0 (discover pre) ≡ (done (sort (matching pre S)), selects S L pre)
 discover-exact wire S L pre h le pods =
     discover-apart wire S pre h le (pods-apart L (matching pre S) pods) ∙ ap (λ n. (done (sort (matching pre S)), n)) (selects-own L S pre (pods .sized))
