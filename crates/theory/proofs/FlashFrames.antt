@@ -17,7 +17,7 @@ use Rattle.paper.specs.Hearing.{onSome}
 use Rattle.paper.specs.Talk.{piece, Demand, Ask, select, demand, leave, Answer}
 use Rattle.paper.specs.Flash.{infoRequest, eraseRequest, writeFlags, writeSize, writeRequest, verifyRequest}
 use Rattle.lore.proofs.Choice.{either}
-use Rattle.lore.proofs.Chunks.{chunk-most, padded-multiple, padded-close}
+use Rattle.lore.proofs.Chunks.{chunk-most, padded-multiple, padded-close, write-size}
 use Rattle.lore.proofs.Words.{Bytes, le-length}
 use Rattle.theory.specs.FlashOrder as Order
 use Rattle.theory.specs.FlashOrder.{Past, asks, toldBy, Passed, InOrder, toInform, toErase, toWrite, toVerify, Front, Allowed}
@@ -27,7 +27,6 @@ use Rattle.theory.proofs.FlashOrder.{planned-is}
 use Rattle.theory.proofs.Frames.{Fits, bytes-append, bytes-take, bytes-drop, bytes-le}
 use Rattle.theory.proofs.Images.{addresses-fit, capacity-fits}
 use Rattle.theory.proofs.Infos.{sound-sizes, informed-sound}
-use Rattle.theory.proofs.Writes.{write-size}
 
 -- What Info has told keeps the Info rule.
 abbrev SoundAny : Option (Info × List ℕ) → Type 0

@@ -10,7 +10,7 @@ use lib.Dec.{eqb, ltb}
 use lib.ListN.{length, drop, length-append}
 use Rattle.lore.proofs.Bits.{bits-length}
 use Rattle.lore.proofs.Choice.{either}
-use Rattle.lore.proofs.Chunks.{chunk-most}
+use Rattle.lore.proofs.Chunks.{chunk-most, write-size}
 use Rattle.lore.proofs.Frames.{frame-length}
 use Rattle.lore.proofs.Packed.{packed-length}
 use Rattle.paper.specs.Frame.{le, Info, status-CrcMismatch}
@@ -25,7 +25,6 @@ use Rattle.paper.specs.Client.{payloadOf, demandFrame, bytesOf}
 use Rattle.theory.specs.FlashOrder.{carried}
 use Rattle.theory.specs.Driven.{sizeOf}
 use Rattle.theory.proofs.FlashBytes.{piece-length}
-use Rattle.theory.proofs.Writes.{write-size}
 
 pub payload-size : (p : Payload) (image : List ℕ) → length (payloadOf p image) ≡ carried p
 unfolding payloadOf carried
