@@ -31,6 +31,7 @@ use Rattle.client.specs.declared.Turn.the-variants.{Idle, Ready, Waiting}
 use Rattle.client.specs.declared.Client.{Client}
 use Rattle.client.specs.declared.Refusal.the-variants.{ShortBuffer, OtherImage, OutOfTurn}
 use Rattle.client.specs.declared.Says.{Says}
+use Rattle.client.specs.declared.Says.the-variants.{Granted, Closing}
 use Rattle.client.specs.declared.Started.{Started}
 use Rattle.client.specs.Clients.{otherImage, idle, turned, refuse}
 use Rattle.client.proofs.Ways.{at-idle, at-ready, at-waiting}
@@ -59,6 +60,19 @@ module _ (c : Client) (p : Search) (r : Ask) where
   asks-walking q e f = rw e f
 
 -- Handing out.
+module _ (p : Phase) (n : ℕ) where
+  pub handing-select : (s : Search) → p ≡ Select s → Granted n ≡ handing p n
+  unfolding handing
+  handing-select s e = rw e
+
+  pub handing-demand : (j : Job) → p ≡ Demand j → Granted n ≡ handing p n
+  unfolding handing
+  handing-demand j e = rw e
+
+  pub handing-leave : (reset : Reset) → p ≡ Leave reset → Closing n ≡ handing p n
+  unfolding handing
+  handing-leave reset e = rw e
+
 module _ (c : Client) (p : Phase) (d : Client) where
   pub handed-select : (s : Search) (n : Client) (seed : ℕ) → p ≡ Select s → n ≡ turned c (Waiting p) → seed ≡ nextSeed (c .seed) → d ≡ seeded n seed → d ≡ handed c p
   unfolding handed
