@@ -2,23 +2,23 @@
 -- Assumes nothing.
 use Prim.Native.Nat.{ℕ, _*_}
 use mathlib.Core.Bool.{Bool, true, false, _&&_, cond}
-use mathlib.Core.List.{List, [], _∷_}
+use mathlib.Core.List.{List, [], _∷_, _++_}
 use mathlib.Core.Option.{Option, none, some}
 use mathlib.Core.Path.{_≡_, refl, sym, _∙_, ap, ap₂}
 use native.Mathlib.Omega.{arith}
 use lib.Dec.{leb, ltb}
-use lib.ListN.{length}
+use lib.ListN.{length, drop}
 use Rattle.lore.proofs.Choice.{either}
 use Rattle.paper.specs.Client as Paper
-use Rattle.paper.specs.Client.{Says, short, otherLength, bytesOf, seedAfter, reading, place, cleared}
+use Rattle.paper.specs.Client.{Says, handing, short, otherLength, bytesOf, seedAfter, reading, place, cleared}
 use Rattle.paper.specs.Count.{All}
 use Rattle.paper.specs.Hearing.{Id, bitsOf, onSome}
 use Rattle.paper.specs.Talk.{Answer}
 use Rattle.lore.proofs.Words.{Bytes}
 use Rattle.theory.specs.Phases as Phases
-use Rattle.theory.specs.Phases.{probing, parting, seeking, walking, tell, clear, load, informing, Phase, selecting, demanding, Then, to, ends, refuses, step, starting}
+use Rattle.theory.specs.Phases.{probing, parting, seeking, walking, tell, clear, load, informing, Phase, selecting, demanding, leaving, Then, to, ends, refuses, step, starting}
 use Rattle.theory.specs.Clients as Machine
-use Rattle.theory.specs.Clients.{Brief, Turn, idle, ready, waiting, turned, lends, settle, unchanged, fails, resets, grant}
+use Rattle.theory.specs.Clients.{Brief, Turn, idle, ready, waiting, turned, lends, settle, unchanged, fails, resets, handedOut, grant}
 use Rattle.theory.proofs.Keeping.{FitsTurn, Fits, turn-sound, fresh-fits, startSelect-fits, startDeselect-fits, startAttach-fits, startDiscover-fits, startInfo-fits, startErase-fits, startFlash-fits, startReset-fits, startSetBaud-fits, request-fits, record-fits, linkFailed-fits}
 use Rattle.theory.proofs.Carried.{heard-bytes}
 use Rattle.theory.proofs.Holding.{Holds, fresh-holds, startSelect-holds, startDeselect-holds, startAttach-holds, startDiscover-holds, startInfo-holds, startErase-holds, startFlash-holds, startReset-holds, startSetBaud-holds, request-holds, record-holds, linkFailed-holds}
@@ -82,7 +82,7 @@ paper-call c f (record′ image bytes) = ap saidBy (record-sim c (turn-sound (c 
 paper-call c f linkFailed = ap saidBy (linkFailed-sim c)
 
 -- The starts' answers, read.
-started-read : (c : Machine.Client) (good : Bool) (ph : Phase) → startedBy (startedAs (Machine.start c good ph)) ≡ inCode (settledBy (Machine.start c good ph))
+pub started-read : (c : Machine.Client) (good : Bool) (ph : Phase) → startedBy (startedAs (Machine.start c good ph)) ≡ inCode (settledBy (Machine.start c good ph))
 unfolding Machine.start settle refusedAs saysOf numberOf carriedBy progressOf
 started-read c good ph = go (c .turn) good
   where
@@ -93,6 +93,14 @@ started-read c good ph = go (c .turn) good
     go (waiting p) b = refl
 
 -- A request's answer, read.
+handed-read : (ph : Phase) (n : ℕ) (next : Machine.Client) (buffer : List ℕ)
+    → _≡_ {A = Reply × Client} (askedBy (askedAs (record { says = handing (Phases.request ph) n; client = next; buffer = buffer })))
+    (inCode (handedBy (record { says = handing (Phases.request ph) n; client = next; buffer = buffer })))
+unfolding saysOf
+handed-read (selecting s) n next buffer = refl
+handed-read (demanding j) n next buffer = refl
+handed-read (leaving bootloader baud) n next buffer = refl
+
 asked-read : (c : Machine.Client) (image buffer : List ℕ) → askedBy (askedAs (Machine.request c image buffer)) ≡ inCode (handedBy (Machine.request c image buffer))
 unfolding Machine.request grant refusedAs saysOf numberOf carriedBy
 asked-read c image buffer = go (c .turn)
@@ -102,7 +110,7 @@ asked-read c image buffer = go (c .turn)
 
     go : (t : Turn) → Read (Machine.request (turned c t) image buffer)
     go idle = refl
-    go (ready ph) = either Read (otherLength (lends ph) image) refl (either Read (ltb (length buffer) (length bytes)) refl refl)
+    go (ready ph) = either Read (otherLength (lends ph) image) refl (either Read (ltb (length buffer) (length bytes)) refl (handed-read ph (length bytes) (record { seed = seedAfter (Phases.request ph) (c .seed); id = c .id; turn = handedOut ph }) (bytes ++ drop (length bytes) buffer)))
       where
         bytes : List ℕ
         bytes = bytesOf (Phases.request ph) (seedAfter (Phases.request ph) (c .seed)) image

@@ -8,7 +8,7 @@ use mathlib.Core.Path.{_≡_, refl, sym, _∙_, ap, ap₂, subst}
 use native.Mathlib.Omega.{arith}
 use lib.ListN.{length, drop}
 use Rattle.paper.specs.Client as Paper
-use Rattle.paper.specs.Client.{bytesOf, seedAfter}
+use Rattle.paper.specs.Client.{onLeft, bytesOf, seedAfter}
 use Rattle.paper.specs.Count.{All}
 use Rattle.paper.specs.Hearing.{Id}
 use Rattle.paper.specs.Talk.{Ask, Answer, Talk, Outcome}
@@ -20,7 +20,7 @@ use Rattle.theory.specs.FlashOrder.{Past, Event, heard, failed, Stand, returned
 use Rattle.theory.proofs.Driven as Theory₂
 use Rattle.theory.proofs.Keeping.{turn-sound, Fits, request-fits, record-fits, linkFailed-fits}
 use Rattle.theory.proofs.Talking.{paperOf, leftOf, request-sim, record-sim, linkFailed-sim}
-use Rattle.ids.specs.Ids as Ids
+use Rattle.ids.specs.declared.Id as Ids
 use Rattle.ids.specs.Ids.{noId}
 use Rattle.table.specs.declared.Table.{Table}
 use Rattle.table.specs.Rows.{noTable}
@@ -43,27 +43,30 @@ use Rattle.records.specs.Served.{onSays, isOnward, opening, resting}
 use Rattle.records.proofs.Calls.{settledBy, handedBy, machineCall, inPaper, inCode, paper-call, request-call, record-call, failed-call, code-call, call-fits, attached-back, seed-of}
 
 -- One machine stands behind the code's client and document 01's.
-record Alike (code : Client) (paper : Paper.Client) : Type 0 where
-  machine : Machine.Client
-  fits : Fits machine
-  is-code : code ≡ clientOf machine
-  is-paper : paper ≡ paperOf machine
+pub record Alike (code : Client) (paper : Paper.Client) : Type 0 where
+  pub machine : Machine.Client
+  pub fits : Fits machine
+  pub is-code : code ≡ clientOf machine
+  pub is-paper : paper ≡ paperOf machine
 
 -- Answers that say the same and leave such clients.
-record Answers (code : Reply × Client) (paper : Reply × Paper.Client) : Type 0 where
-  reply : code .0 ≡ paper .0
-  clients : Alike (code .1) (paper .1)
+pub record Answers (code : Reply × Client) (paper : Reply × Paper.Client) : Type 0 where
+  pub reply : code .0 ≡ paper .0
+  pub clients : Alike (code .1) (paper .1)
 
-from-machine : (r : Reply × Machine.Client) → Fits (r .1) → (code : Reply × Client) (paper : Reply × Paper.Client) → code ≡ inCode r → paper ≡ inPaper r → Answers code paper
+pub from-machine : (r : Reply × Machine.Client) → Fits (r .1) → (code : Reply × Client) (paper : Reply × Paper.Client) → code ≡ inCode r → paper ≡ inPaper r → Answers code paper
 from-machine r f code paper c p = record {
   reply = ap (λ (x : Reply × Client). x .0) c ∙ sym (ap (λ (x : Reply × Paper.Client). x .0) p);
   clients = record { machine = r .1; fits = f; is-code = ap (λ (x : Reply × Client). x .1) c; is-paper = ap (λ (x : Reply × Paper.Client). x .1) p };
 }
 
-record Same (code : Told) (paper : Paper.Told) : Type 0 where
-  says : read code ≡ paper .says
-  rest : code .rest ≡ paper .rest
-  clients : Alike (code .client) (paper .client)
+pub record Same (code : Told) (paper : Paper.Told) : Type 0 where
+  pub says : read code ≡ paper .says
+  pub rest : code .rest ≡ paper .rest
+  pub clients : Alike (code .client) (paper .client)
+
+pub started-same : (code : Started) (paper : Paper.Told) → Answers (startedBy code) (saidBy paper) → Same (opening code) paper
+started-same code paper a = record { says = ap (λ (r : Reply). r .says) (a .reply); rest = ap (λ (r : Reply). r .rest) (a .reply); clients = a .clients }
 
 told-same : (code : Told) (paper : Paper.Told) → Answers (toldBy code) (saidBy paper) → Same code paper
 told-same code paper a = record { says = ap (λ (r : Reply). r .says) (a .reply); rest = ap (λ (r : Reply). r .rest) (a .reply); clients = a .clients }
@@ -124,9 +127,9 @@ module _ {A B : Type 0} (R : A → B → Type 0) (g c : ℕ → A) (o : A) (g′
   asked-said s ps e = subst (λ (u : Paper.Says). R (onSays s g c o o) (onAsked u g′ c′ o′)) e (asked-alike s None noId noTable)
 
 module _ (buffer : List ℕ) where
-  record Drives (rs : List Round) (code : Told) (paper : Paper.Told) : Type 0 where
-    last : Same (driven buffer rs code) (Theory.driven buffer rs paper)
-    sent : sends buffer rs code ≡ Theory.sends buffer rs paper
+  pub record Drives (rs : List Round) (code : Told) (paper : Paper.Told) : Type 0 where
+    pub last : Same (driven buffer rs code) (Theory.driven buffer rs paper)
+    pub sent : sends buffer rs code ≡ Theory.sends buffer rs paper
 
   -- A round, and those after it.
   module _ (r : Round) (rs : List Round) (code : Told) (paper : Paper.Told) (s : Same code paper) (more : (d : Told) (p : Paper.Told) → Same d p → Drives rs d p) where
@@ -170,7 +173,7 @@ module _ (buffer : List ℕ) where
             refl (asking buffer r code .answer .says) (Theory.asking buffer r paper .says) said
         sent false = refl
 
-  drives : (rs : List Round) (code : Told) (paper : Paper.Told) → Same code paper → Drives rs code paper
+  pub drives : (rs : List Round) (code : Told) (paper : Paper.Told) → Same code paper → Drives rs code paper
   unfolding driven sends Theory.driven Theory.sends
   drives [] code paper s = record { last = s; sent = refl }
   drives (r ∷ rs) code paper s = round-drives r rs code paper s (drives rs)
@@ -180,10 +183,13 @@ idle-left : (c : Machine.Client) (seed : ℕ) (id : Option Id) → paperOf c ≡
 unfolding paperOf leftOf
 idle-left c seed id e = go (c .turn) e
   where
+    runs : Paper.Client → ℕ
+    runs p = onLeft (p .left) 0 (λ q f. 1) (λ q f. 1)
+
     go : (t : Turn) → paperOf (turned c t) ≡ Theory.resting seed id → clientOf (turned c t) ≡ resting seed id
     go idle e = ap₂ resting (ap (λ (p : Paper.Client). p .seed) e) (ap (λ (p : Paper.Client). p .id) e)
-    go (ready ph) e = absurd (let z : _≡_ {A = ℕ} 0 1 = cc in omega arith)
-    go (waiting ph) e = absurd (let z : _≡_ {A = ℕ} 0 1 = cc in omega arith)
+    go (ready ph) e = absurd (let z : _≡_ {A = ℕ} 1 0 = ap runs e in omega arith)
+    go (waiting ph) e = absurd (let z : _≡_ {A = ℕ} 1 0 = ap runs e in omega arith)
 
 module _ (code : Client) (paper : Paper.Client) (a : Alike code paper) where
   alike-resting : (seed : ℕ) (id : Option Id) → paper ≡ Theory.resting seed id → code ≡ resting seed id
@@ -213,7 +219,7 @@ module _ (code : Client) (paper : Paper.Client) (a : Alike code paper) where
   alike-leaves n seed id (lost q) h = alike-resting seed id h
   alike-leaves n seed id (pending q) h = alike-asks n seed id q h
 
-same-stands : (n : Option ℕ) (seed : ℕ) (id : Option Id) (r : Past × Stand Outcome) (b : Brought) (code : Told) (paper : Paper.Told)
+pub same-stands : (n : Option ℕ) (seed : ℕ) (id : Option Id) (r : Past × Stand Outcome) (b : Brought) (code : Told) (paper : Paper.Told)
     → Same code paper → Theory.StandsAs n seed id r b paper → StandsAs n seed id r b code
 same-stands n seed id r b code paper s h = record {
   says = s .says ∙ h .says;

@@ -1,19 +1,20 @@
 -- The code's client as a host drives it, over any events: what it answers last, what it hands out, and that it stands where a conversation does.
 -- Assumes nothing.
 use Prim.Native.Nat.{ℕ, _≤_}
-use mathlib.Core.Bool.{cond}
+use mathlib.Core.Bool.{true, cond}
 use mathlib.Core.List.{List, [], _∷_, _++_}
 use mathlib.Core.Option.{Option, none, some}
 use mathlib.Core.Path.{_≡_}
 use lib.ListN.{length, drop}
 use Rattle.paper.specs.Client as Paper
-use Rattle.paper.specs.Client.{seedAfter, bytesOf, handing}
+use Rattle.paper.specs.Client.{startWith, seedAfter, bytesOf, handing}
 use Rattle.paper.specs.Hearing.{Id}
-use Rattle.paper.specs.Talk.{Ask, Outcome}
+use Rattle.paper.specs.Talk.{Ask, Talk, Outcome}
 use Rattle.theory.specs.Driven as Theory
-use Rattle.theory.specs.Driven.{Round, Sent, OfLength, sizeOf, seedAt, idAt, Brought, saidAt}
-use Rattle.theory.specs.FlashOrder.{Past, Event, heard, failed, Stand, returned, refused, lost, pending}
+use Rattle.theory.specs.Driven.{Round, events, Sent, OfLength, sizeOf, seedAt, idAt, Brought, nothingYet, brought, saidAt}
+use Rattle.theory.specs.FlashOrder.{Past, Event, heard, failed, Stand, returned, refused, lost, pending, play}
 use Rattle.client.specs.declared.Client.{Client}
+use Rattle.client.specs.declared.Started.{Started}
 use Rattle.client.specs.declared.Told.{Told}
 use Rattle.client.specs.Numbers.{saysOf}
 use Rattle.asking.specs.Asking.{Asking, request}
@@ -78,3 +79,9 @@ pub record StandsAs (n : Option ℕ) (seed : ℕ) (id : Option Id) (r : Past × 
   pub says : read t ≡ saidAt r b
   pub rest : t .rest ≡ b .rest
   pub client : Leaves n (seedAt seed r) (idAt id r) (r .1) (t .client)
+
+-- An operation started on a client with none, by this answer, and driven over these rounds: it stands where document 01's conversation does, and
+-- what it hands out is what document 01's client does.
+pub record Plays (n : Option ℕ) (seed : ℕ) (id : Option Id) (m : Talk Outcome) (buffer : List ℕ) (rounds : List Round) (s : Started) : Type 0 where
+  pub stands : StandsAs n seed id (play m (events rounds) []) (brought m (events rounds) nothingYet) (driven buffer rounds (opening s))
+  pub sent : sends buffer rounds (opening s) ≡ Theory.sends buffer rounds (startWith n (Theory.resting seed id) true m)
