@@ -1,9 +1,9 @@
 /* Fahireky: the host side of a pod bootloader. Every function here is proved against written definitions; this header is not.
  *
  * The client lives in a buffer of FAHIREKY_STATE bytes that the host lends. All zero is a fresh client. Any bytes whatever are some
- * client: nothing that is done to them can make a call misbehave. (Bytes that no call left may come back, even from a call that changes
- * nothing, as other bytes of the same client; and their answers may show an id where none is attached, or an id's length above 16, which counts as 16.) A
- * call keeps no pointer, uses no heap and no global state. Buffers that are lent to one call must not overlap.
+ * client: nothing that is done to them can make a call misbehave. (Of bytes that no call left, answers may show an id where none is
+ * attached, or an id's length above 16, which counts as 16.) A call keeps no pointer, uses no heap and no global state. Buffers that are
+ * lent to one call must not overlap.
  *
  * A host starts an operation, then, until it has ended, asks for a request, sends its bytes, and hands in the bytes heard, or says that
  * the link failed. Bytes after the frame that answered stay unread: the answer says where they begin, and the host puts them before the
@@ -21,8 +21,9 @@
  *    6 Incompatible               13 bad prefix or count 20 image length differs from the one at the start
  *    7 NoDevice                   14 an id over 16 bytes 21 out of turn            22 bad text
  *
- * 13, 16, 20, 21 and 22 change nothing. Any other refusal ends the operation; seed and (but for a deselect) attached id stay. A refused
- * request writes nothing to its buffer; a granted one changes no byte after its own.
+ * 13, 16, 20, 21 and 22 write no byte of the state, also of one that no call left, nor of a request's, a text's or an id's buffer: the answer
+ * alone is written. Any other refusal ends the operation; seed and (but for a deselect) attached id stay. A granted request changes no byte
+ * after its own.
  * A state shorter than FAHIREKY_STATE is refused with 16 and that length, then an answer buffer shorter than FAHIREKY_ANSWER with 16 and
  * that one, and nothing is written. */
 #ifndef FAHIREKY_H

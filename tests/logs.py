@@ -1,6 +1,6 @@
 """Stored bench logs, and what the program must print for them, by an implementation of document 01 that shares no code with this project.
 
-python3 tests/logs.py --make              writes tests/logs/NAME.in and NAME.out
+python3 tests/logs.py --make              writes tests/logs/NAME.in and NAME.out, and one of them to crates/bench_log
 python3 tests/logs.py --compare PROGRAM   computes them again, compares them with what is stored, and runs PROGRAM on each
 """
 import binascii
@@ -10,6 +10,7 @@ import subprocess
 import sys
 
 here = pathlib.Path(__file__).resolve().parent / "logs"
+crate, given = here.parent.parent / "crates/bench_log", "three_ids"  # what `rt check` runs the program on
 
 
 # The bench frame and hearing.
@@ -267,6 +268,9 @@ def main():
         for name, data in logs():
             (here / f"{name}.in").write_bytes(data)
             (here / f"{name}.out").write_bytes(output(data))
+            if name == given:
+                (crate / "stdin").write_bytes(data)
+                (crate / "stdout").write_bytes(output(data))
         return 0
     if len(sys.argv) != 3 or sys.argv[1] != "--compare":
         print(__doc__)
@@ -275,7 +279,10 @@ def main():
     assert output(b"01\n\n\n") == b"00000002\n"
 
     def run(name, data, wanted):
-        got = subprocess.run([program], input=data, stdout=subprocess.PIPE).stdout
+        done = subprocess.run([program], input=data, stdout=subprocess.PIPE)
+        got = done.stdout
+        if done.returncode != 0:
+            bad.append(f"{name}: {program} ended with status {done.returncode}")
         if got != wanted:
             bad.append(f"{name}: {program} wrote {got[:80]!r}, and not {wanted[:80]!r}")
 
@@ -285,8 +292,10 @@ def main():
         if [s.read_bytes() if s.exists() else None for s in stored] != [data, output(data)]:
             bad.append(f"{name}: what is stored is not what this script computes")
         run(name, data, output(data))
-    if {f.stem for f in here.iterdir()} != names:
-        bad.append("a stored log that this script does not make")
+        if name == given and [(crate / f).read_bytes() for f in ("stdin", "stdout")] != [data, output(data)]:
+            bad.append(f"crates/bench_log: stdin and stdout are not those of {name}")
+    if given not in names or {f.stem for f in here.iterdir()} != names:
+        bad.append("the stored logs are not those that this script makes")
     data = long_log()
     run("the long log", data, output(data))
     for line in bad:

@@ -1,4 +1,4 @@
-"""The documents name what is there: each theorem, file and wrong version that docs/ cites exists, and README counts the lines right.
+"""The documents name what is there: each theorem, file and wrong version that README.md and docs/ cite exists.
 
 A theorem is cited as `file.antt: name` in docs/THEOREMS.md; a wrong version as `crate/label`.
 """
@@ -28,16 +28,8 @@ for doc in sorted(root.glob("docs/*.md")):
         if label.split("/")[0] in crates and label not in wrong:
             bad.append(f"{doc.name}: no wrong version {label}")
 
-readme = (root / "README.md").read_text()
-for path, count in re.findall(r"`([\w/.]+)` \(([\d,]+) lines\)", readme):
-    file = root / path
-    files = file.glob("*.antt") if file.is_dir() else [file]
-    lines = sum(len(f.read_text().splitlines()) for f in files)
-    if lines != int(count.replace(",", "")):
-        bad.append(f"README.md: {path} has {lines:,} lines")
-
-for doc in root.glob("docs/*.md"):
-    for path in re.findall(r"`((?:crates|tests|docs)/[\w/.]+\.\w+)`", doc.read_text()):
+for doc in [root / "README.md", *root.glob("docs/*.md")]:
+    for path in re.findall(r"`((?:crates|tests|docs|bindings)/[\w/.]+\.\w+)`", doc.read_text()):
         if not (root / path).exists():
             bad.append(f"{doc.name}: no file {path}")
 

@@ -1,11 +1,13 @@
-"""The paper quotes document 01: each definition of crates/paper/specs has above it what it renders.
+"""The paper quotes document 01.
 
-That is a quotation in double quotes (of a sentence, or of a section's name), or the words "Of the next" where it only serves the one
-below it. Each quotation must stand in one paragraph of document 01, its pieces between ` .. ` in their order, once lines are joined and
-markdown's marks dropped. Document 01 is not in this repository, but in ../shared/documents beside it. Where it is missing the quotations
-are not compared, and that is said; with CI set that is a failure.
+python3 tests/quotes.py             each definition of crates/paper/specs has above it what it renders
+python3 tests/quotes.py --compare   each quotation stands in document 01
+
+What a definition renders is a quotation in double quotes (of a sentence, or of a section's name), or the words "Of the
+next" where it only serves the one below it. A quotation stands in one paragraph of document 01, its pieces between ` .. `
+in their order, once lines are joined and markdown's marks dropped. Document 01 is not in this repository, but in
+../shared/documents beside it; without it --compare fails.
 """
-import os
 import pathlib
 import re
 import sys
@@ -31,6 +33,8 @@ def stands(quotation, paragraph):
 
 
 bad, found = [], []
+if sys.argv[1:] not in ([], ["--compare"]):
+    sys.exit(__doc__)
 for file in sorted((root / "crates/paper/specs").glob("*.antt")):
     lines = file.read_text().split("\n")
     found += [(file.name, "its first line", quotation) for quotation in quoted.findall(lines[0])]
@@ -47,16 +51,13 @@ for file in sorted((root / "crates/paper/specs").glob("*.antt")):
         if not quotations and not comment.startswith("Of the next: "):
             bad.append(f"{file.name}: {name[1]} has no quotation above it")
 
-if source.exists():
+if sys.argv[1:]:
+    if not source.exists():
+        sys.exit(f"no document 01 beside this repository, in ../shared/documents: {len(found)} quotations are not compared")
     paragraphs = [joined(part) for part in re.split(r"\n\s*\n", source.read_text())]
-    for file, name, quotation in found:
-        if not any(stands(quotation, paragraph) for paragraph in paragraphs):
-            bad.append(f"{file}: {name}: not in document 01: {quotation}")
-    print(f"{len(found)} quotations of document 01, {len(bad)} faults")
-else:
-    print(f"no document 01 beside this repository: {len(found)} quotations were not compared; {len(bad)} faults else")
-    if os.environ.get("CI"):
-        sys.exit(1)
+    strange = [f for f in found if not any(stands(f[2], paragraph) for paragraph in paragraphs)]
+    bad = [f"{file}: {name}: not in document 01: {quotation}" for file, name, quotation in strange]
 for line in bad:
     print(line)
+print(f"{len(found)} quotations {'compared with' if sys.argv[1:] else 'of'} document 01, {len(bad)} faults")
 sys.exit(1 if bad or not found else 0)

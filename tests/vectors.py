@@ -50,12 +50,15 @@ flash += frame(3, 0, b"", address=len(image)).hex() + "\n"
 flash += "flashed: boot version 1\n"
 assert len(image) <= capacity < len(padded)
 
+if sys.argv[1:] not in ([], ["--compare"]):
+    sys.exit(__doc__)
 wrong = 0
 for crate, text in (("examples", text), ("flash_example", flash)):
     stored = root / "crates" / crate / "stdout"
-    if sys.argv[1:] != ["--compare"]:
+    if not sys.argv[1:]:
         stored.write_text(text)
     elif stored.read_text() != text:
         print(f"crates/{crate}/stdout is not what this script computes")
-        wrong = 1
-sys.exit(wrong)
+        wrong += 1
+print(f"2 outputs, {wrong} faults")
+sys.exit(1 if wrong else 0)

@@ -251,7 +251,6 @@ static bool lend_state(const struct wire *w)
     size_t kind = one_in(8) ? 1 + below(6) : 0;
     call.len[STATE] = around(FAHIREKY_STATE, 1400);
     scatter(s + FAHIREKY_STATE, 1400 - FAHIREKY_STATE);
-    call.left = kind <= 1;
     call.pure = kind == 1 || (kind == 0 && w->pure);
     switch (kind) {
     case 1: memset(s, 0, FAHIREKY_STATE); break;

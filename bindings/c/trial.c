@@ -230,7 +230,8 @@ static bool predicted(uint64_t *code, uint8_t *out)
 static bool plain(int what) { return what == REST || what >= IMAGE_COMPAT; } /* what it returns is no code */
 static bool zero(const uint8_t *bytes, size_t n) { return n == 0 || (bytes[0] == 0 && memcmp(bytes, bytes + 1, n - 1) == 0); }
 
-/* How many bytes at the front of buffer i the call may have changed. */
+/* How many bytes at the front of buffer i the call may have changed: of a state, also one that no call left, none where the refusal is
+ * one that changes nothing. */
 static size_t written(int i, uint64_t code)
 {
     unsigned w = exports[call.what].written, lent = exports[call.what].lent;
@@ -239,7 +240,9 @@ static size_t written(int i, uint64_t code)
         return 0;
     if (i == OUT)
         return FAHIREKY_NUMBER(code) == 0 ? FAHIREKY_LENGTH(code) : 0;
-    return i == STATE ? FAHIREKY_STATE : FAHIREKY_ANSWER;
+    if (i == STATE)
+        return KEEPING >> FAHIREKY_NUMBER(code) & 1 ? 0 : FAHIREKY_STATE;
+    return FAHIREKY_ANSWER;
 }
 
 /* The answer says what the code says, and has nothing that it should not have. */
@@ -296,24 +299,6 @@ static void judge_ended(const uint8_t *state, uint64_t code)
     must(memcmp(copy, state, sizeof copy) == 0, "out of turn changes a state", code);
 }
 
-/* A refusal that changes nothing leaves the state's bytes; where no call had left them, bytes of the same client, which it then leaves. */
-static void judge_kept(const struct outcome *x)
-{
-    static uint8_t before[FAHIREKY_STATE];
-    static struct outcome again;
-    if (call.left) {
-        must(memcmp(x->bytes[STATE], call.bytes[STATE], FAHIREKY_STATE) == 0, "a refusal changes the state", x->code);
-        return;
-    }
-    memcpy(before, call.bytes[STATE], sizeof before);
-    memcpy(call.bytes[STATE], x->bytes[STATE], sizeof before);
-    make(false, &again);
-    bool same = again.code == x->code && memcmp(again.bytes[ANSWER], x->bytes[ANSWER], FAHIREKY_ANSWER) == 0;
-    must(same, "a refusal changes the client", x->code);
-    must(memcmp(again.bytes[STATE], x->bytes[STATE], sizeof before) == 0, "a refusal changes the state that it left", x->code);
-    memcpy(call.bytes[STATE], before, sizeof before);
-}
-
 /* A refusal that ends the operation leaves the seed, and the attached id but where it deselected. */
 static void judge_refused(const struct outcome *x)
 {
@@ -359,8 +344,6 @@ static void judge(const struct outcome *x)
         must(FAHIREKY_LENGTH(code) > call.len[OUT] && FAHIREKY_LENGTH(code) <= FAHIREKY_REQUEST, "the length lacked", code);
     if (!(exports[call.what].written & S))
         return;
-    if (KEEPING >> number & 1)
-        judge_kept(x);
     if (ENDING >> number & 1)
         judge_refused(x);
     if ((ENDING >> number & 1) || x->bytes[ANSWER][FAHIREKY_AT_SAYS] == 2)
@@ -384,8 +367,8 @@ const struct outcome *tried(bool low)
     complement(ANSWER, 0);
     complement(OUT, 0);
     make(!low, &two);
-    judge_bytes(&two);
     must(one.code == two.code, "another code on the same bytes", two.code);
+    judge_bytes(&two);
     for (int i = 0; i < BUFFERS; i++)
         must(memcmp(one.bytes[i], two.bytes[i], written(i, one.code)) == 0, "other bytes on the same bytes", one.code);
     met[call.what][plain(call.what) ? 0 : FAHIREKY_NUMBER(one.code)]++;

@@ -22,7 +22,6 @@ struct call {
     uint16_t start;
     uint8_t baud;
     bool bootloader, in_boot;
-    bool left; /* the state is one that some call left, or all zero */
     bool pure; /* nothing but calls has changed it since it was all zero */
 };
 

@@ -44,8 +44,6 @@ fn frame(command: u8, status: u8, payload: &[u8]) -> Vec<u8> {
 /// A client, the request that it has out, and the one pod on its wire.
 struct Side {
     client: Client,
-    /// Some call left its state, or it is fresh.
-    left: bool,
     /// Nothing but calls has changed it since it was fresh.
     pure: bool,
     request: Vec<u8>,
@@ -62,7 +60,7 @@ impl Side {
         info[..4].copy_from_slice(&capacity);
         info[4..6].copy_from_slice(&(c.below(900) as u16).to_le_bytes());
         info[16..].copy_from_slice(&(c.below(1100) as u16).to_le_bytes());
-        Side { client: Client::new(), left: true, pure: true, request: vec![], id: c.some(17), info, image }
+        Side { client: Client::new(), pure: true, request: vec![], id: c.some(17), info, image }
     }
 
     /// What the pod says.
@@ -108,7 +106,7 @@ impl Side {
             6 => return *self = Side::new(c),
             _ => return,
         }
-        (self.left, self.pure) = (false, false);
+        self.pure = false;
         self.client = Client::from_state(state);
     }
 
@@ -122,9 +120,7 @@ impl Side {
         assert!(!format!("{told:?}").is_empty());
         match refusal(&told).map(|r| r.number()) {
             Some(13 | 16 | 20 | 21) => {
-                assert!(!self.left || self.client == before, "a refusal changed the client");
-                assert_eq!(told, call(&mut twin));
-                assert!(self.client == twin, "a refusal changed the client that it left");
+                assert!(self.client == before, "a refusal changed the client");
             }
             Some(number) => {
                 let attached = if [8, 10].contains(&number) { None } else { before.attached() };
@@ -133,7 +129,6 @@ impl Side {
             }
             None => {}
         }
-        self.left = true;
         told
     }
 

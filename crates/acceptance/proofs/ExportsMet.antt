@@ -1,9 +1,11 @@
--- What meets the premise of the exported calls' promise: an attach under C1 whose link fails, with calls out of turn, over buffers of zeros.
+-- What meets the premises of the exported calls' promises: an attach under C1 whose link fails, with calls out of turn, over buffers of zeros;
+-- refusals of a state that no call left, of buffers that are too short, of an id of 17 bytes and of a text of one digit.
 -- Assumes nothing.
-use Prim.Native.Nat.{ℕ, _≤_}
+use Prim.Native.Nat.{ℕ, _%_, _≤_}
+use mathlib.Core.Bool.{true}
 use mathlib.Core.List.{List, [], _∷_, _++_, map}
 use mathlib.Core.Option.{none, some}
-use mathlib.Core.Path.{_≡_}
+use mathlib.Core.Path.{_≡_, refl, _∙_, ap}
 use native.Mathlib.Omega.{arith}
 use lib.ListN.{length, drop, replicate, length-replicate}
 use Rattle.paper.specs.Attach.{listen, attach}
@@ -13,12 +15,25 @@ use Rattle.paper.specs.Count.{All}
 use Rattle.paper.specs.Frame.{le, crcBit, crcByte, crcFrom, check, frameHead, frameBody, frameBytes}
 use Rattle.paper.specs.Hearing.{bit, bitsOf, counting, packed, binary, selectPayload}
 use Rattle.paper.specs.Talk.{walking, _>>=_}
+use Rattle.paper.specs.Text.{uidHex, parseUid, unhex}
 use Rattle.paper.specs.Walk.{ask}
-use Rattle.records.specs.Calls.{Call, startAttach, startInfo, request, record′, linkFailed, paperCall, Answer, paperAnswers}
+use Rattle.lore.proofs.Choice.{either}
+use Rattle.text.specs.Texts.{written, parsed, badText}
+use Rattle.client.specs.declared.Started.{Started}
+use Rattle.client.specs.Clients.{running}
+use Rattle.client.specs.Numbers.{numberOf, changesNoState}
+use Rattle.starting.specs.Starting as Code
+use Rattle.records.specs.Calls.{Call, startAttach, startDiscover, startInfo, request, record′, linkFailed, paperCall, Answer, paperAnswers}
 use Rattle.answers.specs.Answers as Answers
 use Rattle.state.specs.States as State
-use Rattle.lasting.specs.Exports.{Lending, Fair, exports, readFrom, Coded, behind}
-use Rattle.acceptance.proofs.Exports.{exports-agree, exports-coded, exports-behind}
+use Rattle.state.specs.States.{loaded}
+use Rattle.notes.specs.Notes.{noteOf, refusalNote, refusing}
+use Rattle.codes.specs.Codes.{coded, writtenCode, writes, readAs, readUid}
+use Rattle.lent.specs.Hosts.{codeOf, Requested, toldBy, leaves, handed}
+use Rattle.lent.specs.Exports as Export
+use Rattle.lasting.specs.Exports.{exported, made, held, Lending, Fair, exports, readFrom, Coded, behind}
+use Rattle.lasting.proofs.Chain.{exported-held}
+use Rattle.acceptance.proofs.Exports.{exports-agree, exports-coded, exports-behind, refused-untouched, short-untouched, text-untouched, id-untouched}
 
 abbrev lending : Call → Lending
 lending call = record { call = call; answer = replicate 1200 0 }
@@ -64,3 +79,39 @@ exports-coded-met = exports-coded (7 ∷ []) calls fair
 
 pub exports-behind-met : map behind (exports (replicate State.size 0 ++ (7 ∷ [])) calls) ≡ map (λ x. (7 ∷ [], drop Answers.size (x .answer))) calls
 exports-behind-met = exports-behind (7 ∷ []) calls fair
+
+-- A state that no call left: its byte 1, whether an id is attached, is 2. A discovery under 17 bytes is refused, whatever runs.
+abbrev odd : List ℕ
+odd = 0 ∷ 2 ∷ replicate 1350 0
+
+whole : State.size ≤ length odd
+whole = omega (arith, length-replicate {A = ℕ} 1350 0)
+
+refuses-17 : changesNoState (exported odd (replicate 1200 0) (startDiscover (replicate 17 0)) .code % 256) ≡ true
+unfolding held handed leaves made toldBy Code.startDiscover Code.badPrefix codeOf noteOf refusalNote refusing numberOf coded
+refuses-17 =
+    ap (λ (e : Requested). changesNoState (e .code % 256)) (exported-held odd (replicate 1200 0) whole room (startDiscover (replicate 17 0)))
+    ∙ either (λ (t : Started). changesNoState (codeOf (t .says) % 256) ≡ true) (running (loaded odd .turn)) refl refl
+
+pub refused-untouched-met :
+    (exported odd (replicate 1200 0) (startDiscover (replicate 17 0)) .state ≡ odd) × (exported odd (replicate 1200 0) (startDiscover (replicate 17 0)) .buffer ≡ [])
+refused-untouched-met = refused-untouched odd (replicate 1200 0) (startDiscover (replicate 17 0)) refuses-17
+
+pub short-untouched-met :
+    (exported (1 ∷ []) (2 ∷ []) (request [] (3 ∷ [])) .state ≡ 1 ∷ [])
+    × ((exported (1 ∷ []) (2 ∷ []) (request [] (3 ∷ [])) .buffer ≡ 3 ∷ []) × (exported (1 ∷ []) (2 ∷ []) (request [] (3 ∷ [])) .answer ≡ 2 ∷ []))
+short-untouched-met = short-untouched (1 ∷ []) (2 ∷ []) (request [] (3 ∷ [])) (λ h k. omega arith)
+
+pub text-untouched-met : Export.uidHex (replicate 17 0) (7 ∷ []) .bytes ≡ 7 ∷ []
+unfolding uidHex written writes writtenCode coded
+text-untouched-met = text-untouched (replicate 17 0) (7 ∷ []) refused
+  where
+    refused : Export.uidHex (replicate 17 0) (7 ∷ []) .code % 256 ≡ 0 → ⊥
+    refused h = omega arith
+
+pub id-untouched-met : Export.parseUid (0x30 ∷ []) (7 ∷ []) .bytes ≡ 7 ∷ []
+unfolding parseUid unhex parsed badText readUid readAs coded
+id-untouched-met = id-untouched (0x30 ∷ []) (7 ∷ []) refused
+  where
+    refused : Export.parseUid (0x30 ∷ []) (7 ∷ []) .code % 256 ≡ 0 → ⊥
+    refused h = omega arith

@@ -5,6 +5,9 @@ pub mod Condition3
 pub mod Calls
 pub mod Exports
 pub mod ExportsMet
+pub mod Contracts
+pub mod Results
+pub mod Ties
 pub mod BenchLog
 pub mod Instances
 pub mod Condition1Met

@@ -4,6 +4,7 @@ use Prim.Native.Nat.{ℕ}
 use mathlib.Core.Bool.{Bool, true, false, not}
 use lib.Dec.{eqb}
 use mathlib.Core.Path.{_≡_, refl}
+use borrow.Author.Tests.{ne-eqb}
 use Rattle.ids.specs.declared.Id.{Id}
 use Rattle.ids.specs.Ids.{noId}
 use Rattle.table.specs.declared.Table.{Table}
@@ -25,7 +26,7 @@ use Rattle.client.specs.declared.Progress.the-variants.{None}
 use Rattle.client.specs.declared.Says.{Says}
 use Rattle.client.specs.declared.Says.the-variants.{Onward, Refused}
 use Rattle.client.specs.declared.Told.{Told}
-use Rattle.client.specs.Numbers.{numberOf}
+use Rattle.client.specs.Numbers.{numberOf, changesNoState}
 use Rattle.client.specs.Clients.{onTurn, begun, fresh, idle, holding, cleared, attached, running, differs, otherFor, otherImage, refuses, over, stops, onward}
 
 -- A turn that is known.
@@ -72,6 +73,14 @@ module _ (t : Turn) where
 -- A refusal that is known.
 pub number-is : (r q : Refusal) (n : ℕ) → r ≡ q → n ≡ numberOf q → n ≡ numberOf r
 number-is r q n e f = rw e f
+
+-- A number that is known, and the last of those asked for.
+module _ (n : ℕ) where
+  pub changes-none : (k : ℕ) → n ≡ k → true ≡ changesNoState k → true ≡ changesNoState n
+  changes-none k e h = rw e h
+
+  pub last-number : (n ≡ 13 → ⊥) → (n ≡ 16 → ⊥) → (n ≡ 20 → ⊥) → eqb n 21 ≡ changesNoState n
+  last-number h₁ h₂ h₃ = rw (ne-eqb n 13 h₁, ne-eqb n 16 h₂, ne-eqb n 20 h₃)
 
 -- Images of another length.
 module _ (m n : ℕ) (b : Bool) where

@@ -1,9 +1,10 @@
 -- Document 01, "Refusal numbers": the number of each refusal and what it carries; and the code's answers read as document 01's.
 -- Assumes nothing.
 use Prim.Native.Nat.{ℕ}
-use mathlib.Core.Bool.{cond}
+use mathlib.Core.Bool.{Bool, _||_, cond}
 use mathlib.Core.List.{List, [], _∷_, map}
 use mathlib.Core.Option.{Option, none, some}
+use lib.Dec.{eqb}
 use lib.ListN.{replicate}
 use Rattle.paper.specs.Client as Paper
 use Rattle.paper.specs.Client.{refused, granted, closing, onward, over}
@@ -50,6 +51,10 @@ numberOf ShortVerify = 18
 numberOf SpansTooFar = 19
 numberOf OtherImage = 20
 numberOf OutOfTurn = 21
+
+-- "13, 16, 20, 21, 22 change no state." 22 is the text's alone.
+abbrev pub changesNoState : ℕ → Bool
+changesNoState n = eqb n 13 || (eqb n 16 || (eqb n 20 || eqb n 21))
 
 -- The image's key, if it has one.
 abbrev pub keyOf : Compat → List ℕ

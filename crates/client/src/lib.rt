@@ -6,7 +6,7 @@ use image::Info;
 use table::Table;
 use walk::Walk;
 ghost use mathlib.Core.Path.{_≡_};
-ghost use Rattle.client.specs.Numbers.{numberOf};
+ghost use Rattle.client.specs.Numbers.{numberOf, changesNoState};
 ghost use Rattle.client.specs.Clients.{fresh, running, differs, otherFor, otherImage, idle, turned, begun, refuse, refuses, over, stops, onward, making, cleared, holding, attached};
 
 // What a Select is for; given says whether a prefix was.
@@ -165,6 +165,22 @@ pub fn number(r: Refusal) -> u8
         Refusal::OtherImage => 20,
         Refusal::OutOfTurn => 21,
     }
+}
+
+// Whether the refusal of this number changes no state.
+pub fn changes_no_state(number: u8) -> bool
+    ensures { λ r. ⌜ r ≡ changesNoState number ⌝ }
+{
+    if number == 13 {
+        return true;
+    }
+    if number == 16 {
+        return true;
+    }
+    if number == 20 {
+        return true;
+    }
+    number == 21
 }
 
 // Whether an operation runs.

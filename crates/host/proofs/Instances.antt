@@ -12,8 +12,8 @@ use Rattle.telling.specs.Telling.{record′}
 use Rattle.state.specs.States.{saved}
 use Rattle.state.proofs.Instances.{seeking, seeking-fits}
 use Rattle.answers.specs.Answers as Answer
-use Rattle.lent.specs.Hosts.{toldBy, tells, starts, handed, requests, showsAttached, views}
-use Rattle.host.proofs.Laws.{after, tells-saved, starts-saved, requests-saved, views-saved}
+use Rattle.lent.specs.Hosts.{toldBy, leaves, tells, starts, asks, requests, showsAttached, views}
+use Rattle.host.proofs.Laws.{tells-saved, starts-saved, requests-saved, views-saved}
 
 -- A client whose attach is out, saved with a byte behind it; a buffer for the answer, a byte longer than it must be; the reply of C1 07.
 abbrev state : List ℕ
@@ -28,15 +28,15 @@ room = omega (arith, length-replicate {A = ℕ} (Answer.size + 1) 0xEE)
 abbrev replied : List ℕ
 replied = 0xA5 ∷ 0x05 ∷ 0x01 ∷ 0x00 ∷ 0x00 ∷ 0x00 ∷ 0x00 ∷ 0x00 ∷ 0x02 ∷ 0x00 ∷ 0xC1 ∷ 0x07 ∷ 0xF8 ∷ 0x10 ∷ []
 
-pub tells-saved-met : tells (λ c. record′ c [] replied) state answer ≡ after (record′ seeking [] replied) (0x99 ∷ []) answer
+pub tells-saved-met : tells (λ c. record′ c [] replied) state answer ≡ leaves (record′ seeking [] replied) state answer
 tells-saved-met = tells-saved seeking seeking-fits (0x99 ∷ []) answer room (λ c. record′ c [] replied)
 
-pub starts-saved-met : starts startInfo state answer ≡ after (toldBy (startInfo seeking)) (0x99 ∷ []) answer
+pub starts-saved-met : starts startInfo state answer ≡ leaves (toldBy (startInfo seeking)) state answer
 starts-saved-met = starts-saved seeking seeking-fits (0x99 ∷ []) answer room startInfo
 
 pub requests-saved-met :
     requests [] state (replicate 31 0) answer
-    ≡ handed (after (toldBy (request seeking [] (replicate 31 0) .answer)) (0x99 ∷ []) answer) (request seeking [] (replicate 31 0) .bytes)
+    ≡ asks (request seeking [] (replicate 31 0)) state answer
 requests-saved-met = requests-saved seeking seeking-fits (0x99 ∷ []) answer room [] (replicate 31 0)
 
 pub views-saved-met : views state answer ≡ showsAttached (attached seeking) answer

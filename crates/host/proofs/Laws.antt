@@ -7,7 +7,6 @@ use mathlib.Core.Path.{_≡_, refl, sym, _∙_, ap}
 use native.Mathlib.Omega.{arith}
 use lib.Dec.{ltb}
 use lib.ListN.{length, drop, length-append, drop-of-length-le}
-use lib.Seq.{drop-at}
 use borrow.Author.Tests.{ltb-false}
 use Rattle.paper.specs.Answers.{rest}
 use Rattle.client.specs.declared.Client.{Client}
@@ -19,47 +18,32 @@ use Rattle.state.specs.States as State
 use Rattle.state.specs.States.{saved, loaded, Fits}
 use Rattle.state.proofs.Laws.{saved-length, loaded-saved}
 use Rattle.answers.specs.Answers as Answer
-use Rattle.answers.specs.Answers.{shown}
 use Rattle.codes.specs.Codes.{restFrom}
-use Rattle.lent.specs.Hosts.{codeOf, Exported, toldBy, leaves, tells, starts, handed, asks, requests, showsAttached, views}
+use Rattle.lent.specs.Hosts.{toldBy, leaves, tells, starts, asks, requests, showsAttached, views}
 use Rattle.lent.proofs.Ways.{lent-enough}
-
--- What a call leaves in a state that holds more behind the client.
-unfoldable pub after : Told → List ℕ → List ℕ → Exported
-after t more a = record {
-  code = codeOf (t .says);
-  state = saved (t .client) ++ more;
-  answer = shown (t .says) (t .progress) (t .id) (t .found) (t .rest) ++ drop Answer.size a;
-}
 
 module _ (c : Client) (h : Fits c) (more a : List ℕ) (room : Answer.size ≤ length a) where
   whole : State.size ≤ length (saved c ++ more)
   whole = omega (arith, length-append (saved c) more, saved-length c h)
 
-  leaves-after : (t : Told) → leaves t (saved c ++ more) a ≡ after t more a
-  unfolding leaves after
-  leaves-after t = rw (drop-at (saved c) more State.size (saved-length c h))
-
   -- A record, or a failed link.
-  pub tells-saved : (f : Client → Told) → tells f (saved c ++ more) a ≡ after (f c) more a
+  pub tells-saved : (f : Client → Told) → tells f (saved c ++ more) a ≡ leaves (f c) (saved c ++ more) a
   unfolding tells
   tells-saved f =
       sym (lent-enough (length (saved c ++ more)) (length a) (λ (code : ℕ). record { code = code; state = saved c ++ more; answer = a }) (leaves (f (loaded (saved c ++ more))) (saved c ++ more) a) whole room)
       ∙ ap (λ (d : Client). leaves (f d) (saved c ++ more) a) (loaded-saved c h more)
-      ∙ leaves-after (f c)
 
   -- A start.
-  pub starts-saved : (f : Client → Started) → starts f (saved c ++ more) a ≡ after (toldBy (f c)) more a
+  pub starts-saved : (f : Client → Started) → starts f (saved c ++ more) a ≡ leaves (toldBy (f c)) (saved c ++ more) a
   unfolding starts
   starts-saved f = tells-saved (λ (d : Client). toldBy (f d))
 
   -- A request.
-  pub requests-saved : (image b : List ℕ) → requests image (saved c ++ more) b a ≡ handed (after (toldBy (request c image b .answer)) more a) (request c image b .bytes)
-  unfolding requests asks
+  pub requests-saved : (image b : List ℕ) → requests image (saved c ++ more) b a ≡ asks (request c image b) (saved c ++ more) a
+  unfolding requests
   requests-saved image b =
       sym (lent-enough (length (saved c ++ more)) (length a) (λ (code : ℕ). record { code = code; state = saved c ++ more; buffer = b; answer = a }) (asks (request (loaded (saved c ++ more)) image b) (saved c ++ more) a) whole room)
       ∙ ap (λ (d : Client). asks (request d image b) (saved c ++ more) a) (loaded-saved c h more)
-      ∙ ap (λ (e : Exported). handed e (request c image b .bytes)) (leaves-after (toldBy (request c image b .answer)))
 
   -- The attached id.
   pub views-saved : views (saved c ++ more) a ≡ showsAttached (attached c) a

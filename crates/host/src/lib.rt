@@ -2,31 +2,18 @@
 use client::Outcome;
 use client::Says;
 ghost use mathlib.Core.Path.{_≡_};
-ghost use lib.ListN.{length};
-ghost use Rattle.paper.specs.Answers.{key};
-ghost use Rattle.paper.specs.Frame.{crcFrom};
-ghost use Rattle.paper.specs.Hearing.{hear};
-ghost use Rattle.paper.specs.Text.{parseUid};
-ghost use Rattle.text.specs.Texts.{written, parsed};
-ghost use Rattle.image.specs.Images.{shownKey};
-ghost use Rattle.hearing.specs.Heard.{shownHeard};
-ghost use Rattle.starting.specs.Starting.{startSelect, startDeselect, startAttach, startAttachTo, startDiscover, startInfo, startErase, startFlash, startReset, startSetBaud};
-ghost use Rattle.telling.specs.Telling.{record′, linkFailed};
-ghost use Rattle.state.specs.States as State;
-ghost use Rattle.answers.specs.Answers as Answer;
-ghost use Rattle.codes.specs.Codes.{writes, readUid, keyCode, restFrom};
-ghost use Rattle.lent.specs.Hosts.{starts, tells, requests, views, hearsOut};
+ghost use Rattle.lent.specs.Exports as Export;
 
 #[no_mangle]
 pub extern "C" fn fahireky_state_size() -> usize
-    ensures { λ r. ⌜ r ≡ State.size ⌝ }
+    ensures { λ r. ⌜ r ≡ Export.stateSize ⌝ }
 {
     state::size()
 }
 
 #[no_mangle]
 pub extern "C" fn fahireky_answer_size() -> usize
-    ensures { λ r. ⌜ r ≡ Answer.size ⌝ }
+    ensures { λ r. ⌜ r ≡ Export.answerSize ⌝ }
 {
     answers::size()
 }
@@ -38,7 +25,7 @@ pub extern "C" fn fahireky_start_select(
     bits: usize,
     answer: &mut [u8],
 ) -> u64
-    ensures { λ r. ⌜ record { code = r; state = now (state .exit); answer = now (answer .exit) } ≡ starts (λ c. startSelect c (now (prefix .entry)) bits) (now (state .entry)) (now (answer .entry)) ⌝ }
+    ensures { λ r. ⌜ record { code = r; state = now (state .exit); answer = now (answer .exit) } ≡ Export.startSelect (now (state .entry)) (now (prefix .entry)) bits (now (answer .entry)) ⌝ }
 {
     let lack = lent::lacks(state.len(), answer.len());
     if lack != 0 {
@@ -50,7 +37,7 @@ pub extern "C" fn fahireky_start_select(
 
 #[no_mangle]
 pub extern "C" fn fahireky_start_deselect(state: &mut [u8], answer: &mut [u8]) -> u64
-    ensures { λ r. ⌜ record { code = r; state = now (state .exit); answer = now (answer .exit) } ≡ starts startDeselect (now (state .entry)) (now (answer .entry)) ⌝ }
+    ensures { λ r. ⌜ record { code = r; state = now (state .exit); answer = now (answer .exit) } ≡ Export.startDeselect (now (state .entry)) (now (answer .entry)) ⌝ }
 {
     let lack = lent::lacks(state.len(), answer.len());
     if lack != 0 {
@@ -62,7 +49,7 @@ pub extern "C" fn fahireky_start_deselect(state: &mut [u8], answer: &mut [u8]) -
 
 #[no_mangle]
 pub extern "C" fn fahireky_start_attach(state: &mut [u8], answer: &mut [u8]) -> u64
-    ensures { λ r. ⌜ record { code = r; state = now (state .exit); answer = now (answer .exit) } ≡ starts startAttach (now (state .entry)) (now (answer .entry)) ⌝ }
+    ensures { λ r. ⌜ record { code = r; state = now (state .exit); answer = now (answer .exit) } ≡ Export.startAttach (now (state .entry)) (now (answer .entry)) ⌝ }
 {
     let lack = lent::lacks(state.len(), answer.len());
     if lack != 0 {
@@ -78,7 +65,7 @@ pub extern "C" fn fahireky_start_attach_to(
     prefix: &[u8],
     answer: &mut [u8],
 ) -> u64
-    ensures { λ r. ⌜ record { code = r; state = now (state .exit); answer = now (answer .exit) } ≡ starts (λ c. startAttachTo c (now (prefix .entry))) (now (state .entry)) (now (answer .entry)) ⌝ }
+    ensures { λ r. ⌜ record { code = r; state = now (state .exit); answer = now (answer .exit) } ≡ Export.startAttachTo (now (state .entry)) (now (prefix .entry)) (now (answer .entry)) ⌝ }
 {
     let lack = lent::lacks(state.len(), answer.len());
     if lack != 0 {
@@ -90,7 +77,7 @@ pub extern "C" fn fahireky_start_attach_to(
 
 #[no_mangle]
 pub extern "C" fn fahireky_start_discover(state: &mut [u8], prefix: &[u8], answer: &mut [u8]) -> u64
-    ensures { λ r. ⌜ record { code = r; state = now (state .exit); answer = now (answer .exit) } ≡ starts (λ c. startDiscover c (now (prefix .entry))) (now (state .entry)) (now (answer .entry)) ⌝ }
+    ensures { λ r. ⌜ record { code = r; state = now (state .exit); answer = now (answer .exit) } ≡ Export.startDiscover (now (state .entry)) (now (prefix .entry)) (now (answer .entry)) ⌝ }
 {
     let lack = lent::lacks(state.len(), answer.len());
     if lack != 0 {
@@ -102,7 +89,7 @@ pub extern "C" fn fahireky_start_discover(state: &mut [u8], prefix: &[u8], answe
 
 #[no_mangle]
 pub extern "C" fn fahireky_start_info(state: &mut [u8], answer: &mut [u8]) -> u64
-    ensures { λ r. ⌜ record { code = r; state = now (state .exit); answer = now (answer .exit) } ≡ starts startInfo (now (state .entry)) (now (answer .entry)) ⌝ }
+    ensures { λ r. ⌜ record { code = r; state = now (state .exit); answer = now (answer .exit) } ≡ Export.startInfo (now (state .entry)) (now (answer .entry)) ⌝ }
 {
     let lack = lent::lacks(state.len(), answer.len());
     if lack != 0 {
@@ -114,7 +101,7 @@ pub extern "C" fn fahireky_start_info(state: &mut [u8], answer: &mut [u8]) -> u6
 
 #[no_mangle]
 pub extern "C" fn fahireky_start_erase(state: &mut [u8], answer: &mut [u8]) -> u64
-    ensures { λ r. ⌜ record { code = r; state = now (state .exit); answer = now (answer .exit) } ≡ starts startErase (now (state .entry)) (now (answer .entry)) ⌝ }
+    ensures { λ r. ⌜ record { code = r; state = now (state .exit); answer = now (answer .exit) } ≡ Export.startErase (now (state .entry)) (now (answer .entry)) ⌝ }
 {
     let lack = lent::lacks(state.len(), answer.len());
     if lack != 0 {
@@ -126,7 +113,7 @@ pub extern "C" fn fahireky_start_erase(state: &mut [u8], answer: &mut [u8]) -> u
 
 #[no_mangle]
 pub extern "C" fn fahireky_start_flash(state: &mut [u8], image: &[u8], answer: &mut [u8]) -> u64
-    ensures { λ r. ⌜ record { code = r; state = now (state .exit); answer = now (answer .exit) } ≡ starts (λ c. startFlash c (now (image .entry))) (now (state .entry)) (now (answer .entry)) ⌝ }
+    ensures { λ r. ⌜ record { code = r; state = now (state .exit); answer = now (answer .exit) } ≡ Export.startFlash (now (state .entry)) (now (image .entry)) (now (answer .entry)) ⌝ }
 {
     let lack = lent::lacks(state.len(), answer.len());
     if lack != 0 {
@@ -143,7 +130,7 @@ pub extern "C" fn fahireky_start_reset(
     in_boot: bool,
     answer: &mut [u8],
 ) -> u64
-    ensures { λ r. ⌜ record { code = r; state = now (state .exit); answer = now (answer .exit) } ≡ starts (λ c. startReset c bootloader «in_boot») (now (state .entry)) (now (answer .entry)) ⌝ }
+    ensures { λ r. ⌜ record { code = r; state = now (state .exit); answer = now (answer .exit) } ≡ Export.startReset (now (state .entry)) bootloader «in_boot» (now (answer .entry)) ⌝ }
 {
     let lack = lent::lacks(state.len(), answer.len());
     if lack != 0 {
@@ -161,7 +148,7 @@ pub extern "C" fn fahireky_start_set_baud(
     in_boot: bool,
     answer: &mut [u8],
 ) -> u64
-    ensures { λ r. ⌜ record { code = r; state = now (state .exit); answer = now (answer .exit) } ≡ starts (λ c. startSetBaud c baud bootloader «in_boot») (now (state .entry)) (now (answer .entry)) ⌝ }
+    ensures { λ r. ⌜ record { code = r; state = now (state .exit); answer = now (answer .exit) } ≡ Export.startSetBaud (now (state .entry)) baud bootloader «in_boot» (now (answer .entry)) ⌝ }
 {
     let lack = lent::lacks(state.len(), answer.len());
     if lack != 0 {
@@ -183,7 +170,7 @@ pub extern "C" fn fahireky_request(
     buffer: &mut [u8],
     answer: &mut [u8],
 ) -> u64
-    ensures { λ r. ⌜ record { code = r; state = now (state .exit); buffer = now (buffer .exit); answer = now (answer .exit) } ≡ requests (now (image .entry)) (now (state .entry)) (now (buffer .entry)) (now (answer .entry)) ⌝ }
+    ensures { λ r. ⌜ record { code = r; state = now (state .exit); buffer = now (buffer .exit); answer = now (answer .exit) } ≡ Export.request (now (state .entry)) (now (image .entry)) (now (buffer .entry)) (now (answer .entry)) ⌝ }
 {
     let lack = lent::lacks(state.len(), answer.len());
     if lack != 0 {
@@ -202,7 +189,7 @@ pub extern "C" fn fahireky_record(
     bytes: &[u8],
     answer: &mut [u8],
 ) -> u64
-    ensures { λ r. ⌜ record { code = r; state = now (state .exit); answer = now (answer .exit) } ≡ tells (λ c. record′ c (now (image .entry)) (now (bytes .entry))) (now (state .entry)) (now (answer .entry)) ⌝ }
+    ensures { λ r. ⌜ record { code = r; state = now (state .exit); answer = now (answer .exit) } ≡ Export.record′ (now (state .entry)) (now (image .entry)) (now (bytes .entry)) (now (answer .entry)) ⌝ }
 {
     let lack = lent::lacks(state.len(), answer.len());
     if lack != 0 {
@@ -214,7 +201,7 @@ pub extern "C" fn fahireky_record(
 
 #[no_mangle]
 pub extern "C" fn fahireky_link_failed(state: &mut [u8], answer: &mut [u8]) -> u64
-    ensures { λ r. ⌜ record { code = r; state = now (state .exit); answer = now (answer .exit) } ≡ tells linkFailed (now (state .entry)) (now (answer .entry)) ⌝ }
+    ensures { λ r. ⌜ record { code = r; state = now (state .exit); answer = now (answer .exit) } ≡ Export.linkFailed (now (state .entry)) (now (answer .entry)) ⌝ }
 {
     let lack = lent::lacks(state.len(), answer.len());
     if lack != 0 {
@@ -227,7 +214,7 @@ pub extern "C" fn fahireky_link_failed(state: &mut [u8], answer: &mut [u8]) -> u
 // The attached id, if there is one.
 #[no_mangle]
 pub extern "C" fn fahireky_attached(state: &[u8], answer: &mut [u8]) -> u64
-    ensures { λ r. ⌜ record { code = r; bytes = now (answer .exit) } ≡ views (now (state .entry)) (now (answer .entry)) ⌝ }
+    ensures { λ r. ⌜ record { code = r; bytes = now (answer .exit) } ≡ Export.attached (now (state .entry)) (now (answer .entry)) ⌝ }
 {
     let lack = lent::lacks(state.len(), answer.len());
     if lack != 0 {
@@ -241,7 +228,7 @@ pub extern "C" fn fahireky_attached(state: &[u8], answer: &mut [u8]) -> u64
 // What a Select hears in its record.
 #[no_mangle]
 pub extern "C" fn fahireky_hear(bytes: &[u8], answer: &mut [u8]) -> u64
-    ensures { λ r. ⌜ record { code = r; bytes = now (answer .exit) } ≡ hearsOut (shownHeard (hear (now (bytes .entry)))) (now (answer .entry)) ⌝ }
+    ensures { λ r. ⌜ record { code = r; bytes = now (answer .exit) } ≡ Export.hear (now (bytes .entry)) (now (answer .entry)) ⌝ }
 {
     let lack = lent::lacks(state::size(), answer.len());
     if lack != 0 {
@@ -256,7 +243,7 @@ pub extern "C" fn fahireky_hear(bytes: &[u8], answer: &mut [u8]) -> u64
 // Where the unread rest of a record begins.
 #[no_mangle]
 pub extern "C" fn fahireky_rest(bytes: &[u8], place: usize) -> usize
-    ensures { λ r. ⌜ r ≡ restFrom (length (now (bytes .entry))) place ⌝ }
+    ensures { λ r. ⌜ r ≡ Export.rest (now (bytes .entry)) place ⌝ }
 {
     if place < bytes.len() {
         place
@@ -267,28 +254,28 @@ pub extern "C" fn fahireky_rest(bytes: &[u8], place: usize) -> usize
 
 #[no_mangle]
 pub extern "C" fn fahireky_uid_hex(id: &[u8], text: &mut [u8]) -> u64
-    ensures { λ r. ⌜ record { code = r; bytes = now (text .exit) } ≡ writes (written (now (id .entry)) (now (text .entry))) ⌝ }
+    ensures { λ r. ⌜ record { code = r; bytes = now (text .exit) } ≡ Export.uidHex (now (id .entry)) (now (text .entry)) ⌝ }
 {
     codes::written_code(text::uid_hex(id, text))
 }
 
 #[no_mangle]
 pub extern "C" fn fahireky_parse_uid(text: &[u8], id: &mut [u8]) -> u64
-    ensures { λ r. ⌜ record { code = r; bytes = now (id .exit) } ≡ readUid (parsed (parseUid (now (text .entry)))) (now (id .entry)) ⌝ }
+    ensures { λ r. ⌜ record { code = r; bytes = now (id .exit) } ≡ Export.parseUid (now (text .entry)) (now (id .entry)) ⌝ }
 {
     codes::read_uid(text::parse_uid(text), id)
 }
 
 #[no_mangle]
 pub extern "C" fn fahireky_image_compat(image: &[u8]) -> u64
-    ensures { λ r. ⌜ r ≡ keyCode (shownKey (key (now (image .entry)))) ⌝ }
+    ensures { λ r. ⌜ r ≡ Export.imageCompat (now (image .entry)) ⌝ }
 {
     codes::key_code(image::image_compat(image))
 }
 
 #[no_mangle]
 pub extern "C" fn fahireky_crc16(start: u16, bytes: &[u8]) -> u16
-    ensures { λ r. ⌜ r ≡ crcFrom start (now (bytes .entry)) ⌝ }
+    ensures { λ r. ⌜ r ≡ Export.crc16 start (now (bytes .entry)) ⌝ }
 {
     crc::crc16(start, bytes)
 }

@@ -8,21 +8,24 @@ use native.Mathlib.Omega.{arith}
 use lib.ListN.{length, drop, replicate, length-append}
 use lib.Seq.{drop-at}
 use Rattle.paper.specs.Count.{All}
+use Rattle.lore.proofs.Choice.{by-test}
 use Rattle.lore.proofs.Words.{Bytes}
 use Rattle.client.specs.declared.Client.{Client}
 use Rattle.client.specs.declared.Started.{Started}
 use Rattle.client.specs.declared.Told.{Told}
 use Rattle.client.specs.Clients.{fresh, attached}
-use Rattle.asking.specs.Asking as Asking
+use Rattle.client.specs.Numbers.{changesNoState}
 use Rattle.state.specs.States as State
 use Rattle.state.specs.States.{saved, loaded, Fits}
 use Rattle.state.proofs.Laws.{saved-length, loaded-saved, loaded-fits, fresh-is-zero, fresh-fits, no-id-fits, no-table-fits}
 use Rattle.answers.specs.Answers as Answers
-use Rattle.lent.specs.Hosts.{Exported, Requested, toldBy, leaves, tells, starts, handed, asks, requests, showsAttached, views}
+use Rattle.notes.specs.Notes.{noteOf}
+use Rattle.lent.specs.Hosts.{Requested, toldBy, leaves, handed, showsAttached, views}
 use Rattle.lent.proofs.Ways.{lent-enough}
 use Rattle.records.specs.Calls.{Call, startSelect, startDeselect, startAttach, startDiscover, startInfo, startErase, startFlash, startReset, startSetBaud, request, record′, linkFailed, Good, codeCall, codeAnswer, codeAnswers, reached}
 use Rattle.lasting.specs.Exports.{Lent, Lending, Fair, exported, exports, stateAfter, made, held, heldBy, readAs, readFrom, Coded, behind}
 use Rattle.lasting.proofs.Notes.{no-progress}
+use Rattle.lasting.proofs.Refused.{kept, unheld, exported-lent}
 use Rattle.lasting.proofs.Readings.{held-read, held-coded, held-behind}
 use Rattle.lasting.proofs.Fits.{StartedFits, ToldFits, select-fits, deselect-fits, attach-fits, attach-to-fits, discover-fits, info-fits, erase-fits, flash-fits, reset-fits, set-baud-fits, request-fits, record-fits, failed-fits}
 
@@ -65,36 +68,8 @@ made-call c (record′ image bytes) = (refl, refl)
 made-call c linkFailed = (refl, refl)
 
 -- One exported call, on buffers that are long enough.
-module _ (s a : List ℕ) (whole : State.size ≤ length s) (room : Answers.size ≤ length a) where
-  tells-all : (f : Client → Told) → handed (tells f s a) [] ≡ held (drop State.size s) (drop Answers.size a) (record { told = f (loaded s); buffer = [] })
-  unfolding tells leaves handed held
-  tells-all f = ap (λ (e : Exported). handed e []) (sym (lent-enough (length s) (length a) (λ (code : ℕ). record { code = code; state = s; answer = a }) (leaves (f (loaded s)) s a) whole room))
-
-  starts-all : (f : Client → Started) → handed (starts f s a) [] ≡ held (drop State.size s) (drop Answers.size a) (record { told = toldBy (f (loaded s)); buffer = [] })
-  unfolding starts
-  starts-all f = tells-all (λ (c : Client). toldBy (f c))
-
-  requests-all : (image b : List ℕ)
-      → requests image s b a ≡ held (drop State.size s) (drop Answers.size a) (record { told = toldBy (Asking.request (loaded s) image b .answer); buffer = Asking.request (loaded s) image b .bytes })
-  unfolding requests asks leaves handed held
-  requests-all image b =
-      sym (lent-enough (length s) (length a) (λ (code : ℕ). record { code = code; state = s; buffer = b; answer = a }) (asks (Asking.request (loaded s) image b) s a) whole room)
-
-  pub exported-held : (call : Call) → exported s a call ≡ held (drop State.size s) (drop Answers.size a) (made (loaded s) call)
-  unfolding exported made
-  exported-held (startSelect bytes bits) = starts-all _
-  exported-held startDeselect = starts-all _
-  exported-held (startAttach none) = starts-all _
-  exported-held (startAttach (some bytes)) = starts-all _
-  exported-held (startDiscover given) = starts-all _
-  exported-held startInfo = starts-all _
-  exported-held startErase = starts-all _
-  exported-held (startFlash image) = starts-all _
-  exported-held (startReset bootloader inBoot) = starts-all _
-  exported-held (startSetBaud baud bootloader inBoot) = starts-all _
-  exported-held (request image buffer) = requests-all image buffer
-  exported-held (record′ image bytes) = tells-all _
-  exported-held linkFailed = tells-all _
+pub exported-held : (s a : List ℕ) → State.size ≤ length s → Answers.size ≤ length a → (call : Call) → exported s a call ≡ held s a (made (loaded s) call)
+exported-held s a whole room call = exported-lent s a call ∙ sym (lent-enough (length s) (length a) (unheld s a call) (held s a (made (loaded s) call)) whole room)
 
 -- A state that holds a client that fits, with these bytes behind it.
 pub record Holds (s : List ℕ) (c : Client) (more : List ℕ) : Type 0 where
@@ -113,24 +88,26 @@ saved-holds c h more = record {
 
 -- One exported call on it, and the state after it.
 module _ (s : List ℕ) (c : Client) (more : List ℕ) (h : Holds s c more) (x : Lending) (k : Fair x) where
-  told-fits : ToldFits (made c (x .call) .told)
+  pub told-fits : ToldFits (made c (x .call) .told)
   told-fits = made-fits c (h .fits) (x .call) (k .bytes) (k .lengths)
 
-  pub leaves-held : exported s (x .answer) (x .call) ≡ held more (drop Answers.size (x .answer)) (made c (x .call))
-  leaves-held =
-      exported-held s (x .answer) (h .whole) (k .room) (x .call)
-      ∙ (λ i. held (h .behind i) (drop Answers.size (x .answer)) (made (h .client i) (x .call)))
+  pub leaves-held : exported s (x .answer) (x .call) ≡ held s (x .answer) (made c (x .call))
+  leaves-held = exported-held s (x .answer) (h .whole) (k .room) (x .call) ∙ ap (λ (d : Client). held s (x .answer) (made d (x .call))) (h .client)
 
-  pub holds-after : Holds (held more (drop Answers.size (x .answer)) (made c (x .call)) .state) (made c (x .call) .told .client) more
-  unfolding held
-  holds-after = saved-holds (made c (x .call) .told .client) (told-fits .client) more
+  pub holds-after : Holds (held s (x .answer) (made c (x .call)) .state) (made c (x .call) .told .client) more
+  unfolding held handed leaves
+  holds-after =
+      by-test (λ (b : List ℕ). Holds b (made c (x .call) .told .client) more) (changesNoState (noteOf (made c (x .call) .told .says) .number))
+      (λ e. subst (λ (d : Client). Holds s d more) (sym (kept c (x .call) e .0)) h)
+      (λ e. subst (λ (b : List ℕ). Holds (saved (made c (x .call) .told .client) ++ b) (made c (x .call) .told .client) more) (sym (h .behind))
+      (saved-holds (made c (x .call) .told .client) (told-fits .client) more))
 
 -- Any calls.
-exports-held : (xs : List Lending) (s : List ℕ) (c : Client) (more : List ℕ) → Holds s c more → All Fair xs → exports s xs ≡ heldBy more c xs
+exports-held : (xs : List Lending) (s : List ℕ) (c : Client) (more : List ℕ) → Holds s c more → All Fair xs → exports s xs ≡ heldBy s c xs
 unfolding exports heldBy
 exports-held [] s c more h ks = refl
 exports-held (x ∷ xs) s c more h ks =
-    let n : Requested = held more (drop Answers.size (x .answer)) (made c (x .call)) in
+    let n : Requested = held s (x .answer) (made c (x .call)) in
     ap (λ (e : Requested). e ∷ exports (e .state) xs) (leaves-held s c more h x (ks .0))
     ∙ ap (λ (es : List Requested). n ∷ es) (exports-held xs (n .state) (made c (x .call) .told .client) more (holds-after s c more h x (ks .0)) (ks .1))
 
@@ -138,34 +115,37 @@ state-held : (xs : List Lending) (s : List ℕ) (c : Client) (more : List ℕ) �
 unfolding stateAfter reached
 state-held [] s c more h ks = h
 state-held (x ∷ xs) s c more h ks =
-    let n : Requested = held more (drop Answers.size (x .answer)) (made c (x .call)) in
+    let n : Requested = held s (x .answer) (made c (x .call)) in
     subst (λ (e : Requested). Holds (stateAfter (e .state) xs) (reached ((codeCall c (x .call)) .1) (map (λ y. y .call) xs)) more) (sym (leaves-held s c more h x (ks .0)))
     (subst (λ (d : Client). Holds (stateAfter (n .state) xs) (reached d (map (λ y. y .call) xs)) more) (made-call c (x .call) .0)
     (state-held xs (n .state) (made c (x .call) .told .client) more (holds-after s c more h x (ks .0)) (ks .1)))
 
 -- What a host reads after each is the client's own answer; the code; and what stands behind.
 module _ (more : List ℕ) where
-  reads-held : (xs : List Lending) (c : Client) → Fits c → All Fair xs → map readFrom (heldBy more c xs) ≡ codeAnswers c (map (λ x. x .call) xs)
+  reads-held : (xs : List Lending) (s : List ℕ) (c : Client) → Holds s c more → All Fair xs → map readFrom (heldBy s c xs) ≡ codeAnswers c (map (λ x. x .call) xs)
   unfolding heldBy codeAnswers
-  reads-held [] c h ks = refl
-  reads-held (x ∷ xs) c h ks =
-      let f : ToldFits (made c (x .call) .told) = made-fits c h (x .call) (ks .0 .bytes) (ks .0 .lengths) in
-      ap₂ _∷_ (held-read (made c (x .call)) f more (drop Answers.size (x .answer)) ∙ made-call c (x .call) .1)
-      (reads-held xs (made c (x .call) .told .client) (f .client) (ks .1) ∙ ap (λ (d : Client). codeAnswers d (map (λ y. y .call) xs)) (made-call c (x .call) .0))
+  reads-held [] s c h ks = refl
+  reads-held (x ∷ xs) s c h ks =
+      let k = holds-after s c more h x (ks .0) in
+      ap₂ _∷_ (held-read (made c (x .call)) (told-fits s c more h x (ks .0)) s (x .answer) (k .client) ∙ made-call c (x .call) .1)
+      (reads-held xs (held s (x .answer) (made c (x .call)) .state) (made c (x .call) .told .client) k (ks .1)
+      ∙ ap (λ (d : Client). codeAnswers d (map (λ y. y .call) xs)) (made-call c (x .call) .0))
 
-  codes-held : (xs : List Lending) (c : Client) → Fits c → All Fair xs → All Coded (heldBy more c xs)
+  codes-held : (xs : List Lending) (s : List ℕ) (c : Client) → Holds s c more → All Fair xs → All Coded (heldBy s c xs)
   unfolding heldBy
-  codes-held [] c h ks = tt
-  codes-held (x ∷ xs) c h ks =
-      let f : ToldFits (made c (x .call) .told) = made-fits c h (x .call) (ks .0 .bytes) (ks .0 .lengths) in
-      (held-coded (made c (x .call)) f more (drop Answers.size (x .answer)), codes-held xs (made c (x .call) .told .client) (f .client) (ks .1))
+  codes-held [] s c h ks = tt
+  codes-held (x ∷ xs) s c h ks = (
+    held-coded (made c (x .call)) (told-fits s c more h x (ks .0)) s (x .answer),
+    codes-held xs (held s (x .answer) (made c (x .call)) .state) (made c (x .call) .told .client) (holds-after s c more h x (ks .0)) (ks .1),
+  )
 
-  behind-held : (xs : List Lending) (c : Client) → Fits c → All Fair xs → map behind (heldBy more c xs) ≡ map (λ x. (more, drop Answers.size (x .answer))) xs
+  behind-held : (xs : List Lending) (s : List ℕ) (c : Client) → Holds s c more → All Fair xs → map behind (heldBy s c xs) ≡ map (λ x. (more, drop Answers.size (x .answer))) xs
   unfolding heldBy
-  behind-held [] c h ks = refl
-  behind-held (x ∷ xs) c h ks =
-      let f : ToldFits (made c (x .call) .told) = made-fits c h (x .call) (ks .0 .bytes) (ks .0 .lengths) in
-      ap₂ _∷_ (held-behind (made c (x .call)) f more (drop Answers.size (x .answer))) (behind-held xs (made c (x .call) .told .client) (f .client) (ks .1))
+  behind-held [] s c h ks = refl
+  behind-held (x ∷ xs) s c h ks =
+      let k = holds-after s c more h x (ks .0) in
+      ap₂ _∷_ (held-behind (made c (x .call)) (told-fits s c more h x (ks .0)) s (x .answer) more (k .behind))
+      (behind-held xs (held s (x .answer) (made c (x .call)) .state) (made c (x .call) .told .client) k (ks .1))
 
 -- The attached id of such a state.
 pub views-held : (s : List ℕ) (c : Client) (more a : List ℕ) → Holds s c more → Answers.size ≤ length a → views s a ≡ showsAttached (attached c) a
@@ -184,7 +164,7 @@ zero-holds more = subst (λ (s : List ℕ). Holds (s ++ more) fresh more) fresh-
 -- Any calls on a state that holds a client.
 module _ (s : List ℕ) (c : Client) (more : List ℕ) (h : Holds s c more) (xs : List Lending) (ks : All Fair xs) where
   -- Each leaves what the client's own call does on the client reached so far.
-  pub chain : exports s xs ≡ heldBy more c xs
+  pub chain : exports s xs ≡ heldBy s c xs
   chain = exports-held xs s c more h ks
 
   -- The state holds the client that the calls lead to.
@@ -192,13 +172,13 @@ module _ (s : List ℕ) (c : Client) (more : List ℕ) (h : Holds s c more) (xs 
   chain-holds = state-held xs s c more h ks
 
   pub chain-reads : map readFrom (exports s xs) ≡ codeAnswers c (map (λ x. x .call) xs)
-  chain-reads = ap (map readFrom) chain ∙ reads-held more xs c (h .fits) ks
+  chain-reads = ap (map readFrom) chain ∙ reads-held more xs s c h ks
 
   pub chain-codes : All Coded (exports s xs)
-  chain-codes = subst (All Coded) (sym chain) (codes-held more xs c (h .fits) ks)
+  chain-codes = subst (All Coded) (sym chain) (codes-held more xs s c h ks)
 
   pub chain-behind : map behind (exports s xs) ≡ map (λ x. (more, drop Answers.size (x .answer))) xs
-  chain-behind = ap (map behind) chain ∙ behind-held more xs c (h .fits) ks
+  chain-behind = ap (map behind) chain ∙ behind-held more xs s c h ks
 
 pub fair-good : (xs : List Lending) → All Fair xs → All Good (map (λ x. x .call) xs)
 fair-good [] ks = tt

@@ -6,4 +6,5 @@ pub mod Notes
 pub mod Jobs
 pub mod Fits
 pub mod Readings
+pub mod Refused
 pub mod Chain

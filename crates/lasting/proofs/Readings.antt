@@ -15,16 +15,16 @@ use Rattle.turns.proofs.Ways.{info-length}
 use Rattle.turns.proofs.Laws.{flag-back, info-back}
 use Rattle.records.specs.Calls.{codeAnswer}
 use Rattle.state.specs.States as State
-use Rattle.state.specs.States.{saved, savedId, savedTable, loadedId, loadedTable}
+use Rattle.state.specs.States.{savedId, savedTable, loaded, loadedId, loadedTable}
 use Rattle.state.proofs.Ways.{id-length, table-length}
-use Rattle.state.proofs.Laws.{saved-length, loaded-saved, id-back, table-back}
+use Rattle.state.proofs.Laws.{id-back, table-back}
 use Rattle.notes.specs.declared.Note.{Note}
 use Rattle.notes.specs.declared.Gain.{Gain}
 use Rattle.notes.specs.Notes.{noteOf, gainOf, saysIn, progressIn}
 use Rattle.notes.proofs.Laws.{note-says, gain-progress}
 use Rattle.answers.specs.Answers.{size, tagged, sizes, pair, numbered, shown}
 use Rattle.codes.specs.Codes.{coded}
-use Rattle.lent.specs.Hosts.{codeOf}
+use Rattle.lent.specs.Hosts.{codeOf, leaves, handed}
 use Rattle.lasting.specs.Exports.{Made, held, readAs, loadedNote, loadedGain, readFrom, Coded, behind}
 use Rattle.lasting.proofs.Notes.{NoteFits, GainFits}
 use Rattle.lasting.proofs.Fits.{ToldFits}
@@ -104,29 +104,30 @@ module _ (t : Told) (h : ToldFits t) (b : List ℕ) (e : take size (drop 0 b) �
   pub beside-found : loadedTable 83 b ≡ t .found
   beside-found = table-back 83 b (t .found) (h .found) (parts .1 .1)
 
--- All that a call leaves.
-pub held-read : (m : Made) → ToldFits (m .told) → (more rest : List ℕ) → readFrom (held more rest m) ≡ readAs m
-unfolding readFrom readAs held
-held-read m f more rest =
-    let x : List ℕ = shown (m .told .says) (m .told .progress) (m .told .id) (m .told .found) (m .told .rest) in
-    let e : take size (drop 0 (x ++ rest)) ≡ x = take-at x rest size (shown-length (m .told) f) in
-    λ i. codeAnswer (
-      record {
-        says = saysOf (says-back (m .told) f (x ++ rest) e i) (progress-back (m .told) f (x ++ rest) e i) (beside-id (m .told) f (x ++ rest) e i) (beside-found (m .told) f (x ++ rest) e i);
-        rest = rest-back (m .told) f (x ++ rest) e i;
-        buffer = m .buffer;
-      },
-      loaded-saved (m .told .client) (f .client) more i,
-    )
+-- All that a call leaves, where the state after it holds the client.
+module _ (m : Made) (f : ToldFits (m .told)) (s a : List ℕ) where
+  abbrev written : List ℕ
+  written = shown (m .told .says) (m .told .progress) (m .told .id) (m .told .found) (m .told .rest)
 
-pub held-coded : (m : Made) → ToldFits (m .told) → (more rest : List ℕ) → Coded (held more rest m)
-unfolding held
-held-coded m f more rest =
-    let x : List ℕ = shown (m .told .says) (m .told .progress) (m .told .id) (m .told .found) (m .told .rest) in
-    code-back (m .told) f (x ++ rest) (take-at x rest size (shown-length (m .told) f))
+  front : take size (drop 0 (written ++ drop size a)) ≡ written
+  front = take-at written (drop size a) size (shown-length (m .told) f)
 
-pub held-behind : (m : Made) → ToldFits (m .told) → (more rest : List ℕ) → behind (held more rest m) ≡ (more, rest)
-unfolding held
-held-behind m f more rest =
-    let x : List ℕ = shown (m .told .says) (m .told .progress) (m .told .id) (m .told .found) (m .told .rest) in
-    λ i. (drop-at (saved (m .told .client)) more State.size (saved-length (m .told .client) (f .client)) i, drop-at x rest size (shown-length (m .told) f) i)
+  pub held-read : loaded (held s a m .state) ≡ m .told .client → readFrom (held s a m) ≡ readAs m
+  unfolding readFrom readAs held handed leaves
+  held-read e =
+      λ i. codeAnswer (
+        record {
+          says = saysOf (says-back (m .told) f (written ++ drop size a) front i) (progress-back (m .told) f (written ++ drop size a) front i) (beside-id (m .told) f (written ++ drop size a) front i) (beside-found (m .told) f (written ++ drop size a) front i);
+          rest = rest-back (m .told) f (written ++ drop size a) front i;
+          buffer = m .buffer;
+        },
+        e i,
+      )
+
+  pub held-coded : Coded (held s a m)
+  unfolding held handed leaves
+  held-coded = code-back (m .told) f (written ++ drop size a) front
+
+  pub held-behind : (more : List ℕ) → drop State.size (held s a m .state) ≡ more → behind (held s a m) ≡ (more, drop size a)
+  unfolding held handed leaves
+  held-behind more e = λ i. (e i, drop-at written (drop size a) size (shown-length (m .told) f) i)

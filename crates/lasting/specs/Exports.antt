@@ -1,7 +1,7 @@
 -- The exported calls, one after the other: what each leaves in the buffers lent, its code, and the client's own answer that they hold.
 -- Assumes nothing.
 use Prim.Native.Nat.{ℕ, _<_, _≤_, _^_}
-use mathlib.Core.List.{List, [], _∷_, _++_}
+use mathlib.Core.List.{List, [], _∷_}
 use mathlib.Core.Option.{none, some}
 use mathlib.Core.Path.{_≡_}
 use lib.ListN.{length, drop}
@@ -17,14 +17,14 @@ use Rattle.telling.specs.Telling as Code₃
 use Rattle.records.specs.Calls.{Call, startSelect, startDeselect, startAttach, startDiscover, startInfo, startErase, startFlash, startReset, startSetBaud, request, record′, linkFailed, Good, Answer, codeAnswer}
 use Rattle.turns.specs.Flats.{flagged, loadedInfo}
 use Rattle.state.specs.States as State
-use Rattle.state.specs.States.{saved, loaded, loadedId, loadedTable}
+use Rattle.state.specs.States.{loaded, loadedId, loadedTable}
 use Rattle.notes.specs.declared.Note.{Note}
 use Rattle.notes.specs.declared.Gain.{Gain}
 use Rattle.notes.specs.Notes.{saysIn, progressIn}
 use Rattle.answers.specs.Answers as Answers
-use Rattle.answers.specs.Answers.{shown}
 use Rattle.codes.specs.Codes.{coded}
-use Rattle.lent.specs.Hosts.{codeOf, Exported, Requested, toldBy, tells, starts, handed, requests}
+use Rattle.lent.specs.Hosts.{Exported, Requested, toldBy, leaves, handed}
+use Rattle.lent.specs.Exports as Export
 
 -- What the types of the arguments give: an image or a record that is lent has a length of 64 bits, and an image and a baud are bytes.
 abbrev pub Lent : Call → Type 0
@@ -41,24 +41,39 @@ Lent (request image buffer) = length image < 2 ^ 64
 Lent (record′ image bytes) = ((length image < 2 ^ 64) × Bytes image) × (length bytes < 2 ^ 64)
 Lent linkFailed = Unit {0}
 
+-- The request's buffer that a call is lent.
+abbrev pub bufferOf : Call → List ℕ
+bufferOf (startSelect bytes bits) = []
+bufferOf startDeselect = []
+bufferOf (startAttach uid) = []
+bufferOf (startDiscover given) = []
+bufferOf startInfo = []
+bufferOf startErase = []
+bufferOf (startFlash image) = []
+bufferOf (startReset bootloader inBoot) = []
+bufferOf (startSetBaud baud bootloader inBoot) = []
+bufferOf (request image buffer) = buffer
+bufferOf (record′ image bytes) = []
+bufferOf linkFailed = []
+
 -- What the exported function of a call leaves of a state, of an answer's buffer and of the request's.
-abbrev bufferless : Exported → Requested
+abbrev pub bufferless : Exported → Requested
 bufferless e = handed e []
 
 unfoldable pub exported : List ℕ → List ℕ → Call → Requested
-exported s a (startSelect bytes bits) = bufferless (starts (λ c. Code.startSelect c bytes bits) s a)
-exported s a startDeselect = bufferless (starts Code.startDeselect s a)
-exported s a (startAttach none) = bufferless (starts Code.startAttach s a)
-exported s a (startAttach (some bytes)) = bufferless (starts (λ c. Code.startAttachTo c bytes) s a)
-exported s a (startDiscover given) = bufferless (starts (λ c. Code.startDiscover c given) s a)
-exported s a startInfo = bufferless (starts Code.startInfo s a)
-exported s a startErase = bufferless (starts Code.startErase s a)
-exported s a (startFlash image) = bufferless (starts (λ c. Code.startFlash c image) s a)
-exported s a (startReset bootloader inBoot) = bufferless (starts (λ c. Code.startReset c bootloader inBoot) s a)
-exported s a (startSetBaud baud bootloader inBoot) = bufferless (starts (λ c. Code.startSetBaud c baud bootloader inBoot) s a)
-exported s a (request image buffer) = requests image s buffer a
-exported s a (record′ image bytes) = bufferless (tells (λ c. Code₃.record′ c image bytes) s a)
-exported s a linkFailed = bufferless (tells Code₃.linkFailed s a)
+exported s a (startSelect bytes bits) = bufferless (Export.startSelect s bytes bits a)
+exported s a startDeselect = bufferless (Export.startDeselect s a)
+exported s a (startAttach none) = bufferless (Export.startAttach s a)
+exported s a (startAttach (some bytes)) = bufferless (Export.startAttachTo s bytes a)
+exported s a (startDiscover given) = bufferless (Export.startDiscover s given a)
+exported s a startInfo = bufferless (Export.startInfo s a)
+exported s a startErase = bufferless (Export.startErase s a)
+exported s a (startFlash image) = bufferless (Export.startFlash s image a)
+exported s a (startReset bootloader inBoot) = bufferless (Export.startReset s bootloader inBoot a)
+exported s a (startSetBaud baud bootloader inBoot) = bufferless (Export.startSetBaud s baud bootloader inBoot a)
+exported s a (request image buffer) = Export.request s image buffer a
+exported s a (record′ image bytes) = bufferless (Export.record′ s image bytes a)
+exported s a linkFailed = bufferless (Export.linkFailed s a)
 
 -- A call, with the buffer that is lent for its answer.
 pub record Lending : Type 0 where
@@ -109,19 +124,14 @@ made c (request image buffer) = askedBy (Code₂.request c image buffer)
 made c (record′ image bytes) = toldAs (Code₃.record′ c image bytes)
 made c linkFailed = toldAs (Code₃.linkFailed c)
 
--- An answer in the buffers: its code, the client saved, the answer written, and behind both what was there.
+-- An answer in the buffers that are lent: as a call leaves it.
 unfoldable pub held : List ℕ → List ℕ → Made → Requested
-held more rest m = record {
-  code = codeOf (m .told .says);
-  state = saved (m .told .client) ++ more;
-  buffer = m .buffer;
-  answer = shown (m .told .says) (m .told .progress) (m .told .id) (m .told .found) (m .told .rest) ++ rest;
-}
+held s a m = handed (leaves (m .told) s a) (m .buffer)
 
--- What some calls leave, one after the other, on the client reached so far.
+-- What some calls leave, one after the other, on the state and the client reached so far.
 unfoldable pub heldBy : List ℕ → Client → List Lending → List Requested
-heldBy more c [] = []
-heldBy more c (x ∷ xs) = held more (drop Answers.size (x .answer)) (made c (x .call)) ∷ heldBy more (made c (x .call) .told .client) xs
+heldBy s c [] = []
+heldBy s c (x ∷ xs) = held s (x .answer) (made c (x .call)) ∷ heldBy (held s (x .answer) (made c (x .call)) .state) (made c (x .call) .told .client) xs
 
 -- An answer read as document 01's, with the seed and the attached id after it.
 unfoldable pub readAs : Made → Answer

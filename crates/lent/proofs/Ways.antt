@@ -21,6 +21,7 @@ use Rattle.client.specs.declared.Says.{Says}
 use Rattle.client.specs.declared.Says.the-variants.{Over, Refused}
 use Rattle.client.specs.declared.Started.{Started}
 use Rattle.client.specs.declared.Told.{Told}
+use Rattle.client.specs.Numbers.{changesNoState}
 use Rattle.notes.specs.declared.Note.{Note}
 use Rattle.notes.specs.Notes.{noteOf}
 use Rattle.codes.specs.Codes.{coded}
@@ -90,10 +91,18 @@ lent-enough n m short enough hn hm = rw (le-ltb n State.size hn, le-ltb m Answer
 
 -- What a call leaves.
 module _ (says : Says) (s a s′ a′ : List ℕ) (r : ℕ) (e : r ≡ codeOf says) where
-  pub told-is : (t : Told) → says ≡ t .says → s′ ≡ saved (t .client) ++ drop State.size s
-      → a′ ≡ shown says (t .progress) (t .id) (t .found) (t .rest) ++ drop Answer.size a → record { code = r; state = s′; answer = a′ } ≡ leaves t s a
-  unfolding leaves
-  told-is t es e₁ e₂ = rw (e, e₁, e₂, es)
+  module _ (t : Told) (n : Note) (b : Bool) (es : says ≡ t .says) (en : n ≡ noteOf says) (eb : b ≡ changesNoState (n .number)) where
+    changed : b ≡ changesNoState (noteOf (t .says) .number)
+    changed = eb ∙ ap (λ (m : Note). changesNoState (m .number)) (en ∙ ap noteOf es)
+
+    module _ (ea : a′ ≡ shown says (t .progress) (t .id) (t .found) (t .rest) ++ drop Answer.size a) where
+      pub told-kept : b ≡ true → record { code = r; state = s; answer = a′ } ≡ leaves t s a
+      unfolding leaves
+      told-kept h = rw (e, ea, es, sym changed ∙ h)
+
+      pub told-saved : b ≡ false → s′ ≡ saved (t .client) ++ drop State.size s → record { code = r; state = s′; answer = a′ } ≡ leaves t s a
+      unfolding leaves
+      told-saved h e₁ = rw (e, e₁, ea, es, sym changed ∙ h)
 
   pub shows-is : (x : Id) (t : Table) → t ≡ noTable → a′ ≡ shown says None x t 0 ++ drop Answer.size a → record { code = r; bytes = a′ } ≡ shows says x a
   unfolding shows

@@ -21,6 +21,7 @@ use Rattle.client.specs.declared.Started.{Started}
 use Rattle.client.specs.declared.Told.{Told}
 use Rattle.client.specs.declared.Attached.{Attached}
 use Rattle.client.specs.Clients.{attached}
+use Rattle.client.specs.Numbers.{changesNoState}
 use Rattle.asking.specs.Asking.{Asking, request}
 use Rattle.notes.specs.Notes.{noteOf}
 use Rattle.codes.specs.Codes.{coded, Coded}
@@ -56,11 +57,11 @@ pub record Requested : Type 0 where
 unfoldable pub toldBy : Started → Told
 toldBy s = record { says = s .says; client = s .client; rest = 0; progress = None; id = noId; found = noTable }
 
--- What a call leaves: the client saved, and its answer written.
+-- What a call leaves: its answer written, and the client saved; after a refusal that changes no state, that state, byte for byte.
 unfoldable pub leaves : Told → List ℕ → List ℕ → Exported
 leaves t s a = record {
   code = codeOf (t .says);
-  state = saved (t .client) ++ drop State.size s;
+  state = cond (changesNoState (noteOf (t .says) .number)) s (saved (t .client) ++ drop State.size s);
   answer = shown (t .says) (t .progress) (t .id) (t .found) (t .rest) ++ drop Answer.size a;
 }
 

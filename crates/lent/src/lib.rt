@@ -38,7 +38,7 @@ pub fn lacks(state: usize, answer: usize) -> u64
     0
 }
 
-// The client saved and the answer written.
+// The answer written and the client saved; after a refusal that changes no state, the state is not touched.
 pub fn told(t: Told, state: &mut [u8], answer: &mut [u8]) -> u64
     requires { ⌜ State.size ≤ length (now state) ⌝ }
     requires { ⌜ Answer.size ≤ length (now answer) ⌝ }
@@ -49,9 +49,13 @@ pub fn told(t: Told, state: &mut [u8], answer: &mut [u8]) -> u64
     let progress = t.progress;
     let id = t.id;
     let found = t.found;
-    state::save(client, state);
     answers::write_answer(says, progress, id, found, t.rest, answer);
-    code_of(says)
+    let code = code_of(says);
+    if client::changes_no_state(notes::note_of(says).number) {
+        return code;
+    }
+    state::save(client, state);
+    code
 }
 
 // The same of an answer that has nothing beside it.

@@ -10,10 +10,10 @@ use lib.Dec.{leb, ltb}
 use lib.ListN.{length, drop}
 use Rattle.lore.proofs.Choice.{either}
 use Rattle.paper.specs.Client as Paper
-use Rattle.paper.specs.Client.{Says, handing, short, otherLength, bytesOf, seedAfter, reading, place, cleared}
+use Rattle.paper.specs.Client.{Says, short, otherLength, bytesOf, handing, seedAfter, reading, place, cleared}
 use Rattle.paper.specs.Count.{All}
 use Rattle.paper.specs.Hearing.{Id, bitsOf, onSome}
-use Rattle.paper.specs.Talk.{Answer}
+use Rattle.paper.specs.Talk.{Ask, select, demand, leave, Answer}
 use Rattle.lore.proofs.Words.{Bytes}
 use Rattle.theory.specs.Phases as Phases
 use Rattle.theory.specs.Phases.{probing, parting, seeking, walking, tell, clear, load, informing, Phase, selecting, demanding, leaving, Then, to, ends, refuses, step, starting}
@@ -24,15 +24,17 @@ use Rattle.theory.proofs.Carried.{heard-bytes}
 use Rattle.theory.proofs.Holding.{Holds, fresh-holds, startSelect-holds, startDeselect-holds, startAttach-holds, startDiscover-holds, startInfo-holds, startErase-holds, startFlash-holds, startReset-holds, startSetBaud-holds, request-holds, record-holds, linkFailed-holds}
 use Rattle.theory.proofs.Talking.{paperOf, fresh-sim, startSelect-sim, startDeselect-sim, startAttach-sim, startDiscover-sim, startInfo-sim, startErase-sim, startFlash-sim, startReset-sim, startSetBaud-sim, request-sim, record-sim, linkFailed-sim}
 use Rattle.ids.specs.Ids.{noId}
+use Rattle.table.specs.Rows.{noTable}
 use Rattle.ids.proofs.Laws.{id-of-from}
 use Rattle.walk.specs.Moves.{noWalk}
 use Rattle.client.specs.declared.Client.{Client}
+use Rattle.client.specs.declared.Progress.the-variants.{None}
 use Rattle.client.specs.declared.Turn.the-variants.{Idle}
 use Rattle.client.specs.Clients as Code₂
 use Rattle.asking.specs.Asking as Code₃
 use Rattle.telling.specs.Telling as Code₄
 use Rattle.client.specs.Numbers.{numberOf, carriedBy, progressOf, saysOf}
-use Rattle.records.specs.Clients.{clientOf, refusedAs, startedAs, toldAs, askedAs}
+use Rattle.records.specs.Clients.{clientOf, refusedAs, shownSays, startedAs, toldAs, askedAs}
 use Rattle.records.specs.Calls.{Call, startSelect, startDeselect, startAttach, startDiscover, startInfo, startErase, startFlash, startReset, startSetBaud, request, record′, linkFailed, Good, Reply, saidBy, askedOf, paperCall, startedBy, askedBy, toldBy, codeCall, attachedTo, paperAnswer, codeAnswer, paperAnswers, codeAnswers, reached, Rests}
 use Rattle.records.proofs.Readable.{Readable, ReadableThen, io-read, image-read, turn-read, onward-read, phase-read}
 use Rattle.records.proofs.Requests.{request-asked}
@@ -93,13 +95,11 @@ started-read c good ph = go (c .turn) good
     go (waiting p) b = refl
 
 -- A request's answer, read.
-handed-read : (ph : Phase) (n : ℕ) (next : Machine.Client) (buffer : List ℕ)
-    → _≡_ {A = Reply × Client} (askedBy (askedAs (record { says = handing (Phases.request ph) n; client = next; buffer = buffer })))
-    (inCode (handedBy (record { says = handing (Phases.request ph) n; client = next; buffer = buffer })))
+handing-read : (q : Ask) (n : ℕ) → saysOf (shownSays (handing q n) .says) None noId noTable ≡ handing q n
 unfolding saysOf
-handed-read (selecting s) n next buffer = refl
-handed-read (demanding j) n next buffer = refl
-handed-read (leaving bootloader baud) n next buffer = refl
+handing-read (select p) n = refl
+handing-read (demand d) n = refl
+handing-read (leave d) n = refl
 
 asked-read : (c : Machine.Client) (image buffer : List ℕ) → askedBy (askedAs (Machine.request c image buffer)) ≡ inCode (handedBy (Machine.request c image buffer))
 unfolding Machine.request grant refusedAs saysOf numberOf carriedBy
@@ -110,7 +110,9 @@ asked-read c image buffer = go (c .turn)
 
     go : (t : Turn) → Read (Machine.request (turned c t) image buffer)
     go idle = refl
-    go (ready ph) = either Read (otherLength (lends ph) image) refl (either Read (ltb (length buffer) (length bytes)) refl (handed-read ph (length bytes) (record { seed = seedAfter (Phases.request ph) (c .seed); id = c .id; turn = handedOut ph }) (bytes ++ drop (length bytes) buffer)))
+    go (ready ph) = either Read (otherLength (lends ph) image) refl (either Read (ltb (length buffer) (length bytes)) refl
+        (ap (λ (s : Says). (record { says = s; rest = 0; buffer = bytes ++ drop (length bytes) buffer }, clientOf (record { seed = seedAfter (Phases.request ph) (c .seed); id = c .id; turn = handedOut ph })))
+        (handing-read (Phases.request ph) (length bytes))))
       where
         bytes : List ℕ
         bytes = bytesOf (Phases.request ph) (seedAfter (Phases.request ph) (c .seed)) image

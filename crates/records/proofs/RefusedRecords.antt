@@ -278,7 +278,10 @@ module _ (c : Client) (image bytes : List ℕ) where
 
   -- A record that is read is refused with nothing that changes no state: 20 and 21 are given where they are due alone.
   pub told-due : (p : Phase) → c .turn ≡ Waiting p → otherImage p (length image) ≡ false → (r : Refusal) → record′ c image bytes .says ≡ Refused r → keeps r ≡ false
-  told-due p e h r f = answered-tells p .ends r (ap (λ (t : Told). t .says) (sym (told-waiting p e ∙ rw h)) ∙ f)
+  told-due p e h r f = answered-tells p .ends r (ap (λ (t : Told). t .says) (sym reads) ∙ f)
+    where
+      reads : record′ c image bytes ≡ answeredTo c p image bytes
+      reads = told-waiting p e ∙ ap (λ (b : Bool). cond b (refuses c OtherImage) (answeredTo c p image bytes)) h
 
 -- A failed link.
 module _ (c : Client) where

@@ -21,7 +21,7 @@ use Rattle.lore.proofs.Frames.{frame-length}
 use Rattle.theory.specs.Machine as Walk
 use Rattle.theory.specs.Machine.{State, asked, mine, other, leaving, Next, going, ended, drive}
 use Rattle.theory.specs.Phases as Phases
-use Rattle.theory.specs.Phases.{walking, Phase, selecting, selected, Then, walked, hears, step}
+use Rattle.theory.specs.Phases.{Search, walking, selecting, selected, Then, walked, hears, step}
 use Rattle.theory.specs.Clients as Machine
 use Rattle.theory.specs.Clients.{Brief, Turn, idle, ready, waiting, settle, handedOut, grant}
 use Rattle.theory.proofs.Ending.{Undone, Staying, step-undone}
@@ -103,22 +103,22 @@ id-after s f id h = go (s .phase) f
     go leaving f = clears id
 
 module _ (buffer : List ℕ) (room : 31 ≤ length buffer) (wire : Wire) (b : ℕ) (id : Option Paper.Id) (brief : Brief id) where
-  -- A request that is granted, and its bytes.
-  module _ (seed : ℕ) (ph : Phase) (bytes : List ℕ) (small : length bytes ≤ 31) (next : ℕ) where
+  -- A Select that is granted, and its bytes.
+  module _ (seed : ℕ) (q : Search) (bytes : List ℕ) (small : length bytes ≤ 31) (next : ℕ) where
     abbrev asking : Machine.Client
-    asking = record { seed = seed; id = id; turn = ready ph }
+    asking = record { seed = seed; id = id; turn = ready (selecting q) }
 
     abbrev out : Machine.Client
-    out = record { seed = next; id = id; turn = handedOut ph }
+    out = record { seed = next; id = id; turn = handedOut (selecting q) }
 
-    grants : grant asking bytes next ph buffer ≡ record { says = granted (length bytes); client = out; buffer = bytes ++ drop (length bytes) buffer }
+    grants : grant asking bytes next (selecting q) buffer ≡ record { says = granted (length bytes); client = out; buffer = bytes ++ drop (length bytes) buffer }
     unfolding grant
     grants = rw (le-ltb (length buffer) (length bytes) (omega arith))
 
-    granted-client : askedAs (grant asking bytes next ph buffer) .answer .client ≡ clientOf out
+    granted-client : askedAs (grant asking bytes next (selecting q) buffer) .answer .client ≡ clientOf out
     granted-client = ap (λ (a : Machine.Asked). askedAs a .answer .client) grants
 
-    granted-bytes : sent (askedAs (grant asking bytes next ph buffer)) ≡ bytes
+    granted-bytes : sent (askedAs (grant asking bytes next (selecting q) buffer)) ≡ bytes
     unfolding sent
     granted-bytes = ap (λ (a : Machine.Asked). sent (askedAs a)) grants ∙ take-append-seam bytes (drop (length bytes) buffer)
 
@@ -150,7 +150,7 @@ module _ (buffer : List ℕ) (room : 31 ≤ length buffer) (wire : Wire) (b : �
     rounds =
         ap (λ (a : Asking). record′ (a .answer .client) [] (wire k (sent a))) asks
         ∙ ap₂ (λ (c : Client) (l : List ℕ). record′ c [] (wire k l))
-        (granted-client ((b + k) % 256) (selecting (walking s)) bytes small (nextSeed ((b + k) % 256))) (granted-bytes ((b + k) % 256) (selecting (walking s)) bytes small (nextSeed ((b + k) % 256)))
+        (granted-client ((b + k) % 256) (walking s) bytes small (nextSeed ((b + k) % 256))) (granted-bytes ((b + k) % 256) (walking s) bytes small (nextSeed ((b + k) % 256)))
         ∙ record-told (record { seed = nextSeed ((b + k) % 256); id = id; turn = waiting (selecting (walking s)) }) (record { seed = omega arith; id = brief; turn = f }) [] (wire k bytes)
         ∙ ap₂ (λ (n : ℕ) (x : Option Paper.Id). toldAs (settle (record { seed = n; id = x; turn = waiting (selecting (walking s)) }) none (walked (Walk.step s heard)) (length (wire k bytes))))
         (next-seed b k) (id-after s f id heard)

@@ -19,11 +19,11 @@ use Rattle.client.specs.declared.Says.the-variants.{Onward}
 use Rattle.client.specs.declared.Started.{Started}
 use Rattle.client.specs.declared.Turn.the-variants.{Ready}
 use Rattle.client.specs.Clients.{begun, idle, cleared, running, refuse}
-use Rattle.client.specs.Numbers.{numberOf}
+use Rattle.client.specs.Numbers.{numberOf, changesNoState}
 
--- "13, 16, 20, 21, 22 change no state." 22 is the text's alone.
+-- A refusal that changes no state.
 unfoldable pub keeps : Refusal → Bool
-keeps r = eqb (numberOf r) 13 || (eqb (numberOf r) 16 || (eqb (numberOf r) 20 || eqb (numberOf r) 21))
+keeps r = changesNoState (numberOf r)
 
 -- "deselect, then 10 with a prefix, 8 without."
 unfoldable pub parts : Refusal → Bool
