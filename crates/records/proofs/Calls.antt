@@ -16,7 +16,7 @@ use Rattle.paper.specs.Hearing.{Id, bitsOf, onSome}
 use Rattle.paper.specs.Talk.{Ask, select, demand, leave, Answer}
 use Rattle.lore.proofs.Words.{Bytes}
 use Rattle.theory.specs.Phases as Phases
-use Rattle.theory.specs.Phases.{probing, parting, seeking, walking, tell, clear, load, informing, Phase, selecting, demanding, leaving, Then, to, ends, refuses, step, starting}
+use Rattle.theory.specs.Phases.{probing, parting, seeking, walking, tell, clear, load, informing, Phase, selecting, demanding, Then, to, ends, refuses, step, starting}
 use Rattle.theory.specs.Clients as Machine
 use Rattle.theory.specs.Clients.{Brief, Turn, idle, ready, waiting, turned, lends, settle, unchanged, fails, resets, handedOut, grant}
 use Rattle.theory.proofs.Keeping.{FitsTurn, Fits, turn-sound, fresh-fits, startSelect-fits, startDeselect-fits, startAttach-fits, startDiscover-fits, startInfo-fits, startErase-fits, startFlash-fits, startReset-fits, startSetBaud-fits, request-fits, record-fits, linkFailed-fits}
@@ -48,7 +48,7 @@ settledBy t = (record { says = t .says; rest = t .rest; buffer = [] }, t .client
 abbrev pub handedBy : Machine.Asked → Reply × Machine.Client
 handedBy a = (record { says = a .says; rest = 0; buffer = a .buffer }, a .client)
 
-unfoldable pub machineCall : Machine.Client → Call → Reply × Machine.Client
+machineCall : Machine.Client → Call → Reply × Machine.Client
 machineCall c (startSelect bytes bits) = settledBy (Machine.startSelect c bytes bits)
 machineCall c startDeselect = settledBy (Machine.startDeselect c)
 machineCall c (startAttach uid) = settledBy (Machine.startAttach c uid)
@@ -68,7 +68,7 @@ inPaper r = (r .0, paperOf (r .1))
 abbrev pub inCode : Reply × Machine.Client → Reply × Client
 inCode r = (r .0, clientOf (r .1))
 
-pub paper-call : (c : Machine.Client) → Fits c → (call : Call) → paperCall (paperOf c) call ≡ inPaper (machineCall c call)
+paper-call : (c : Machine.Client) → Fits c → (call : Call) → paperCall (paperOf c) call ≡ inPaper (machineCall c call)
 unfolding paperCall machineCall
 paper-call c f (startSelect bytes bits) = ap saidBy (startSelect-sim c bytes bits)
 paper-call c f startDeselect = ap saidBy (startDeselect-sim c)
@@ -163,7 +163,7 @@ record-call c f image bytes = ap toldBy (record-told c f image bytes) ∙ said (
 pub failed-call : (c : Machine.Client) → toldBy (Code₄.linkFailed (clientOf c)) ≡ inCode (settledBy (Machine.linkFailed c))
 failed-call c = ap toldBy (failed-told c) ∙ said (Machine.linkFailed c) (failed-read c)
 
-pub code-call : (c : Machine.Client) → Fits c → (call : Call) → Good call → codeCall (clientOf c) call ≡ inCode (machineCall c call)
+code-call : (c : Machine.Client) → Fits c → (call : Call) → Good call → codeCall (clientOf c) call ≡ inCode (machineCall c call)
 unfolding codeCall machineCall Machine.startSelect Machine.startDeselect Machine.startAttach Machine.startDiscover Machine.startInfo Machine.startErase Machine.startFlash Machine.startReset Machine.startSetBaud
 code-call c f (startSelect bytes bits) g = ap startedBy (select-started c bytes bits) ∙ started-read c (short bytes && (leb bits 128 && leb bits (8 * length bytes))) (selecting (probing bytes bits))
 code-call c f startDeselect g = ap startedBy (deselect-started c) ∙ started-read c true (selecting parting)
@@ -179,7 +179,7 @@ code-call c f (request image buffer) g = request-call c f image buffer
 code-call c f (record′ image bytes) g = record-call c f image bytes
 code-call c f linkFailed g = failed-call c
 
-pub call-fits : (c : Machine.Client) → Fits c → (call : Call) → Fits ((machineCall c call) .1)
+call-fits : (c : Machine.Client) → Fits c → (call : Call) → Fits ((machineCall c call) .1)
 unfolding machineCall
 call-fits c f (startSelect bytes bits) = startSelect-fits c f bytes bits
 call-fits c f startDeselect = startDeselect-fits c f

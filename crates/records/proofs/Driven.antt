@@ -1,21 +1,19 @@
 -- The code's client, driven over any events, is document 01's: it says the same, hands out the same bytes, and stands where the conversation does.
 -- Assumes nothing.
-use Prim.Native.Nat.{ℕ, _≤_, _<_}
+use Prim.Native.Nat.{ℕ}
 use mathlib.Core.Bool.{Bool, true, false, cond}
-use mathlib.Core.List.{List, [], _∷_, _++_}
+use mathlib.Core.List.{List, [], _∷_}
 use mathlib.Core.Option.{Option, none, some}
 use mathlib.Core.Path.{_≡_, refl, sym, _∙_, ap, ap₂, subst}
 use native.Mathlib.Omega.{arith}
-use lib.ListN.{length, drop}
 use Rattle.paper.specs.Client as Paper
-use Rattle.paper.specs.Client.{onLeft, bytesOf, seedAfter}
-use Rattle.paper.specs.Count.{All}
+use Rattle.paper.specs.Client.{onLeft}
 use Rattle.paper.specs.Hearing.{Id}
-use Rattle.paper.specs.Talk.{Ask, Answer, Talk, Outcome}
+use Rattle.paper.specs.Talk.{Ask, Outcome}
 use Rattle.theory.specs.Clients as Machine
-use Rattle.theory.specs.Clients.{Brief, Turn, idle, ready, waiting, turned}
+use Rattle.theory.specs.Clients.{Turn, idle, ready, waiting, turned}
 use Rattle.theory.specs.Driven as Theory
-use Rattle.theory.specs.Driven.{Round, Sent, goesOn, onAsked, OfLength, Lends, sizeOf, seedAt, idAt, Brought, Ready}
+use Rattle.theory.specs.Driven.{Round, Sent, goesOn, onAsked, seedAt, idAt, Brought, Ready}
 use Rattle.theory.specs.FlashOrder.{Past, Event, heard, failed, Stand, returned, refused, lost, pending}
 use Rattle.theory.proofs.Driven as Theory₂
 use Rattle.theory.proofs.Keeping.{turn-sound, Fits, request-fits, record-fits, linkFailed-fits}
@@ -35,12 +33,11 @@ use Rattle.client.specs.declared.Told.{Told}
 use Rattle.client.specs.Numbers.{endOf, saysOf}
 use Rattle.asking.specs.Asking.{request}
 use Rattle.telling.specs.Telling.{record′, linkFailed}
-use Rattle.records.specs.Calls as Calls
-use Rattle.records.specs.Calls.{Call, Reply, Good, saidBy, askedOf, paperCall, startedBy, askedBy, toldBy, codeCall, attachedTo}
+use Rattle.records.specs.Calls.{Reply, saidBy, askedOf, startedBy, askedBy, toldBy, attachedTo}
 use Rattle.records.specs.Clients.{clientOf}
-use Rattle.records.specs.Driven.{tells, asking, telling, driven, sends, read, Grants, Asks, Leaves, StandsAs}
+use Rattle.records.specs.Driven.{tells, asking, telling, driven, sends, answerOf, Asks, Leaves, StandsAs}
 use Rattle.records.specs.Served.{onSays, isOnward, opening, resting}
-use Rattle.records.proofs.Calls.{settledBy, handedBy, machineCall, inPaper, inCode, paper-call, request-call, record-call, failed-call, code-call, call-fits, attached-back, seed-of}
+use Rattle.records.proofs.Calls.{settledBy, handedBy, inPaper, inCode, request-call, record-call, failed-call, attached-back, seed-of}
 
 -- One machine stands behind the code's client and document 01's.
 pub record Alike (code : Client) (paper : Paper.Client) : Type 0 where
@@ -61,7 +58,7 @@ from-machine r f code paper c p = record {
 }
 
 pub record Same (code : Told) (paper : Paper.Told) : Type 0 where
-  pub says : read code ≡ paper .says
+  pub says : answerOf code ≡ paper .says
   pub rest : code .rest ≡ paper .rest
   pub clients : Alike (code .client) (paper .client)
 

@@ -1,10 +1,10 @@
 -- Each operation, started on a client with none and driven over any rounds: it stands where document 01's conversation does.
 -- Assumes nothing.
 use Prim.Native.Nat.{ℕ, _*_, _≤_, _<_}
-use mathlib.Core.Bool.{Bool, true, false, _&&_}
-use mathlib.Core.List.{List, []}
+use mathlib.Core.Bool.{Bool, true, _&&_}
+use mathlib.Core.List.{List}
 use mathlib.Core.Option.{Option, none, some}
-use mathlib.Core.Path.{_≡_, refl, sym, _∙_, ap, subst}
+use mathlib.Core.Path.{_≡_, _∙_, ap, subst}
 use native.Mathlib.Omega.{arith}
 use lib.Dec.{leb}
 use lib.ListN.{length, take, length-take}
@@ -21,7 +21,7 @@ use Rattle.lore.proofs.Words.{Bytes}
 use Rattle.theory.specs.Clients as Machine
 use Rattle.theory.specs.Clients.{Brief, idle, resets}
 use Rattle.theory.specs.Driven as Theory
-use Rattle.theory.specs.Driven.{Round, events, Lends}
+use Rattle.theory.specs.Driven.{Round, Lends}
 use Rattle.theory.specs.Handed.{FlashOrder}
 use Rattle.theory.specs.Phases.{probing, parting, seeking, walking, tell, clear, load, informing, Phase, selecting, demanding, starting}
 use Rattle.theory.proofs.Driven.{any-lent, driven-stands}
@@ -33,7 +33,7 @@ use Rattle.client.specs.declared.Started.{Started}
 use Rattle.starting.specs.Starting as Code
 use Rattle.records.specs.Calls.{saidBy, startedBy}
 use Rattle.records.specs.Clients.{startedAs}
-use Rattle.records.specs.Driven.{driven, sends, read, Plays}
+use Rattle.records.specs.Driven.{driven, sends, answerOf, Plays}
 use Rattle.records.specs.Served.{opening, resting}
 use Rattle.records.proofs.Calls.{settledBy, started-read}
 use Rattle.records.proofs.Driven.{Same, from-machine, started-same, drives, same-stands}
@@ -112,7 +112,7 @@ module _ (buffer : List ℕ) (big : room ≤ length buffer) (seed : ℕ) (byte :
 
     -- What a flash hands out is in order.
     pub flash-handed : All (λ r. Bytes (r .lent)) rounds
-        → FlashOrder (length image) (sends buffer rounds (opening (Code.startFlash (resting seed id) image))) (read (driven buffer rounds (opening (Code.startFlash (resting seed id) image))))
+        → FlashOrder (length image) (sends buffer rounds (opening (Code.startFlash (resting seed id) image))) (answerOf (driven buffer rounds (opening (Code.startFlash (resting seed id) image))))
     flash-handed bytes =
         let d = drives buffer rounds (opening (Code.startFlash (resting seed id) image)) _ flash-same in
         rw (d .sent, d .last .says) (flash-order buffer big (length image) seed id rounds lent bytes)

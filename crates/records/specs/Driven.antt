@@ -54,12 +54,12 @@ sends buffer (r ∷ rs) t =
     []
 
 -- What an answer says, read as document 01's.
-abbrev pub read : Told → Paper.Says
-read t = saysOf (t .says) (t .progress) (t .id) (t .found)
+abbrev pub answerOf : Told → Paper.Says
+answerOf t = saysOf (t .says) (t .progress) (t .id) (t .found)
 
 -- A request asked for is handed out: its bytes come first, and every later byte of the buffer is kept.
 pub record Grants (c : Client) (image buffer : List ℕ) (q : Ask) (bytes : List ℕ) : Type 0 where
-  pub says : read (opening (request c image buffer .answer)) ≡ handing q (length bytes)
+  pub says : answerOf (opening (request c image buffer .answer)) ≡ handing q (length bytes)
   pub after : request c image buffer .bytes ≡ bytes ++ drop (length bytes) buffer
 
 -- A client of a seed and an attached id or none, with this request next.
@@ -76,7 +76,7 @@ Leaves n seed id (pending q) c = Asks n seed id q c
 
 -- A client that began with a seed and an attached id or none stands where its conversation does; images of length n are lent.
 pub record StandsAs (n : Option ℕ) (seed : ℕ) (id : Option Id) (r : Past × Stand Outcome) (b : Brought) (t : Told) : Type 0 where
-  pub says : read t ≡ saidAt r b
+  pub says : answerOf t ≡ saidAt r b
   pub rest : t .rest ≡ b .rest
   pub client : Leaves n (seedAt seed r) (idAt id r) (r .1) (t .client)
 
