@@ -1,18 +1,23 @@
 -- The customer's condition 2, the part that is proved: frames, checks, hearing, walk and flash order against the written definitions.
 -- Assumes nothing.
-use Prim.Native.Nat.{ℕ, _<_, _≤_}
+use Prim.Native.Nat.{ℕ, _*_, _<_, _≤_}
 use mathlib.Core.Bool.{Bool, true, false}
-use mathlib.Core.List.{List, [], _∷_, _++_, map}
+use mathlib.Core.List.{List, [], _∷_, _++_}
 use mathlib.Core.Option.{Option, none, some}
 use mathlib.Core.Path.{_≡_, refl}
-use lib.ListN.{length, drop}
+use lib.ListN.{length, take, drop}
 use Rattle.paper.specs.Answers.{Reply, ok, answered, answerFrom, answer}
+use Rattle.paper.specs.Attach as Attach
 use Rattle.paper.specs.Count.{All}
+use Rattle.paper.specs.Flash as Flash
 use Rattle.paper.specs.Flash.{informOnly, erase, flash, reset}
 use Rattle.paper.specs.Frame.{number, crcBit, crcByte, crcFrom, check, Frame, whole, frameBytes, skipped, rightCheck, readSized, readSynced, read}
-use Rattle.paper.specs.Hearing.{Id}
+use Rattle.paper.specs.Hearing.{Id, bitsOf}
+use Rattle.lore.proofs.Words.{Bytes}
 use Rattle.theory.specs.Clients.{Brief}
+use Rattle.theory.specs.Driven.{Round, Lends}
 use Rattle.theory.specs.FlashOrder.{Event, play, everything, told, writesAt, Kept, Stands, Allowed, Flashed, Fronts, Bounded, most, erasesMost, flashMost}
+use Rattle.theory.specs.Handed.{FlashOrder}
 use Rattle.theory.proofs.FlashBound as Bound
 use Rattle.theory.proofs.FlashBytes as Carries
 use Rattle.theory.proofs.FlashBytes.{CarriesIn}
@@ -25,43 +30,58 @@ use Rattle.client.specs.declared.Job.the-variants.{Resetting}
 use Rattle.client.specs.declared.Phase.the-variants.{Demand}
 use Rattle.client.specs.declared.Turn.the-variants.{Waiting}
 use Rattle.client.specs.Clients.{turned, fresh}
-use Rattle.starting.specs.Starting.{startInfo, startErase, startFlash, startReset, startSetBaud}
+use Rattle.starting.specs.Starting.{startSelect, startDeselect, startAttach, startAttachTo, startDiscover, startInfo, startErase, startFlash, startReset, startSetBaud}
 use Rattle.telling.specs.Telling.{record′}
-use Rattle.records.specs.Driven.{Round, driven, Lends, StandsAs}
+use Rattle.records.specs.Driven.{driven, sends, answerOf, Plays}
 use Rattle.records.specs.Served.{opening, resting}
-use Rattle.records.proofs.Driven as Driven
 use Rattle.records.proofs.EitherWay as EitherWay
+use Rattle.records.proofs.Operations as Operations
 
 -- Frames: what is written is read whole, whatever follows.
 pub frame-read : (f : Frame) → Fits f → (more : List ℕ) → read (frameBytes f ++ more) ≡ whole 0 f
 frame-read f fits more = Frames.read-written f fits more
 
--- The driven client stands where document 01's conversation stands, over any records and failed links: the same request is next, with the
--- same bytes; or it has ended with the same outcome or refusal. A buffer that holds every request; any seed; an attached id or none.
+-- Each operation, started on a client with none and driven over any records and failed links, stands where document 01's conversation stands:
+-- what it says, with the progress made, where the unread rest begins, the seed and the attached id, and the request that is next, byte for byte.
+-- All that it hands out on the way is what document 01's client does. A buffer that holds every request; any seed; an attached id or none.
 module _ (buffer : List ℕ) (room : 1036 ≤ length buffer) (seed : ℕ) (byte : seed < 256) (id : Option Id) (brief : Brief id) (rounds : List Round) where
-  abbrev events : List Event
-  events = map (λ r. r .event) rounds
+  pub record Drives : Type 0 where
+    pub select : (prefix : List ℕ) (bits : ℕ) → length prefix ≤ 16 → bits ≤ 8 * length prefix
+        → Plays none seed id (Attach.selectOnly (take bits (bitsOf prefix))) buffer rounds (startSelect (resting seed id) prefix bits)
+    pub deselect : Plays none seed id Attach.deselect buffer rounds (startDeselect (resting seed id))
+    pub attach : Plays none seed id (Attach.attach none) buffer rounds (startAttach (resting seed id))
+    pub attach-to : (prefix : List ℕ) → length prefix ≤ 16 → Plays none seed id (Attach.attach (some prefix)) buffer rounds (startAttachTo (resting seed id) prefix)
+    pub discover : (prefix : List ℕ) → length prefix ≤ 16 → Bytes prefix → Plays none seed id (Attach.discover prefix) buffer rounds (startDiscover (resting seed id) prefix)
+    pub info : Plays none seed id Flash.informOnly buffer rounds (startInfo (resting seed id))
+    pub erase : Plays none seed id Flash.erase buffer rounds (startErase (resting seed id))
+    pub flash : (image : List ℕ) → All (Lends (some (length image))) rounds
+        → Plays (some (length image)) seed id (Flash.flash (length image)) buffer rounds (startFlash (resting seed id) image)
+    pub reset : (bootloader inBoot : Bool) → Plays none seed id (Flash.reset bootloader none inBoot) buffer rounds (startReset (resting seed id) bootloader inBoot)
+    pub set-baud : (baud : ℕ) (bootloader inBoot : Bool)
+        → Plays none seed id (Flash.reset bootloader (some baud) inBoot) buffer rounds (startSetBaud (resting seed id) baud bootloader inBoot)
 
-  pub info-driven : StandsAs none seed id (driven buffer rounds (opening (startInfo (resting seed id)))) ((play informOnly events []) .1)
-  info-driven = Driven.info-driven buffer room seed byte id brief rounds
+  pub drives : Drives
+  drives = record {
+    select = Operations.select-driven buffer room seed byte id brief rounds;
+    deselect = Operations.deselect-driven buffer room seed byte id brief rounds;
+    attach = Operations.attach-driven buffer room seed byte id brief rounds;
+    attach-to = Operations.attach-to-driven buffer room seed byte id brief rounds;
+    discover = Operations.discover-driven buffer room seed byte id brief rounds;
+    info = Operations.info-driven buffer room seed byte id brief rounds;
+    erase = Operations.erase-driven buffer room seed byte id brief rounds;
+    flash = Operations.flash-driven buffer room seed byte id brief rounds;
+    reset = Operations.reset-driven buffer room seed byte id brief rounds;
+    set-baud = Operations.set-baud-driven buffer room seed byte id brief rounds;
+  }
 
-  pub erase-driven : StandsAs none seed id (driven buffer rounds (opening (startErase (resting seed id)))) ((play erase events []) .1)
-  erase-driven = Driven.erase-driven buffer room seed byte id brief rounds
+  -- "Over any replies: no Erase before Info and image pass, no Write before the last Erase is answered, each Write's address is the total length
+  -- of Writes answered Ok so far, and on success that total is the padded length": read off the bytes handed out, and what happened after each.
+  pub flash-handed : (image : List ℕ) → All (Lends (some (length image))) rounds → All (λ r. Bytes (r .lent)) rounds
+      → FlashOrder (length image) (sends buffer rounds (opening (startFlash (resting seed id) image))) (answerOf (driven buffer rounds (opening (startFlash (resting seed id) image))))
+  flash-handed = Operations.flash-handed buffer room seed byte id brief rounds
 
-  pub flash-driven : (image : List ℕ) → All (Lends (some (length image))) rounds
-      → StandsAs (some (length image)) seed id (driven buffer rounds (opening (startFlash (resting seed id) image))) ((play (flash (length image)) events []) .1)
-  flash-driven = Driven.flash-driven buffer room seed byte id brief rounds
-
-  pub reset-driven : (bootloader : Bool)
-      → StandsAs none seed id (driven buffer rounds (opening (startReset (resting seed id) bootloader true))) ((play (reset bootloader none true) events []) .1)
-  reset-driven = Driven.reset-driven buffer room seed byte id brief rounds
-
-  pub baud-driven : (baud : ℕ) (bootloader : Bool)
-      → StandsAs none seed id (driven buffer rounds (opening (startSetBaud (resting seed id) baud bootloader true))) ((play (reset bootloader (some baud) true) events []) .1)
-  baud-driven = Driven.baud-driven buffer room seed byte id brief rounds
-
--- Over any replies: no Erase before Info and image pass; no Write before the last Erase is answered; each Write's address is the total length
--- of the Writes answered Ok so far; on success that total is the padded length, and the device's check was that of the image lent.
+-- The same of the conversation: what it has asked and been answered, over any replies; and on success the device's check was that of the image
+-- lent with it.
 pub flash-in-order : (n : ℕ) (es : List Event) → Kept (Allowed n) (play (flash n) es [] .0) × Stands (Allowed n) (Flashed n) (play (flash n) es [] .0) (play (flash n) es [] .1)
 flash-in-order = Order.flash-in-order
 

@@ -31,6 +31,8 @@ use Rattle.client.specs.declared.Client.{Client}
 use Rattle.client.specs.declared.Progress.the-variants.{None}
 use Rattle.client.specs.declared.Turn.the-variants.{Idle}
 use Rattle.client.specs.Clients as Code₂
+use Rattle.asking.specs.Asking as Code₃
+use Rattle.telling.specs.Telling as Code₄
 use Rattle.client.specs.Numbers.{numberOf, carriedBy, progressOf, saysOf}
 use Rattle.records.specs.Clients.{clientOf, refusedAs, shownSays, startedAs, toldAs, askedAs}
 use Rattle.records.specs.Calls.{Call, startSelect, startDeselect, startAttach, startDiscover, startInfo, startErase, startFlash, startReset, startSetBaud, request, record′, linkFailed, Good, Reply, saidBy, askedOf, paperCall, startedBy, askedBy, toldBy, codeCall, attachedTo, paperAnswer, codeAnswer, paperAnswers, codeAnswers, reached, Rests}
@@ -40,10 +42,10 @@ use Rattle.records.proofs.Starts.{select-started, deselect-started, att
 use Rattle.records.proofs.Tells.{record-told, failed-told}
 
 -- The machine's answer to a call, and its client after it.
-abbrev settledBy : Machine.Told → Reply × Machine.Client
+abbrev pub settledBy : Machine.Told → Reply × Machine.Client
 settledBy t = (record { says = t .says; rest = t .rest; buffer = [] }, t .client)
 
-abbrev handedBy : Machine.Asked → Reply × Machine.Client
+abbrev pub handedBy : Machine.Asked → Reply × Machine.Client
 handedBy a = (record { says = a .says; rest = 0; buffer = a .buffer }, a .client)
 
 machineCall : Machine.Client → Call → Reply × Machine.Client
@@ -60,10 +62,10 @@ machineCall c (request image buffer) = handedBy (Machine.request c image buffer)
 machineCall c (record′ image bytes) = settledBy (Machine.record′ c image bytes)
 machineCall c linkFailed = settledBy (Machine.linkFailed c)
 
-abbrev inPaper : Reply × Machine.Client → Reply × Paper.Client
+abbrev pub inPaper : Reply × Machine.Client → Reply × Paper.Client
 inPaper r = (r .0, paperOf (r .1))
 
-abbrev inCode : Reply × Machine.Client → Reply × Client
+abbrev pub inCode : Reply × Machine.Client → Reply × Client
 inCode r = (r .0, clientOf (r .1))
 
 paper-call : (c : Machine.Client) → Fits c → (call : Call) → paperCall (paperOf c) call ≡ inPaper (machineCall c call)
@@ -82,7 +84,7 @@ paper-call c f (record′ image bytes) = ap saidBy (record-sim c (turn-sound (c 
 paper-call c f linkFailed = ap saidBy (linkFailed-sim c)
 
 -- The starts' answers, read.
-started-read : (c : Machine.Client) (good : Bool) (ph : Phase) → startedBy (startedAs (Machine.start c good ph)) ≡ inCode (settledBy (Machine.start c good ph))
+pub started-read : (c : Machine.Client) (good : Bool) (ph : Phase) → startedBy (startedAs (Machine.start c good ph)) ≡ inCode (settledBy (Machine.start c good ph))
 unfolding Machine.start settle refusedAs saysOf numberOf carriedBy progressOf
 started-read c good ph = go (c .turn) good
   where
@@ -151,6 +153,16 @@ failed-read c = go (c .turn)
     go (ready ph) = turn-read
     go (waiting ph) = io-read
 
+-- The calls of a round, read: of a request, a record and a failed link nothing is asked.
+pub request-call : (c : Machine.Client) → Fits c → (image buffer : List ℕ) → askedBy (Code₃.request (clientOf c) image buffer) ≡ inCode (handedBy (Machine.request c image buffer))
+request-call c f image buffer = ap askedBy (request-asked c f image buffer) ∙ asked-read c image buffer
+
+pub record-call : (c : Machine.Client) → Fits c → (image bytes : List ℕ) → toldBy (Code₄.record′ (clientOf c) image bytes) ≡ inCode (settledBy (Machine.record′ c image bytes))
+record-call c f image bytes = ap toldBy (record-told c f image bytes) ∙ said (Machine.record′ c image bytes) (record-read c f image bytes)
+
+pub failed-call : (c : Machine.Client) → toldBy (Code₄.linkFailed (clientOf c)) ≡ inCode (settledBy (Machine.linkFailed c))
+failed-call c = ap toldBy (failed-told c) ∙ said (Machine.linkFailed c) (failed-read c)
+
 code-call : (c : Machine.Client) → Fits c → (call : Call) → Good call → codeCall (clientOf c) call ≡ inCode (machineCall c call)
 unfolding codeCall machineCall Machine.startSelect Machine.startDeselect Machine.startAttach Machine.startDiscover Machine.startInfo Machine.startErase Machine.startFlash Machine.startReset Machine.startSetBaud
 code-call c f (startSelect bytes bits) g = ap startedBy (select-started c bytes bits) ∙ started-read c (short bytes && (leb bits 128 && leb bits (8 * length bytes))) (selecting (probing bytes bits))
@@ -163,9 +175,9 @@ code-call c f startErase g = ap startedBy (erase-started c) ∙ started-read c t
 code-call c f (startFlash image) g = ap startedBy (flash-started c image) ∙ started-read c true (demanding (informing (load (length image))))
 code-call c f (startReset bootloader inBoot) g = ap startedBy (reset-started c bootloader inBoot) ∙ started-read c true (resets bootloader none inBoot)
 code-call c f (startSetBaud baud bootloader inBoot) g = ap startedBy (baud-started c baud bootloader inBoot) ∙ started-read c true (resets bootloader (some baud) inBoot)
-code-call c f (request image buffer) g = ap askedBy (request-asked c f image buffer) ∙ asked-read c image buffer
-code-call c f (record′ image bytes) g = ap toldBy (record-told c f image bytes) ∙ said (Machine.record′ c image bytes) (record-read c f image bytes)
-code-call c f linkFailed g = ap toldBy (failed-told c) ∙ said (Machine.linkFailed c) (failed-read c)
+code-call c f (request image buffer) g = request-call c f image buffer
+code-call c f (record′ image bytes) g = record-call c f image bytes
+code-call c f linkFailed g = failed-call c
 
 call-fits : (c : Machine.Client) → Fits c → (call : Call) → Fits ((machineCall c call) .1)
 unfolding machineCall
@@ -197,7 +209,7 @@ call-bytes c b (request image buffer) g = request-holds Bytes c b image buffer
 call-bytes c b (record′ image bytes) g = record-holds Bytes c b image bytes (heard-bytes bytes g)
 call-bytes c b linkFailed g = linkFailed-holds Bytes c b
 
-attached-back : (c : Machine.Client) → Fits c → attachedTo (clientOf c) ≡ c .id
+pub attached-back : (c : Machine.Client) → Fits c → attachedTo (clientOf c) ≡ c .id
 unfolding attachedTo
 attached-back c f = go (c .turn) (c .id) (f .id)
   where
@@ -209,7 +221,7 @@ attached-back c f = go (c .turn) (c .id) (f .id)
     go (waiting ph) none b = refl
     go (waiting ph) (some x) b = ap some (id-of-from x b)
 
-seed-of : (c : Machine.Client) → clientOf c .seed ≡ c .seed
+pub seed-of : (c : Machine.Client) → clientOf c .seed ≡ c .seed
 seed-of c = go (c .turn)
   where
     go : (t : Turn) → clientOf (turned c t) .seed ≡ c .seed

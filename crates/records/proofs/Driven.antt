@@ -1,223 +1,225 @@
--- The driven client plays the conversation: whatever is heard, it stands where document 01's info, erase, flash and reset do.
+-- The code's client, driven over any events, is document 01's: it says the same, hands out the same bytes, and stands where the conversation does.
 -- Assumes nothing.
-use Prim.Native.Nat.{ℕ, _≤_, _<_}
-use mathlib.Core.Bool.{Bool, true, false}
-use mathlib.Core.List.{List, [], _∷_, _++_, map}
+use Prim.Native.Nat.{ℕ}
+use mathlib.Core.Bool.{Bool, true, false, cond}
+use mathlib.Core.List.{List, [], _∷_}
 use mathlib.Core.Option.{Option, none, some}
-use mathlib.Core.Path.{_≡_, refl, sym, _∙_, ap, subst}
+use mathlib.Core.Path.{_≡_, refl, sym, _∙_, ap, ap₂, subst}
 use native.Mathlib.Omega.{arith}
-use lib.ListN.{length, drop}
-use borrow.Author.Tests.{le-ltb, eq-eqb}
-use Rattle.paper.specs.Answers.{answer}
-use Rattle.paper.specs.Client.{otherLength, demandFrame, bytesOf, replied, endOf, over}
 use Rattle.paper.specs.Client as Paper
-use Rattle.paper.specs.Count.{All}
-use Rattle.paper.specs.Flash.{informOnly, erase, flash, reset}
-use Rattle.paper.specs.Hearing.{Id, onSome}
-use Rattle.paper.specs.Talk.{demand, Answered, Talk, Outcome, quiet, attached, found, knows}
-use Rattle.paper.specs.Talk as Paper₂
-use Rattle.lore.proofs.Frames.{frame-length}
-use Rattle.theory.specs.FlashOrder.{Past, Event, heard, failed, refused, pending, readEvent, play}
-use Rattle.theory.specs.Phases.{tell, clear, load, Job, informing, resetting, Phase, selecting, demanding, leaving, demanded, Then, to, ends, refuses, working, told, step}
+use Rattle.paper.specs.Client.{onLeft}
+use Rattle.paper.specs.Hearing.{Id}
+use Rattle.paper.specs.Talk.{Ask, Outcome}
 use Rattle.theory.specs.Clients as Machine
-use Rattle.theory.specs.Clients.{Brief, Turn, idle, ready, waiting, lentTo, settle, fails, handedOut, grant}
-use Rattle.theory.proofs.Resuming.{SoundJob, whole, resumeJob, resume, thereafter, reporting, resumed, job-step}
-use Rattle.theory.proofs.Working.{told-leads}
-use Rattle.client.specs.declared.Says.the-variants.{Granted}
+use Rattle.theory.specs.Clients.{Turn, idle, ready, waiting, turned}
+use Rattle.theory.specs.Driven as Theory
+use Rattle.theory.specs.Driven.{Round, Sent, goesOn, onAsked, seedAt, idAt, Brought, Ready}
+use Rattle.theory.specs.FlashOrder.{Past, Event, heard, failed, Stand, returned, refused, lost, pending}
+use Rattle.theory.proofs.Driven as Theory₂
+use Rattle.theory.proofs.Keeping.{turn-sound, Fits, request-fits, record-fits, linkFailed-fits}
+use Rattle.theory.proofs.Talking.{paperOf, leftOf, request-sim, record-sim, linkFailed-sim}
+use Rattle.ids.specs.declared.Id as Ids
+use Rattle.ids.specs.Ids.{noId}
+use Rattle.table.specs.declared.Table.{Table}
+use Rattle.table.specs.Rows.{noTable}
+use Rattle.client.specs.declared.Client.{Client}
+use Rattle.client.specs.declared.Outcome.the-variants as Code
+use Rattle.client.specs.declared.Progress.{Progress}
+use Rattle.client.specs.declared.Progress.the-variants.{None}
+use Rattle.client.specs.declared.Says.{Says}
+use Rattle.client.specs.declared.Says.the-variants.{Granted, Closing, Onward, Over, Refused}
 use Rattle.client.specs.declared.Started.{Started}
 use Rattle.client.specs.declared.Told.{Told}
-use Rattle.starting.specs.Starting as Code
-use Rattle.asking.specs.Asking.{Asking, request}
-use Rattle.records.specs.Clients.{recordOf, shownSays, startedAs, toldAs}
-use Rattle.records.specs.Served.{isOnward, opening, resting}
-use Rattle.records.specs.Driven.{Round, tells, driven, OfLength, LendsIn, Lends, StandsAs}
-use Rattle.records.proofs.Readable.{Readable, Reads, io-read, job-ends}
-use Rattle.records.proofs.Requests.{demand-short, request-asked}
-use Rattle.records.proofs.Serving.{refused-ends}
-use Rattle.records.proofs.Starts.{info-started, erase-started, flash-started, reset-started, baud-started}
-use Rattle.records.proofs.Tells.{record-told, failed-told}
+use Rattle.client.specs.Numbers.{endOf, saysOf}
+use Rattle.asking.specs.Asking.{request}
+use Rattle.telling.specs.Telling.{record′, linkFailed}
+use Rattle.records.specs.Calls.{Reply, saidBy, askedOf, startedBy, askedBy, toldBy, attachedTo}
+use Rattle.records.specs.Clients.{clientOf}
+use Rattle.records.specs.Driven.{tells, asking, telling, driven, sends, answerOf, Asks, Leaves, StandsAs}
+use Rattle.records.specs.Served.{onSays, isOnward, opening, resting}
+use Rattle.records.proofs.Calls.{settledBy, handedBy, inPaper, inCode, request-call, record-call, failed-call, attached-back, seed-of}
 
--- An image of the length that runs passes the test on it.
-lent-passes : (n : Option ℕ) (image : List ℕ) → OfLength n image → otherLength n image ≡ false
-lent-passes none image e = refl
-lent-passes (some n) image e = rw (eq-eqb n (length image) (sym e))
+-- One machine stands behind the code's client and document 01's.
+pub record Alike (code : Client) (paper : Paper.Client) : Type 0 where
+  pub machine : Machine.Client
+  pub fits : Fits machine
+  pub is-code : code ≡ clientOf machine
+  pub is-paper : paper ≡ paperOf machine
 
-any-lent : (rs : List Round) → All (Lends none) rs
-any-lent [] = tt
-any-lent (r ∷ rs) = ((tt, go (r .event)), any-lent rs)
+-- Answers that say the same and leave such clients.
+pub record Answers (code : Reply × Client) (paper : Reply × Paper.Client) : Type 0 where
+  pub reply : code .0 ≡ paper .0
+  pub clients : Alike (code .1) (paper .1)
+
+pub from-machine : (r : Reply × Machine.Client) → Fits (r .1) → (code : Reply × Client) (paper : Reply × Paper.Client) → code ≡ inCode r → paper ≡ inPaper r → Answers code paper
+from-machine r f code paper c p = record {
+  reply = ap (λ (x : Reply × Client). x .0) c ∙ sym (ap (λ (x : Reply × Paper.Client). x .0) p);
+  clients = record { machine = r .1; fits = f; is-code = ap (λ (x : Reply × Client). x .1) c; is-paper = ap (λ (x : Reply × Paper.Client). x .1) p };
+}
+
+pub record Same (code : Told) (paper : Paper.Told) : Type 0 where
+  pub says : answerOf code ≡ paper .says
+  pub rest : code .rest ≡ paper .rest
+  pub clients : Alike (code .client) (paper .client)
+
+pub started-same : (code : Started) (paper : Paper.Told) → Answers (startedBy code) (saidBy paper) → Same (opening code) paper
+started-same code paper a = record { says = ap (λ (r : Reply). r .says) (a .reply); rest = ap (λ (r : Reply). r .rest) (a .reply); clients = a .clients }
+
+told-same : (code : Told) (paper : Paper.Told) → Answers (toldBy code) (saidBy paper) → Same code paper
+told-same code paper a = record { says = ap (λ (r : Reply). r .says) (a .reply); rest = ap (λ (r : Reply). r .rest) (a .reply); clients = a .clients }
+
+-- The calls of a round.
+module _ (code : Client) (paper : Paper.Client) (a : Alike code paper) where
+  abbrev m : Machine.Client
+  m = a .machine
+
+  asked-same : (image buffer : List ℕ) → Answers (askedBy (request code image buffer)) (askedOf (Paper.request paper image buffer))
+  asked-same image buffer =
+      from-machine (handedBy (Machine.request m image buffer)) (request-fits m (a .fits) image buffer) _ _
+      (ap (λ (c : Client). askedBy (request c image buffer)) (a .is-code) ∙ request-call m (a .fits) image buffer)
+      (ap (λ (c : Paper.Client). askedOf (Paper.request c image buffer)) (a .is-paper) ∙ ap askedOf (request-sim m image buffer))
+
+  tells-same : (e : Event) → Same (tells code e) (Theory.tells paper e)
+  unfolding tells Theory.tells
+  tells-same (heard image bytes) =
+      told-same _ _
+      (from-machine (settledBy (Machine.record′ m image bytes)) (record-fits m (a .fits) image bytes) _ _
+      (ap (λ (c : Client). toldBy (record′ c image bytes)) (a .is-code) ∙ record-call m (a .fits) image bytes)
+      (ap (λ (c : Paper.Client). saidBy (Paper.record′ c image bytes)) (a .is-paper) ∙ ap saidBy (record-sim m (turn-sound (m .turn) (a .fits .turn)) image bytes)))
+  tells-same failed =
+      told-same _ _
+      (from-machine (settledBy (Machine.linkFailed m)) (linkFailed-fits m (a .fits)) _ _
+      (ap (λ (c : Client). toldBy (linkFailed c)) (a .is-code) ∙ failed-call m)
+      (ap (λ (c : Paper.Client). saidBy (Paper.linkFailed c)) (a .is-paper) ∙ ap saidBy (linkFailed-sim m)))
+
+-- What goes on, and what is handed out, is read off what is said.
+onward-same : (s : Says) (p : Progress) (x : Ids.Id) (t : Table) → isOnward s ≡ goesOn (saysOf s p x t)
+unfolding isOnward goesOn saysOf endOf
+onward-same (Granted n) p x t = refl
+onward-same (Closing n) p x t = refl
+onward-same Onward p x t = refl
+onward-same (Over Code.Quiet) p x t = refl
+onward-same (Over (Code.Heard h)) p x t = refl
+onward-same (Over (Code.Attached any)) p x t = refl
+onward-same (Over Code.Found) p x t = refl
+onward-same (Over (Code.Knows info)) p x t = refl
+onward-same (Over Code.Unaddressed) p x t = refl
+onward-same (Refused r) p x t = refl
+
+module _ {A B : Type 0} (R : A → B → Type 0) (g c : ℕ → A) (o : A) (g′ c′ : ℕ → B) (o′ : B) (hg : (k : ℕ) → R (g k) (g′ k)) (hc : (k : ℕ) → R (c k) (c′ k)) (ho : R o o′) where
+  asked-alike : (s : Says) (p : Progress) (x : Ids.Id) (t : Table) → R (onSays s g c o o) (onAsked (saysOf s p x t) g′ c′ o′)
+  unfolding saysOf endOf
+  asked-alike (Granted n) p x t = hg n
+  asked-alike (Closing n) p x t = hc n
+  asked-alike Onward p x t = ho
+  asked-alike (Over Code.Quiet) p x t = ho
+  asked-alike (Over (Code.Heard h)) p x t = ho
+  asked-alike (Over (Code.Attached any)) p x t = ho
+  asked-alike (Over Code.Found) p x t = ho
+  asked-alike (Over (Code.Knows info)) p x t = ho
+  asked-alike (Over Code.Unaddressed) p x t = ho
+  asked-alike (Refused r) p x t = ho
+
+  asked-said : (s : Says) (ps : Paper.Says) → saysOf s None noId noTable ≡ ps → R (onSays s g c o o) (onAsked ps g′ c′ o′)
+  asked-said s ps e = subst (λ (u : Paper.Says). R (onSays s g c o o) (onAsked u g′ c′ o′)) e (asked-alike s None noId noTable)
+
+module _ (buffer : List ℕ) where
+  pub record Drives (rs : List Round) (code : Told) (paper : Paper.Told) : Type 0 where
+    pub last : Same (driven buffer rs code) (Theory.driven buffer rs paper)
+    pub sent : sends buffer rs code ≡ Theory.sends buffer rs paper
+
+  -- A round, and those after it.
+  module _ (r : Round) (rs : List Round) (code : Told) (paper : Paper.Told) (s : Same code paper) (more : (d : Told) (p : Paper.Told) → Same d p → Drives rs d p) where
+    abbrev asks : Answers (askedBy (asking buffer r code)) (askedOf (Theory.asking buffer r paper))
+    asks = asked-same (code .client) (paper .client) (s .clients) (r .lent) buffer
+
+    goes : isOnward (code .says) ≡ goesOn (paper .says)
+    goes = onward-same (code .says) (code .progress) (code .id) (code .found) ∙ ap goesOn (s .says)
+
+    said : saysOf (asking buffer r code .answer .says) None noId noTable ≡ Theory.asking buffer r paper .says
+    said = ap (λ (x : Reply). x .says) (asks .reply)
+
+    filled : asking buffer r code .bytes ≡ Theory.asking buffer r paper .buffer
+    filled = ap (λ (x : Reply). x .buffer) (asks .reply)
+
+    closed : Same (opening (asking buffer r code .answer)) (Theory.closes (Theory.asking buffer r paper))
+    closed = record { says = said; rest = refl; clients = asks .clients }
+
+    on : Drives rs (telling buffer r code) (Theory.telling buffer r paper)
+    on = more _ _ (tells-same _ _ (asks .clients) (r .event))
+
+    round-drives : Drives (r ∷ rs) code paper
+    unfolding driven sends Theory.driven Theory.sends
+    round-drives = record { last = rw (← goes) (last (isOnward (code .says))); sent = rw (← goes) (sent (isOnward (code .says))) }
+      where
+        last : (b : Bool)
+            → Same
+            (cond b (onSays (asking buffer r code .answer .says) (λ k. driven buffer rs (telling buffer r code)) (λ k. opening (asking buffer r code .answer)) (opening (asking buffer r code .answer)) (opening (asking buffer r code .answer))) code)
+            (cond b (onAsked (Theory.asking buffer r paper .says) (λ k. Theory.driven buffer rs (Theory.telling buffer r paper)) (λ k. Theory.closes (Theory.asking buffer r paper)) (Theory.closes (Theory.asking buffer r paper))) paper)
+        last true = asked-said Same _ _ _ _ _ _ (λ k. on .last) (λ k. closed) closed (asking buffer r code .answer .says) (Theory.asking buffer r paper .says) said
+        last false = s
+
+        sent : (b : Bool)
+            → _≡_ {A = List Sent}
+            (cond b (onSays (asking buffer r code .answer .says) (λ k. Theory.handing k (asking buffer r code .bytes) (some (r .event)) ∷ sends buffer rs (telling buffer r code)) (λ k. Theory.handing k (asking buffer r code .bytes) none ∷ []) [] []) [])
+            (cond b (onAsked (Theory.asking buffer r paper .says) (λ k. Theory.handing k (Theory.asking buffer r paper .buffer) (some (r .event)) ∷ Theory.sends buffer rs (Theory.telling buffer r paper)) (λ k. Theory.handing k (Theory.asking buffer r paper .buffer) none ∷ []) []) [])
+        sent true =
+            asked-said (λ (x y : List Sent). x ≡ y) _ _ _ _ _ _
+            (λ k. ap₂ (λ (l : List ℕ) (m : List Sent). Theory.handing k l (some (r .event)) ∷ m) filled (on .sent))
+            (λ k. ap (λ (l : List ℕ). Theory.handing k l none ∷ []) filled)
+            refl (asking buffer r code .answer .says) (Theory.asking buffer r paper .says) said
+        sent false = refl
+
+  pub drives : (rs : List Round) (code : Told) (paper : Paper.Told) → Same code paper → Drives rs code paper
+  unfolding driven sends Theory.driven Theory.sends
+  drives [] code paper s = record { last = s; sent = refl }
+  drives (r ∷ rs) code paper s = round-drives r rs code paper s (drives rs)
+
+-- A client with no operation, and one with a request next.
+idle-left : (c : Machine.Client) (seed : ℕ) (id : Option Id) → paperOf c ≡ Theory.resting seed id → clientOf c ≡ resting seed id
+unfolding paperOf leftOf
+idle-left c seed id e = go (c .turn) e
   where
-    go : (e : Event) → LendsIn none e
-    go (heard image bytes) = tt
-    go failed = tt
+    runs : Paper.Client → ℕ
+    runs p = onLeft (p .left) 0 (λ q f. 1) (λ q f. 1)
 
--- Reports are not played.
-play-reporting : (p : Option (ℕ × ℕ)) (m : Talk Outcome) (es : List Event) (past : Past) → play (reporting p m) es past ≡ play m es past
-unfolding reporting play
-play-reporting none m es past = refl
-play-reporting (some p) m es past = refl
+    go : (t : Turn) → paperOf (turned c t) ≡ Theory.resting seed id → clientOf (turned c t) ≡ resting seed id
+    go idle e = ap₂ resting (ap (λ (p : Paper.Client). p .seed) e) (ap (λ (p : Paper.Client). p .id) e)
+    go (ready ph) e = absurd (let z : _≡_ {A = ℕ} 1 0 = ap runs e in omega arith)
+    go (waiting ph) e = absurd (let z : _≡_ {A = ℕ} 1 0 = ap runs e in omega arith)
 
--- No outcome goes on.
-over-ends : (p : Option (ℕ × ℕ)) (o : Outcome) → isOnward (shownSays (over p o) .says) ≡ false
-unfolding isOnward
-over-ends p quiet = refl
-over-ends p (Paper₂.heard h) = refl
-over-ends p (attached id) = refl
-over-ends p (found ids) = refl
-over-ends p (knows info) = refl
+module _ (code : Client) (paper : Paper.Client) (a : Alike code paper) where
+  alike-resting : (seed : ℕ) (id : Option Id) → paper ≡ Theory.resting seed id → code ≡ resting seed id
+  alike-resting seed id e = a .is-code ∙ idle-left (a .machine) seed id (sym (a .is-paper) ∙ e)
 
--- The phase that follows is a sound job, with an image of that length lent.
-abbrev Works : Option ℕ → Phase → Type 0
-Works n (selecting s) = ⊥
-Works n (demanding j) = SoundJob j × (lentTo j ≡ n)
-Works n (leaving bootloader baud) = ⊥
+  alike-seed : code .seed ≡ paper .seed
+  unfolding paperOf
+  alike-seed = ap (λ (c : Client). c .seed) (a .is-code) ∙ seed-of (a .machine) ∙ sym (ap (λ (p : Paper.Client). p .seed) (a .is-paper))
 
-module _ (buffer : List ℕ) (room : 1036 ≤ length buffer) (seed : ℕ) (byte : seed < 256) (id : Option Id) (brief : Brief id) (n : Option ℕ) where
-  abbrev turning : Turn → Machine.Client
-  turning t = record { seed = seed; id = id; turn = t }
+  alike-id : attachedTo code ≡ paper .id
+  unfolding paperOf
+  alike-id = ap attachedTo (a .is-code) ∙ attached-back (a .machine) (a .fits) ∙ sym (ap (λ (p : Paper.Client). p .id) (a .is-paper))
 
-  -- The answer where the machine goes on, or ends.
-  abbrev stood : Turn → Option (ℕ × ℕ) → Then → ℕ → Told
-  stood t p u at = toldAs (settle (turning t) p u at)
+  alike-asks : (n : Option ℕ) (seed : ℕ) (id : Option Id) (q : Ask) → Ready n seed id q paper → Asks n seed id q code
+  alike-asks n seed id q r = record {
+    seeded = alike-seed ∙ ap (λ (p : Paper.Client). p .seed) (r .client);
+    attached = alike-id ∙ ap (λ (p : Paper.Client). p .id) (r .client);
+    grants = λ image buffer o fits.
+        let same : askedOf (Paper.request paper image buffer) ≡ _ = ap (λ (p : Paper.Client). askedOf (Paper.request p image buffer)) (r .client) ∙ ap askedOf (Theory₂.asked buffer n q (r .then) seed id image o fits) in
+        let reply = asked-same code paper a image buffer .reply ∙ ap (λ (x : Reply × Paper.Client). x .0) same in
+        record { says = ap (λ (x : Reply). x .says) reply; after = ap (λ (x : Reply). x .buffer) reply };
+  }
 
-  -- Driven on from there, the client stands where the conversation does.
-  abbrev Follows : List Round → Then → Type 0
-  Follows rs u = (t : Turn) (p : Option (ℕ × ℕ)) (at : ℕ) (past : Past) → StandsAs n seed id (driven buffer rs (stood t p u at)) ((play (thereafter u) (map (λ r. r .event) rs) past) .1)
+  alike-leaves : (n : Option ℕ) (seed : ℕ) (id : Option Id) (s : Stand Outcome) → Theory.Leaves n seed id s paper → Leaves n seed id s code
+  alike-leaves n seed id (returned o) h = alike-resting seed id h
+  alike-leaves n seed id (refused k carries) h = alike-resting seed id h
+  alike-leaves n seed id (lost q) h = alike-resting seed id h
+  alike-leaves n seed id (pending q) h = alike-asks n seed id q h
 
-  stays : (rs : List Round) (t : Told) → isOnward (t .says) ≡ false → driven buffer rs t ≡ t
-  unfolding driven
-  stays [] t e = refl
-  stays (r ∷ rs) t e = rw e
-
-  ends-follows : (rs : List Round) (o : Outcome) → ((p : Option (ℕ × ℕ)) → Readable (over p o)) → Follows rs (ends o)
-  unfolding settle thereafter play
-  ends-follows rs o r t p at past = rw (stays rs (stood t p (ends o) at) (over-ends p o)) (record { progress = p; answer = r p; client = refl })
-
-  refuses-follows : (rs : List Round) (number : ℕ) (carries : List ℕ) → Readable (Paper.refused number carries) → Follows rs (refuses number carries)
-  unfolding settle thereafter play
-  refuses-follows rs number carries r t p at past = rw (stays rs (stood t p (refuses number carries) at) (refused-ends number carries)) (record { answer = r; client = refl })
-
-  -- A job's request.
-  module _ (j : Job) (s : SoundJob j) (l : lentTo j ≡ n) where
-    abbrev bytes : List ℕ → List ℕ
-    bytes image = bytesOf (demand (demanded j)) seed image
-
-    passes : (image : List ℕ) → OfLength n image → otherLength (lentTo j) image ≡ false
-    passes image o = rw l (lent-passes n image o)
-
-    grants : (image buf : List ℕ) → OfLength n image → length (bytes image) ≤ length buf
-        → request (recordOf seed id (ready (demanding j))) image buf
-        ≡ record { answer = record { says = Granted (length (bytes image)); client = recordOf seed id (waiting (demanding j)) }; bytes = bytes image ++ drop (length (bytes image)) buf }
-    unfolding Machine.request grant handedOut
-    grants image buf o h =
-        request-asked (turning (ready (demanding j))) (record { seed = byte; id = brief; turn = s }) image buf
-        ∙ rw (passes image o, le-ltb (length buf) (length (bytes image)) h)
-
-    small : (image : List ℕ) → OfLength n image → length (bytes image) ≤ 1036
-    unfolding bytesOf
-    small image o = omega (arith, frame-length (demandFrame (demanded j) image), demand-short j image (passes image o))
-
-    sends : (image : List ℕ) → OfLength n image → request (recordOf seed id (ready (demanding j))) image buffer .answer .client ≡ recordOf seed id (waiting (demanding j))
-    sends image o = ap (λ (a : Asking). a .answer .client) (grants image buffer o (omega (arith, small image o)))
-
-    asks-follows : Follows [] (working j)
-    unfolding settle thereafter resume driven play
-    asks-follows t p at past =
-        subst (λ (m : Talk Outcome). StandsAs n seed id (stood t p (working j) at) ((play m [] past) .1)) (sym (job-step j s)) asks
-      where
-        asks : StandsAs n seed id (stood t p (working j) at) (pending (demand (demanded j)))
-        asks = record {
-          says = refl;
-          grants = λ image buf o h. record { says = ap (λ (a : Asking). a .answer .says) (grants image buf o h); after = ap (λ (a : Asking). a .bytes) (grants image buf o h) };
-        }
-
-    -- What is told then.
-    place : Event → ℕ
-    place (heard image bytes) = endOf (answer bytes) (length bytes)
-    place failed = 0
-
-    goes : Event → Option Answered → Told
-    goes e o =
-        onSome o (stood (waiting (demanding j)) none (refuses 1 []) (place e))
-        (λ a. stood (waiting (demanding j)) (told j (a .reply) (a .image) .progress) (told j (a .reply) (a .image) .then) (place e))
-
-    told-as : (e : Event) → LendsIn n e → tells (recordOf seed id (waiting (demanding j))) e ≡ goes e (readEvent (demand (demanded j)) e)
-    unfolding tells Machine.record′ Machine.linkFailed goes place readEvent step settle
-    told-as (heard image bytes) o =
-        record-told (turning (waiting (demanding j))) (record { seed = byte; id = brief; turn = s }) image bytes
-        ∙ rw (passes image o) (go (replied (answer bytes) image))
-      where
-        at : ℕ
-        at = endOf (answer bytes) (length bytes)
-
-        go : (a : Option Answered)
-            → toldAs (onSome a (fails (turning (waiting (demanding j))) at) (λ x. settle (turning (waiting (demanding j))) (told j (x .reply) (x .image) .progress) (told j (x .reply) (x .image) .then) at))
-            ≡ goes (heard image bytes) a
-        go none = refl
-        go (some x) = refl
-    told-as failed o = failed-told (turning (waiting (demanding j)))
-
-    round-follows : (r : Round) (rs : List Round) → ((u : Then) → Reads (Works n) u → Follows rs u) → Lends n r → Follows (r ∷ rs) (working j)
-    unfolding settle thereafter resume driven isOnward play goes resumed
-    round-follows r rs ih o t p at past =
-        rw (sends (r .lent) (o .0), told-as (r .event) (o .1))
-        (subst (λ (m : Talk Outcome). StandsAs n seed id (driven buffer rs (goes (r .event) (readEvent (demand (demanded j)) (r .event)))) ((play m (r .event ∷ map (λ x. x .event) rs) past) .1))
-        (sym (job-step j s)) (go (readEvent (demand (demanded j)) (r .event))))
-      where
-        es : List Event
-        es = map (λ x. x .event) rs
-
-        go : (a : Option Answered)
-            → StandsAs n seed id (driven buffer rs (goes (r .event) a))
-            ((onSome a (past, refused 1 []) (λ x. play (resumed (told j (x .reply) (x .image))) es (record { asked = demand (demanded j); answer = x } ∷ past))) .1)
-        go none = ih (refuses 1 []) io-read (waiting (demanding j)) none (place (r .event)) past
-        go (some x) =
-            rw (play-reporting (told j (x .reply) (x .image) .progress) (thereafter (told j (x .reply) (x .image) .then)) es (record { asked = demand (demanded j); answer = x } ∷ past))
-            (ih (told j (x .reply) (x .image) .then) (told-leads (Reads (Works n)) (job-ends (Works n)) j (λ k w. (w .0 s, w .1 ∙ l)) (x .reply) (x .image))
-            (waiting (demanding j)) (told j (x .reply) (x .image) .progress) (place (r .event)) (record { asked = demand (demanded j); answer = x } ∷ past))
-
-  then-follows : (rs : List Round) → ((j : Job) → SoundJob j → lentTo j ≡ n → Follows rs (working j)) → (u : Then) → Reads (Works n) u → Follows rs u
-  then-follows rs f (to (selecting s)) w = absurd w
-  then-follows rs f (to (demanding j)) w = f j (w .0) (w .1)
-  then-follows rs f (to (leaving bootloader baud)) w = absurd w
-  then-follows rs f (ends o) w = ends-follows rs o w
-  then-follows rs f (refuses number carries) w = refuses-follows rs number carries w
-
-  follows : (rs : List Round) → All (Lends n) rs → (u : Then) → Reads (Works n) u → Follows rs u
-  follows [] o u w = then-follows [] asks-follows u w
-  follows (r ∷ rs) o u w = then-follows (r ∷ rs) (λ j s l. round-follows j s l r rs (λ v x. follows rs (o .1) v x) (o .0)) u w
-
--- From a client with no operation, over any rounds.
-module _ (buffer : List ℕ) (room : 1036 ≤ length buffer) (seed : ℕ) (byte : seed < 256) (id : Option Id) (brief : Brief id) (rounds : List Round) where
-  abbrev resting-client : Machine.Client
-  resting-client = record { seed = seed; id = id; turn = idle }
-
-  abbrev events : List Event
-  events = map (λ r. r .event) rounds
-
-  opens : (n : Option ℕ) (j : Job) → SoundJob j → lentTo j ≡ n → All (Lends n) rounds → (s : Started) → s ≡ startedAs (Machine.start resting-client true (demanding j))
-      → StandsAs n seed id (driven buffer rounds (opening s)) ((play (resumeJob j) events []) .1)
-  unfolding Machine.start settle thereafter resume
-  opens n j k l o s e = rw e (follows buffer room seed byte id brief n rounds o (working j) (k, l) idle none 0 [])
-
-  pub info-driven : StandsAs none seed id (driven buffer rounds (opening (Code.startInfo (resting seed id)))) ((play informOnly events []) .1)
-  unfolding Machine.startInfo resumeJob whole
-  info-driven = opens none (informing tell) tt refl (any-lent rounds) _ (info-started resting-client)
-
-  pub erase-driven : StandsAs none seed id (driven buffer rounds (opening (Code.startErase (resting seed id)))) ((play erase events []) .1)
-  unfolding Machine.startErase resumeJob whole
-  erase-driven = opens none (informing clear) tt refl (any-lent rounds) _ (erase-started resting-client)
-
-  pub flash-driven : (image : List ℕ) → All (Lends (some (length image))) rounds
-      → StandsAs (some (length image)) seed id (driven buffer rounds (opening (Code.startFlash (resting seed id) image))) ((play (flash (length image)) events []) .1)
-  unfolding Machine.startFlash resumeJob whole
-  flash-driven image o = opens (some (length image)) (informing (load (length image))) tt refl o _ (flash-started resting-client image)
-
-  -- A reset whose answer is awaited.
-  pub reset-driven : (bootloader : Bool) → StandsAs none seed id (driven buffer rounds (opening (Code.startReset (resting seed id) bootloader true))) ((play (reset bootloader none true) events []) .1)
-  unfolding Machine.startReset resumeJob
-  reset-driven bootloader = opens none (resetting bootloader none) tt refl (any-lent rounds) _ (reset-started resting-client bootloader true)
-
-  pub baud-driven : (baud : ℕ) (bootloader : Bool)
-      → StandsAs none seed id (driven buffer rounds (opening (Code.startSetBaud (resting seed id) baud bootloader true))) ((play (reset bootloader (some baud) true) events []) .1)
-  unfolding Machine.startSetBaud resumeJob
-  baud-driven baud bootloader = opens none (resetting bootloader (some baud)) tt refl (any-lent rounds) _ (baud-started resting-client baud bootloader true)
+pub same-stands : (n : Option ℕ) (seed : ℕ) (id : Option Id) (r : Past × Stand Outcome) (b : Brought) (code : Told) (paper : Paper.Told)
+    → Same code paper → Theory.StandsAs n seed id r b paper → StandsAs n seed id r b code
+same-stands n seed id r b code paper s h = record {
+  says = s .says ∙ h .says;
+  rest = s .rest ∙ h .rest;
+  client = alike-leaves (code .client) (paper .client) (s .clients) n (seedAt seed r) (idAt id r) (r .1) (h .client);
+}

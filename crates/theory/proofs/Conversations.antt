@@ -10,7 +10,7 @@ use Rattle.paper.specs.Count.{All}
 use Rattle.paper.specs.Hearing.{onSome}
 use Rattle.paper.specs.Talk.{Demand, Ask, demand, Answer, Talk, return, stop, report, ask, _>>=_, _>>_, each}
 use Rattle.paper.specs.Flash.{accepted, transact, refuseIf}
-use Rattle.theory.specs.FlashOrder.{Exchange, met, Past, Event, Stand, returned, refused, pending, readEvent, play, asks, everything, Kept, Stands}
+use Rattle.theory.specs.FlashOrder.{Exchange, met, Past, Event, Stand, returned, refused, lost, pending, readEvent, play, asks, everything, Kept, Stands}
 
 -- Whatever is answered: each request is as R says of the past and of it, and a value returned is as Q says.
 abbrev pub Always : {A : Type 0} → (Past → Ask → Type 0) → (Past → A → Type 0) → Past → Talk A → Type 0
@@ -74,14 +74,15 @@ module _ (R : Past → Ask → Type 0) where
       Fine r = Kept R (r .0) × Stands R Q (r .0) (r .1)
 
       go : (r : Option (Answer q)) → ((a : Answer q) → Fine (play (f a) es (record { asked = q; answer = a } ∷ past)))
-          → Fine (onSome r (past, refused 1 []) (λ a. play (f a) es (record { asked = q; answer = a } ∷ past)))
-      go none more = (k, tt)
+          → Fine (onSome r (past, lost q) (λ a. play (f a) es (record { asked = q; answer = a } ∷ past)))
+      go none more = (k, h .0)
       go (some a) more = more a
 
   -- What follows of all that was asked, the request that is out included.
   pub all-asked : {A : Type 0} (Q : Past → A → Type 0) (P : Past → List Ask → Type 0) → P [] []
       → ((past : Past) (q : Ask) → R past q → P past (q ∷ asks past)) → ((past : Past) (x : Exchange) → R past (x .asked) → P (x ∷ past) (asks (x ∷ past)))
       → (r : Past × Stand A) → Kept R (r .0) × Stands R Q (r .0) (r .1) → P (r .0) (everything r)
+  all-asked Q P z f g (past, lost q) h = f past q (h .1)
   all-asked Q P z f g (past, pending q) h = f past q (h .1)
   all-asked Q P z f g ([], returned a) h = z
   all-asked Q P z f g ([], refused c carries) h = z
@@ -99,6 +100,7 @@ module _ (R : Past → Ask → Type 0) where
       go : (s : Stand A) → Stands R Q past s → All P (everything (past, s))
       go (returned a) h = before past k
       go (refused c carries) h = before past k
+      go (lost q) h = (f past q h, before past k)
       go (pending q) h = (f past q h, before past k)
 
 pub bind-assoc : {A B C : Type 0} (m : Talk A) (f : A → Talk B) (g : B → Talk C) → m >>= f >>= g ≡ m >>= (λ a. f a >>= g)

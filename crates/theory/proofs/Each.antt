@@ -1,6 +1,8 @@
 -- What holds of each member of a list.
 -- Assumes nothing.
+use Prim.Native.Nat.{ℕ, zero, suc}
 use mathlib.Core.List.{List, [], _∷_, _++_}
+use lib.ListN.{take}
 use Rattle.paper.specs.Count.{All}
 
 module _ {A : Type 0} where
@@ -15,3 +17,12 @@ module _ {A : Type 0} where
   pub all-both : (P Q : A → Type 0) (xs : List A) → All P xs → All Q xs → All (λ x. P x × Q x) xs
   all-both P Q [] h g = tt
   all-both P Q (x ∷ xs) h g = ((h .0, g .0), all-both P Q xs (h .1) (g .1))
+
+  pub all-take : (P : A → Type 0) (k : ℕ) (xs : List A) → All P xs → All P (take k xs)
+  all-take P zero xs h = tt
+  all-take P (suc k) [] h = tt
+  all-take P (suc k) (x ∷ xs) h = (h .0, all-take P k xs (h .1))
+
+  pub all-last : (P : A → Type 0) (xs : List A) (a : A) → All P (xs ++ (a ∷ [])) → P a
+  all-last P [] a h = h .0
+  all-last P (x ∷ xs) a h = all-last P xs a (h .1)

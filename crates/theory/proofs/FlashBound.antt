@@ -15,7 +15,7 @@ use Rattle.paper.specs.Hearing.{onSome}
 use Rattle.paper.specs.Answers.{Reply, ok, device, sound, informed, steps, spansTooFar, apart, below, eraseAddresses, tooLarge, reported, incompatible, chunk, padded}
 use Rattle.paper.specs.Talk.{Demand, demand, Answered, Answer, Talk, return, stop, report, ask, _>>=_, _>>_, each}
 use Rattle.paper.specs.Flash.{accepted, transact, refuseIf, infoRequest, keys, inform, eraseOne, eraseAll, repeated, persist, writeWithin, writeOne, offsets, writeAll, verify, known, informOnly, erase, prepare, flash, reset}
-use Rattle.theory.specs.FlashOrder.{Exchange, met, Past, Event, Stand, refused, readEvent, play, everything, toldBy, toldIn, told, Ended, Bounded, most, erasesMost, flashMost}
+use Rattle.theory.specs.FlashOrder.{Exchange, met, Past, Event, Stand, lost, readEvent, play, everything, toldBy, toldIn, told, Ended, Bounded, most, erasesMost, flashMost}
 use Rattle.theory.proofs.Conversations.{bind-assoc}
 use Rattle.theory.proofs.FlashOrder.{told-still}
 use Rattle.theory.proofs.Infos.{sound-sizes, sound-chunk, informed-sound}
@@ -79,7 +79,7 @@ within-play {A} (suc k) (ask q f) h (e ∷ es) past = go (readEvent q e) (λ a. 
     Fine k n l r = (length (everything r) ≤ k + n) × (k ≤ l → Ended (r .1))
 
     go : (r : Option (Answer q)) → ((a : Answer q) → Fine k (suc (length past)) (length es) (play (f a) es (record { asked = q; answer = a } ∷ past)))
-        → Fine (suc k) (length past) (suc (length es)) (onSome r (past, refused 1 []) (λ a. play (f a) es (record { asked = q; answer = a } ∷ past)))
+        → Fine (suc k) (length past) (suc (length es)) (onSome r (past, lost q) (λ a. play (f a) es (record { asked = q; answer = a } ∷ past)))
     go none more = (omega (arith, length-map past (λ x. x .asked)), λ _. tt)
     go (some a) more = (omega (arith, more a .0), λ l. more a .1 (omega arith))
 
@@ -97,7 +97,7 @@ told-play {A} i (ask q f) (e ∷ es) past h =
     go (readEvent q e) (λ a. told-play i (f a) es (record { asked = q; answer = a } ∷ past) (told-still (record { asked = q; answer = a }) past i h))
   where
     go : (r : Option (Answer q)) → ((a : Answer q) → told (play (f a) es (record { asked = q; answer = a } ∷ past) .0) ≡ some i)
-        → told (onSome r (past, refused 1 []) (λ a. play (f a) es (record { asked = q; answer = a } ∷ past)) .0) ≡ some i
+        → told (onSome r (past, lost q) (λ a. play (f a) es (record { asked = q; answer = a } ∷ past)) .0) ≡ some i
     go none more = h
     go (some a) more = more a
 
@@ -137,7 +137,7 @@ module _ {A : Type 0} (g : Info × List ℕ → Talk A) where
       answers (ok payload) image = informs payload image (informed payload) refl
       answers (device status) image = record { few = omega arith; ends = λ _. tt }
 
-      go : (r : Option Answered) → Fine (onSome r ([], refused 1 []) (λ a. play (after a) es (record { asked = demand infoRequest; answer = a } ∷ [])))
+      go : (r : Option Answered) → Fine (onSome r ([], lost (demand infoRequest)) (λ a. play (after a) es (record { asked = demand infoRequest; answer = a } ∷ [])))
       go none = record { few = omega arith; ends = λ _. tt }
       go (some a) = answers (a .reply) (a .image)
 

@@ -32,7 +32,7 @@ piece-padded image o k h =
     pad : List ℕ
     pad = replicate (padding (length image)) 0xFF
 
-piece-length : (image : List ℕ) (o k : ℕ) → length (payloadOf (piece o k) image) ≡ k
+pub piece-length : (image : List ℕ) (o k : ℕ) → length (payloadOf (piece o k) image) ≡ k
 unfolding payloadOf
 piece-length image o k =
     omega (
@@ -68,7 +68,7 @@ carries-demand : (image : List ℕ) (past : Past) (d : Demand) → InOrder (leng
 unfolding carried
 carries-demand image past d (toInform _ e) w = absurd (let z : _≡_ {A = ℕ} 0 2 = cc in omega arith)
 carries-demand image past d (toErase _ e) w = absurd (let z : _≡_ {A = ℕ} 1 2 = ap (λ (d : Demand). d .command) (sym e) ∙ w in omega arith)
-carries-demand image past d (toWrite may e) w = rw e (write-carries (may .info) image (written past))
+carries-demand image past d (toWrite may _ e) w = rw e (write-carries (may .info) image (written past))
 carries-demand image past d (toVerify _ _ e) w = absurd (let z : _≡_ {A = ℕ} 3 2 = cc in omega arith)
 
 carries-in : (image : List ℕ) (past : Past) (q : Ask) → Ordered (length image) past q → CarriesIn image q

@@ -25,7 +25,7 @@ pub told-still : (x : Exchange) (past : Past) (i : Info × List ℕ) → told pa
 unfolding told
 told-still x past i e = rw e
 
-planned-is : (past : Past) (i : Info × List ℕ) → told past ≡ some i → planned past ≡ eraseAddresses (i .0)
+pub planned-is : (past : Past) (i : Info × List ℕ) → told past ≡ some i → planned past ≡ eraseAddresses (i .0)
 unfolding planned
 planned-is past i e = rw e
 
@@ -93,14 +93,14 @@ module _ (R : Past → Ask → Type 0) where
         always-refuseIf R (λ p _. Left [] p) past (spansTooFar info) 19 [] _ (λ s. always-each R Left (eraseOne info) erase-one (eraseAddresses info) past (h, s))
 
 module _ (n : ℕ) where
-  passed-still : (x : Exchange) (past : Past) (info : Info) → Passed n past info → Passed n (x ∷ past) info
+  passed-still : (x : Exchange) (past : Past) (info : Info) → Passed n (told past) info → Passed n (told (x ∷ past)) info
   passed-still x past info h =
       record { image = h .image; tells = told-still x past (info, h .image) (h .tells); fits = h .fits; suits = h .suits; spans = h .spans }
 
   -- With these Writes left, the first of which may be asked so many times yet.
   record Writing (info : Info) (left : List ℕ) (times : ℕ) (past : Past) : Type 0 where
     offset : ℕ
-    passed : Passed n past info
+    passed : Passed n (told past) info
     positive : 0 < chunk (info .maxPayload)
     cleared : erased past ≡ eraseAddresses info
     same : erases (asks past) ≡ erased past
@@ -111,7 +111,7 @@ module _ (n : ℕ) where
     none : (a : ℕ) → offset < a → writesAt a (asks past) ≡ 0
 
   -- All Erases stand in front of what is asked from then on.
-  cleared-front : (past : Past) (info : Info) → Passed n past info → erased past ≡ eraseAddresses info → erases (asks past) ≡ erased past
+  cleared-front : (past : Past) (info : Info) → Passed n (told past) info → erased past ≡ eraseAddresses info → erases (asks past) ≡ erased past
       → FrontOf (planned past) (erases (asks past) ++ [])
   cleared-front past info p c s =
       rw append-nil (front-part (planned past) (erases (asks past)) [] (append-nil (erases (asks past)) ∙ s ∙ c ∙ sym (planned-is past (info, p .image) (p .tells))))
@@ -135,7 +135,7 @@ module _ (n : ℕ) where
         let f = at-first (suc t) past h in
         let at : x ≡ written past = omega (arith, f .same, f .inside, h .total) in
         record {
-          ordered = toWrite (record { info = info; passed = h .passed; cleared = h .cleared }) (ap (writeRequest info n) at);
+          ordered = toWrite (record { info = info; passed = h .passed; cleared = h .cleared }) (omega (arith, at, f .same, f .inside)) (ap (writeRequest info n) at);
           front = cleared-front past info (h .passed) (h .cleared) (h .same);
           few = here-few t past h;
         }

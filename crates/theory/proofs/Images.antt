@@ -1,9 +1,9 @@
 -- What the rules on erase addresses come to: none passes the capacity or 32 bits.
 -- Assumes nothing.
-use Prim.Native.Nat.{ℕ, zero, suc, _+_, _-_, _*_, _<_, _≤_}
+use Prim.Native.Nat.{ℕ, zero, suc, _+_, _-_, _*_, _/_, _<_, _≤_}
 use mathlib.Core.Bool.{false}
 use mathlib.Core.Path.{_≡_}
-use native.Mathlib.Nat.{div-mul-le-self}
+use native.Mathlib.Nat.{div-mul-le-self, div-lt-iff-lt-mul}
 use native.Mathlib.Omega.{arith}
 use borrow.Author.Tests.{ltb-false}
 use Rattle.paper.specs.Frame.{Info}
@@ -40,3 +40,11 @@ pub addresses-below : (info : Info) → 0 < info .eraseSize → All (λ x. x < i
 addresses-below info h =
     all-weaken (λ x. x + info .eraseSize ≤ steps (info .eraseSize) (info .capacity) * info .eraseSize) (λ x. x < info .capacity)
     (eraseAddresses info) (λ x l. omega (arith, rounded-up (info .eraseSize) (info .capacity) h)) (addresses-span info h)
+
+-- Nor is the capacity then over 32 bits.
+pub capacity-fits : (info : Info) → 0 < info .eraseSize → spansTooFar info ≡ false → info .capacity ≤ 0xFFFFFFFF
+unfolding spansTooFar steps
+capacity-fits info h e =
+    let top : (info .capacity + (info .eraseSize - 1)) / info .eraseSize * info .eraseSize ≤ 0xFFFFFFFF =
+    ltb-false 0xFFFFFFFF ((info .capacity + (info .eraseSize - 1)) / info .eraseSize * info .eraseSize) e in
+    omega (arith, top, div-lt-iff-lt-mul {k = info .eraseSize} {x = info .capacity + (info .eraseSize - 1)} {y = (info .capacity + (info .eraseSize - 1)) / info .eraseSize + 1} h .0 (omega arith))

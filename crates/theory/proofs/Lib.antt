@@ -35,6 +35,10 @@ pub mod Examples
 pub mod FlashOrder
 pub mod FlashBound
 pub mod FlashBytes
+pub mod Sizes
+pub mod Driven
+pub mod FlashFrames
+pub mod Handed
 pub mod FlashVerify
 pub mod Rests
 pub mod Instances

@@ -1,6 +1,6 @@
 -- The order of an operation, over any replies: what may be asked after what has been asked and answered.
 -- Assumes nothing.
-use Prim.Native.Nat.{ℕ, _+_, _*_, _≤_}
+use Prim.Native.Nat.{ℕ, _+_, _*_, _≤_, _<_}
 use mathlib.Core.Bool.{Bool, true, false, _&&_, cond}
 use mathlib.Core.List.{List, [], _∷_, _++_, map}
 use mathlib.Core.Option.{Option, none, some}
@@ -31,30 +31,38 @@ pub data Event : Type 0 where
   heard : List ℕ → List ℕ → Event
   failed : Event
 
--- How a conversation stands after some events: it has returned, it was refused, or a request is out.
+-- How a conversation stands after some events: it has returned, it was refused, nothing answered its latest request, or a request is next.
 pub data Stand (A : Type 0) : Type 0 where
   returned : A → Stand A
   refused : ℕ → List ℕ → Stand A
+  lost : Ask → Stand A
   pending : Ask → Stand A
+
+-- A link that failed answers nothing; and where no answer is awaited, none is lost.
+unfoldable pub unanswered : (q : Ask) → Option (Answer q)
+unanswered (select p) = none
+unanswered (demand d) = none
+unanswered (leave d) = some tt
 
 unfoldable pub readEvent : (q : Ask) → Event → Option (Answer q)
 readEvent q (heard image bytes) = reading q image bytes
-readEvent q failed = none
+readEvent q failed = unanswered q
 
 unfoldable pub play : {A : Type 0} → Talk A → List Event → Past → Past × Stand A
 play (return a) es past = (past, returned a)
 play (stop c carries) es past = (past, refused c carries)
 play (report a b m) es past = play m es past
 play (ask q f) [] past = (past, pending q)
-play (ask q f) (e ∷ es) past = onSome (readEvent q e) (past, refused 1 []) (λ a. play (f a) es (record { asked = q; answer = a } ∷ past))
+play (ask q f) (e ∷ es) past = onSome (readEvent q e) (past, lost q) (λ a. play (f a) es (record { asked = q; answer = a } ∷ past))
 
--- The requests of a past, and with the one that is out, the latest first.
+-- The requests of a past, and with the one that nothing answered or that is next, the latest first.
 abbrev pub asks : Past → List Ask
 asks past = map (λ x. x .asked) past
 
 abbrev pub out : {A : Type 0} → Stand A → List Ask
 out (returned a) = []
 out (refused c carries) = []
+out (lost q) = q ∷ []
 out (pending q) = q ∷ []
 
 abbrev pub everything : {A : Type 0} → Past × Stand A → List Ask
@@ -130,28 +138,28 @@ abbrev pub FrontOf : List ℕ → List ℕ → Type 0
 FrontOf all xs = xs ≡ take (length xs) all
 
 -- Info has told this, and that and the image of n bytes lent with it pass.
-pub record Passed (n : ℕ) (past : Past) (info : Info) : Type 0 where
+pub record Passed (n : ℕ) (known : Option (Info × List ℕ)) (info : Info) : Type 0 where
   pub image : List ℕ
-  pub tells : told past ≡ some (info, image)
+  pub tells : known ≡ some (info, image)
   pub fits : tooLarge info n ≡ false
   pub suits : incompatible info image ≡ false
   pub spans : spansTooFar info ≡ false
 
 pub record MayErase (n : ℕ) (past : Past) : Type 0 where
   pub info : Info
-  pub passed : Passed n past info
+  pub passed : Passed n (told past) info
 
 -- And every Erase, the last one too, has been answered Ok.
 pub record MayWrite (n : ℕ) (past : Past) : Type 0 where
   pub info : Info
-  pub passed : Passed n past info
+  pub passed : Passed n (told past) info
   pub cleared : erased past ≡ eraseAddresses info
 
 -- What a flash of an image of n bytes may demand: the Info, first of all; an Erase; the Write that follows on the bytes taken; the Verify.
 pub data InOrder (n : ℕ) (past : Past) (d : Demand) : Type 0 where
   toInform : past ≡ [] → d ≡ infoRequest → InOrder n past d
   toErase : (may : MayErase n past) → d ≡ eraseRequest (may .info) (d .address) → InOrder n past d
-  toWrite : (may : MayWrite n past) → d ≡ writeRequest (may .info) n (written past) → InOrder n past d
+  toWrite : (may : MayWrite n past) → written past < padded n → d ≡ writeRequest (may .info) n (written past) → InOrder n past d
   toVerify : MayWrite n past → written past ≡ padded n → d ≡ verifyRequest n → InOrder n past d
 
 abbrev pub Ordered : ℕ → Past → Ask → Type 0
@@ -179,10 +187,11 @@ abbrev pub Kept : (Past → Ask → Type 0) → Past → Type 0
 Kept R [] = Unit {0}
 Kept R (x ∷ past) = R past (x .asked) × Kept R past
 
--- A request that is out is as R says, and what is returned as Q says.
+-- A request that nothing answered, or that is next, is as R says, and what is returned as Q says.
 abbrev pub Stands : {A : Type 0} → (Past → Ask → Type 0) → (Past → A → Type 0) → Past → Stand A → Type 0
 Stands R Q past (returned a) = Q past a
 Stands R Q past (refused c carries) = Unit {0}
+Stands R Q past (lost q) = R past q
 Stands R Q past (pending q) = R past q
 
 -- A Verify answered with the check of the image lent with the answer.
@@ -208,13 +217,14 @@ pub record Flashed (n : ℕ) (past : Past) (o : Outcome) : Type 0 where
   pub verified : Verified n past
   pub result : o ≡ knows (may .info)
 
--- No request is out.
+-- No request is next.
 abbrev pub Ended : {A : Type 0} → Stand A → Type 0
 Ended (returned a) = Unit {0}
 Ended (refused c carries) = Unit {0}
+Ended (lost q) = Unit {0}
 Ended (pending q) = ⊥
 
--- After these events at most k requests have been asked, the one that is out included; and k events are enough to end.
+-- After these events at most k requests have been asked, the one that is next included; and k events are enough to end.
 pub record Bounded {A : Type 0} (k : ℕ) (es : List Event) (r : Past × Stand A) : Type 0 where
   pub few : length (everything r) ≤ k
   pub ends : k ≤ length es → Ended (r .1)
