@@ -32,14 +32,14 @@ use Rattle.notes.specs.Notes.{noteOf, going, ending, refusing, outcomeNote, ref
 use Rattle.answers.specs.Answers as Answers
 use Rattle.codes.specs.Codes.{coded, Coded, writtenCode, writes, readAs, readUid, putUid}
 use Rattle.codes.proofs.Laws.{code-number}
-use Rattle.lent.specs.Hosts.{codeOf, lent, Exported, Requested, toldBy, leaves, tells, starts, handed, asks, requests}
+use Rattle.lent.specs.Hosts.{codeOf, lent, Requested, toldBy, leaves, tells, starts, handed, asks, requests}
 use Rattle.lent.specs.Exports as Export
 use Rattle.records.specs.Calls.{Call, startSelect, startDeselect, startAttach, startDiscover, startInfo, startErase, startFlash, startReset, startSetBaud, request, record′, linkFailed}
 use Rattle.records.specs.Refusals.{keeps, Begins}
 use Rattle.records.proofs.Refusals.{leaves-kept, select-begins, deselect-begins, attach-begins, attach-to-begins, discover-begins, info-begins, erase-begins, flash-begins, reset-begins, set-baud-begins}
 use Rattle.records.proofs.RefusedRequests.{asked-refused}
 use Rattle.records.proofs.RefusedRecords.{told-refused, failed-refused}
-use Rattle.lasting.specs.Exports.{bufferOf, bufferless, exported, Made, made, held}
+use Rattle.lasting.specs.Exports.{bufferOf, bufferless, exported, made, held}
 
 -- The number of an answer is a byte; one that changes no state is a refusal's.
 refusal-number : (r : Refusal) → (noteOf (Refused r) .number ≡ numberOf r) × (numberOf r < 256)
