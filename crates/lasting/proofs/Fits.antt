@@ -10,7 +10,7 @@ use lib.ListN.{length, drop, replicate, length-take}
 use borrow.Author.Tests.{ltb-false}
 use Rattle.paper.specs.Answers.{Answer, lost, answered, ok, device, answer}
 use Rattle.paper.specs.Client.{payloadOf}
-use Rattle.paper.specs.Frame.{le, frameBytes}
+use Rattle.paper.specs.Frame.{le, Frame, frameBytes}
 use Rattle.paper.specs.Hearing.{bitsOf}
 use Rattle.lore.proofs.Answered.{saidBy, Found, answer-found, answer-end, answer-payload}
 use Rattle.lore.proofs.Fields.{byte-below, bytes-take, bytes-drop}

@@ -35,8 +35,8 @@ use Rattle.codes.proofs.Laws.{code-number}
 use Rattle.lent.specs.Hosts.{codeOf, lent, Requested, toldBy, leaves, tells, starts, handed, asks, requests}
 use Rattle.lent.specs.Exports as Export
 use Rattle.records.specs.Calls.{Call, startSelect, startDeselect, startAttach, startDiscover, startInfo, startErase, startFlash, startReset, startSetBaud, request, record′, linkFailed}
-use Rattle.records.specs.Refusals.{keeps, Begins}
-use Rattle.records.proofs.Refusals.{leaves-kept, select-begins, deselect-begins, attach-begins, attach-to-begins, discover-begins, info-begins, erase-begins, flash-begins, reset-begins, set-baud-begins}
+use Rattle.records.specs.Refusals.{keeps, begins}
+use Rattle.records.proofs.Refusals.{leaves-kept, begins-kept, select-begins, deselect-begins, attach-begins, attach-to-begins, discover-begins, info-begins, erase-begins, flash-begins, reset-begins, set-baud-begins}
 use Rattle.records.proofs.RefusedRequests.{asked-refused}
 use Rattle.records.proofs.RefusedRecords.{told-refused, failed-refused}
 use Rattle.lasting.specs.Exports.{bufferOf, bufferless, exported, made, held}
@@ -98,8 +98,10 @@ abbrev Kept : Client → Call → Type 0
 Kept c call = (made c call .told .client ≡ c) × (made c call .buffer ≡ bufferOf call)
 
 module _ (c : Client) where
-  start-kept : (s : Started) → Begins c s → changesNoState (noteOf (s .says) .number) ≡ true → s .client ≡ c
-  start-kept s b h = let k = refused-with (s .says) h in b .refused (k .0) (k .1 .0) .0
+  start-kept : (s : Started) {good : Bool} {next : Client} → s ≡ begins c good next → changesNoState (noteOf (s .says) .number) ≡ true → s .client ≡ c
+  start-kept s {good} {next} b h =
+      let k = refused-with (s .says) h in
+      ap (λ (x : Started). x .client) b ∙ begins-kept c good next (k .0) (ap (λ (x : Started). x .says) (sym b) ∙ k .1 .0)
 
   pub kept : (call : Call) → changesNoState (noteOf (made c call .told .says) .number) ≡ true → Kept c call
   unfolding made toldBy

@@ -264,7 +264,9 @@ pub fn adverse(judge: &mut Judge, r: &mut Random, runs: usize) {
         let wire = Wire::Adverse(Random::new(r.next()));
         let prefix = if r.one_in(2) { r.bytes(r.clone().below(17)) } else { r.bytes(13 + r.clone().below(4)) };
         let fails_at = r.one_in(10).then(|| r.below(20));
-        judge.run(&mut pair, "adverse", &[15], Operation::Discover(prefix), wire, fails_at);
+        if !judge.run(&mut pair, "adverse", &[15], Operation::Discover(prefix), wire, fails_at) {
+            pair = Pair::new();
+        }
     }
 }
 

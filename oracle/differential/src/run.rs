@@ -43,14 +43,21 @@ pub struct Handed {
     pub progress: Vec<(u64, u64)>,
 }
 
+/// What a client keeps from one operation to the next: the attached id, and the seed.
+#[derive(Debug, Clone, PartialEq, Eq)]
+pub struct State {
+    pub attached: Option<Vec<u8>>,
+    pub seed: u8,
+}
+
 /// All that is compared. There is one `handed` for each request, but for a last one whose sending failed.
 #[derive(Debug, Clone, PartialEq, Eq)]
 pub struct Trace {
+    pub before: State,
     pub requests: Vec<Vec<u8>>,
     pub handed: Vec<Handed>,
     pub end: End,
-    pub attached: Option<Vec<u8>>,
-    pub seed: u8,
+    pub after: State,
     pub rest: Vec<u8>,
 }
 
@@ -60,12 +67,20 @@ impl Trace {
         self.requests.iter().map(Vec::as_slice).zip(&self.handed)
     }
 
+    /// The state after an operation that was refused at a Select or in a flash: "seed and (but for deselects) attached id stay as they are
+    /// then". The seed is that of the last Select.
+    fn stays(&self) -> State {
+        let select = self.requests.iter().rfind(|request| request[1] == 5);
+        State { attached: self.before.attached.clone(), seed: select.map_or(self.before.seed, |request| request[10]) }
+    }
+
     /// How it ended, with its last steps.
     pub fn tail(&self) -> String {
         let last = |n: usize| n.saturating_sub(20);
         let (requests, handed) = (&self.requests[last(self.requests.len())..], &self.handed[last(self.handed.len())..]);
-        let Trace { end, attached, seed, rest, .. } = self;
-        format!("{end:?} {attached:?} {seed} {rest:?}, {} requests, the last {requests:?}, {handed:?}", self.requests.len())
+        let Trace { before, end, after, rest, .. } = self;
+        let n = self.requests.len();
+        format!("{before:?} {end:?} {after:?} {rest:?}, {n} requests, the last {requests:?}, {handed:?}")
     }
 }
 
@@ -186,6 +201,10 @@ impl Rust {
         reference::inner::kept(&mut rust.client, prefix)
     }
 
+    fn state(&self) -> State {
+        State { attached: self.client.uid().map(<[u8]>::to_vec), seed: reference::inner::seed(&self.client) }
+    }
+
     fn begin(&mut self, fails_at: Option<usize>, wire: Wire, kept: &[u8]) {
         let mut port = self.bus.0.borrow_mut();
         *port = Port { wire, fails_at, requests: vec![], heard: kept.to_vec(), read: 0, handed: vec![] };
@@ -193,6 +212,7 @@ impl Rust {
 
     pub fn run(&mut self, operation: &Operation, wire: Wire, fails_at: Option<usize>, kept: &[u8]) -> Trace {
         self.begin(fails_at, wire, kept);
+        let before = self.state();
         let bus = self.bus.clone();
         let mut report = |done: u32, of: u32| {
             let mut port = bus.0.borrow_mut();
@@ -224,11 +244,11 @@ impl Rust {
         };
         let mut port = self.bus.0.borrow_mut();
         Trace {
+            before,
             requests: std::mem::take(&mut port.requests),
             handed: std::mem::take(&mut port.handed),
             end,
-            attached: self.client.uid().map(<[u8]>::to_vec),
-            seed: reference::inner::seed(&self.client),
+            after: self.state(),
             rest: port.heard[port.read..].to_vec(),
         }
     }
@@ -281,6 +301,10 @@ impl Ours {
         Ours { client: Client::new(), buffer: [0; fahireky::REQUEST] }
     }
 
+    fn state(&self) -> State {
+        State { attached: self.client.attached().map(|id| id.bytes().to_vec()), seed: self.client.seed() }
+    }
+
     /// An operation, started while none runs.
     fn start(&mut self, operation: &Operation) -> Result<(), Refusal> {
         let c = &mut self.client;
@@ -322,6 +346,7 @@ impl Ours {
 
     pub fn run(&mut self, operation: &Operation, mut wire: Wire, fails_at: Option<usize>, kept: &[u8], strays: bool) -> Trace {
         let image: &[u8] = if let Operation::Flash(image) = operation { image } else { &[] };
+        let before = self.state();
         let (mut requests, mut handed, mut rest) = (Vec::new(), Vec::new(), kept.to_vec());
         let end = 'run: {
             if let Err(r) = self.start(operation) {
@@ -368,14 +393,7 @@ impl Ours {
                 }
             }
         };
-        Trace {
-            requests,
-            handed,
-            end,
-            attached: self.client.attached().map(|id| id.bytes().to_vec()),
-            seed: self.client.seed(),
-            rest,
-        }
+        Trace { before, requests, handed, end, after: self.state(), rest }
     }
 }
 
@@ -397,6 +415,7 @@ pub fn same(operation: &Operation, rust: &Trace, ours: &Trace, allowed: Allowed)
     if given.is_some_and(|(_, n)| !allowed.contains(&n)) {
         return Err(format!("a refusal that may not occur here: {:?}", ours.end));
     }
+    agree(rust.before == ours.before, "attached id or seed before")?;
     // After a refusal of the port's own the Rust may go on.
     let n = if given.is_some() { ours.requests.len() } else { rust.requests.len() };
     agree(rust.requests.get(..n) == Some(&ours.requests[..]), "requests")?;
@@ -414,10 +433,10 @@ pub fn same(operation: &Operation, rust: &Trace, ours: &Trace, allowed: Allowed)
         return Err(format!("the refusal due is {due:?}, and {given:?} was given"));
     }
     if given.is_some() {
-        return Ok(());
+        return agree(ours.after == ours.stays(), "attached id or seed after a refusal");
     }
     agree(rust.end == ours.end, "end")?;
-    agree((&rust.attached, rust.seed) == (&ours.attached, ours.seed), "attached id or seed")?;
+    agree(rust.after == ours.after, "attached id or seed")?;
     agree(io || rust.rest == ours.rest, "rest")
 }
 

@@ -21,7 +21,9 @@ fn equal_runs_agree() {
 
 #[test]
 fn each_thing_compared_can_disagree() {
-    let changes: [fn(&mut Trace); 11] = [
+    let changes: [fn(&mut Trace); 13] = [
+        |t| t.before.attached = Some(vec![1]),
+        |t| t.before.seed += 1,
         |t| t.requests[3][7] ^= 1,
         |t| drop(t.requests.pop()),
         |t| t.handed[2].record[11] ^= 1,
@@ -30,8 +32,8 @@ fn each_thing_compared_can_disagree() {
         |t| t.handed[1].progress[0].0 += 1,
         |t| t.handed[1].progress.clear(),
         |t| t.end = End::Refused(4, vec![1, 2]),
-        |t| t.attached = Some(vec![1]),
-        |t| t.seed += 1,
+        |t| t.after.attached = Some(vec![1]),
+        |t| t.after.seed += 1,
         |t| t.rest.push(0),
     ];
     for change in changes {
@@ -64,4 +66,20 @@ fn a_refusal_is_excused_only_where_it_may_occur() {
     assert!(same(&operation, &rust, &ours, &[]).is_err());
     assert!(same(&operation, &rust, &ours, &[15, 17, 18, 19]).is_err());
     assert_eq!(same(&operation, &rust, &ours, &[14]), Ok(()));
+}
+
+#[test]
+fn a_refusal_leaves_the_attached_id_and_the_seed_of_its_select() {
+    let operation = Operation::Select(vec![], 0);
+    let changes: [fn(&mut Trace); 3] = [
+        |t| t.after.attached = Some(vec![0; 16]),
+        |t| t.after.seed += 1,
+        |t| t.after.seed -= 1,
+    ];
+    for change in changes {
+        let (rust, mut ours) = both(&operation, Wire::Scripted(vec![reply(5, 1, &[0; 17])]), None);
+        assert_eq!(same(&operation, &rust, &ours, &[14]), Ok(()));
+        change(&mut ours);
+        assert!(same(&operation, &rust, &ours, &[14]).is_err());
+    }
 }

@@ -71,7 +71,7 @@ fn shown(trace: &Trace, awaited: bool) -> String {
         }
         End::Refused(n, _) => writeln!(out, "= {n:08x}").unwrap(),
     }
-    writeln!(out, "s {:08x} {}", trace.seed, hex(trace.attached.as_deref().unwrap_or(&[]))).unwrap();
+    writeln!(out, "s {:08x} {}", trace.after.seed, hex(trace.after.attached.as_deref().unwrap_or(&[]))).unwrap();
     out
 }
 
