@@ -6,7 +6,7 @@
  * lent to one call must not overlap.
  *
  * A host starts an operation, then, until it has ended, asks for a request, sends its bytes, and hands in the bytes heard, or says that
- * the link failed. Bytes after the frame that answered stay unread: the answer says where they begin, and the host puts them before the
+ * the link failed. With the request of a reset that is not awaited the operation has ended, and the answer to asking says so. Bytes after the frame that answered stay unread: the answer says where they begin, and the host puts them before the
  * next record. A Select consumes everything.
  *
  * Each call writes its answer into a buffer of FAHIREKY_ANSWER bytes, and returns a code: in its low byte the number of the refusal, 0
@@ -48,7 +48,7 @@ extern "C" {
 /* The answer's bytes, numbers little-endian. What an answer does not have is zero. */
 enum {
     FAHIREKY_AT_NUMBER = 0,    /* as in the code */
-    FAHIREKY_AT_SAYS = 1,      /* 0 goes on, 1 a request is granted, 2 has ended, 3 refused */
+    FAHIREKY_AT_SAYS = 1,      /* one of the five below */
     FAHIREKY_AT_OUTCOME = 2,   /* of an end: 0 quiet, 1 heard, 2 attached, 3 found, 4 device information, 5 unaddressed */
     FAHIREKY_AT_HEARD = 3,     /* 0 nothing, 1 one id, 3 unaddressed, 4 garble */
     FAHIREKY_AT_ANY = 4,       /* 1 where an id is attached */
@@ -66,6 +66,15 @@ enum {
     FAHIREKY_AT_IDS = 83,      /* 64 rows of 16 bytes: the ids found, sorted */
     FAHIREKY_AT_LENGTHS = 1107, /* 64 bytes: their lengths */
     FAHIREKY_AT_COUNT = 1171,  /* 8 bytes: how many they are */
+};
+
+/* What an answer says. */
+enum {
+    FAHIREKY_ONWARD = 0,       /* the operation goes on: the next request can be asked for */
+    FAHIREKY_GRANTED = 1,      /* a request stands in the buffer, and its answer is awaited */
+    FAHIREKY_ENDED = 2,        /* the operation has ended, with an outcome */
+    FAHIREKY_REFUSED = 3,      /* the call was refused, with a number */
+    FAHIREKY_CLOSING = 4,      /* a request stands in the buffer, and with it the operation has succeeded: no record is handed in */
 };
 
 /* A Select of the first so many bits of a prefix: ends with what it heard. 21, 13. */
@@ -88,13 +97,14 @@ uint64_t fahireky_start_erase(uint8_t *state, size_t state_len, uint8_t *answer,
 /* Flashes an image: ends with the device information. The image is lent anew to each call. 21. */
 uint64_t fahireky_start_flash(uint8_t *state, size_t state_len, const uint8_t *image, size_t image_len,
                               uint8_t *answer, size_t answer_len);
-/* Resets into the bootloader or the app. In boot the answer is awaited; else it has ended once its request is granted. 21. */
+/* Resets into the bootloader or the app. In boot the answer is awaited; else it has ended once its request stands in the buffer, and asking
+ * for that says so (FAHIREKY_CLOSING). 21. */
 uint64_t fahireky_start_reset(uint8_t *state, size_t state_len, bool bootloader, bool in_boot, uint8_t *answer, size_t answer_len);
 /* As a reset, with a baud to store for the bootloader. 21. */
 uint64_t fahireky_start_set_baud(uint8_t *state, size_t state_len, uint8_t baud, bool bootloader, bool in_boot,
                                  uint8_t *answer, size_t answer_len);
 
-/* The next request, at the front of the buffer: its length is in the code. 21 where nothing runs or a request is out, 20, 16. An
+/* The next request, at the front of the buffer: its length is in the code, and the answer says whether its own answer is awaited. 21 where nothing runs or a request is out, 20, 16. An
  * operation other than a flash takes any image, also none. */
 uint64_t fahireky_request(uint8_t *state, size_t state_len, const uint8_t *image, size_t image_len, uint8_t *buffer, size_t buffer_len,
                           uint8_t *answer, size_t answer_len);

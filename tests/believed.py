@@ -204,7 +204,14 @@ def meaning(module, name):
     crate, folder, rest = m.groups()
     if rest.startswith("declared."):
         return of_code(crate, rest.split(".")[1])
+    if folder == "proofs" and is_function(crate, rest.split(".")[-1]):
+        return Kit(module, name)  # a function's contract, as the checker makes it of the code
     return file(root / "crates" / crate / folder / f"{rest.replace('.', '/')}.antt").known.get(name)
+
+
+def is_function(crate, name):
+    """Whether a crate's code has a function of this name."""
+    return any(re.search(rf"\bfn {name}\(", path.read_text()) for path in (root / "crates" / crate / "src").glob("*.rt"))
 
 
 def of_code(crate, name):

@@ -72,10 +72,11 @@ class Player:
         answer = self.paper["Talk.Answer"](q)
         asked = self.call("request", self.client, self.image, listed([0xC3] * 1036))
         says, buffer = plain(asked["says"]), plain(asked["buffer"])
-        if says[0] != "Client.granted" or buffer[says[1]:] != [0xC3] * (1036 - says[1]):
+        self.client, self.awaited = force(asked["client"]), answer is not True
+        granted = "Client.granted" if self.awaited else "Client.closing"
+        if says[0] != granted or buffer[says[1]:] != [0xC3] * (1036 - says[1]):
             raise AssertionError(f"a request that is not granted as it should be: {says}")
         self.out.append("> " + bytes(buffer[:says[1]]).hex())
-        self.client, self.awaited = force(asked["client"]), answer is not True
         if self.awaited and answer != ("type", "Heard" if buffer[1] == 5 else "Answered"):
             raise AssertionError(f"a request of command {buffer[1]} that wants {answer}")
         if not self.awaited:

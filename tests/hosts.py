@@ -15,9 +15,9 @@ root = pathlib.Path(__file__).resolve().parent.parent
 library = root / "target/staticlib/libhost.a"
 crate = root / "bindings/rust"
 drivers = ["hostile.c", "trial.c"]
-expected = """11223344: flashed
-11223345: flashed
-f0000001: flashed
+expected = """11223344: flashed, and reset
+11223345: flashed, and reset
+f0000001: flashed, and reset
 3 pods hold the image
 """
 

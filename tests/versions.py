@@ -1,4 +1,4 @@
-"""Wrong versions that change code and contract together: the changed crate is still proved, and what is promised of it is refused.
+r"""Wrong versions that change code and contract together: the changed crate is still proved, and what is promised of it is refused.
 
 A file of tests/versions is a round: its versions are tried at once, in a copy of the repository with its target. A version is
 
@@ -8,7 +8,7 @@ A file of tests/versions is a round: its versions are tried at once, in a copy o
     refused: crates/NAME/FILE THEOREM    where the check of NAME must refuse it: at that theorem, and not for what another one lacks
     file: PATH                           an edit, and as many more as it takes; the text stands once in the file, in lines of any layout
     old: TEXT
-    new: TEXT
+    new: TEXT                            where \n ends a line
 
 python3 tests/versions.py [FILE ..]      the verdict; all of tests/versions by default
 """
@@ -60,7 +60,7 @@ def applied(version, tree):
         places = list(re.finditer(r"\s+".join(re.escape(word) for word in old.split()), text))
         if len(places) != 1:
             return f"{version.label}: {path} has {len(places)} times: {old}"
-        file.write_text(text[: places[0].start()] + new + text[places[0].end() :])
+        file.write_text(text[: places[0].start()] + new.replace("\\n", "\n") + text[places[0].end() :])
     return None
 
 

@@ -1,4 +1,4 @@
-/* A host in C over a simulated wire: it finds the pods, attaches to each, flashes it, and looks at what the pod holds. */
+/* A host in C over a simulated wire: it finds the pods, attaches to each, flashes and resets it, and looks at what the pod holds. */
 #include "../fahireky.h"
 
 #include <stdio.h>
@@ -130,7 +130,10 @@ static void run(const uint8_t *image, size_t image_len)
     do {
         uint64_t code = fahireky_request(state, sizeof state, image, image_len, buffer, sizeof buffer, answer, sizeof answer);
         expect(FAHIREKY_NUMBER(code) == 0, "a request");
+        bool awaited = answer[FAHIREKY_AT_SAYS] == FAHIREKY_GRANTED;
         size_t n = kept + wire(buffer, FAHIREKY_LENGTH(code), record + kept);
+        if (!awaited)
+            return;
         code = fahireky_record(state, sizeof state, image, image_len, record, n, answer, sizeof answer);
         expect(FAHIREKY_NUMBER(code) == 0, "a record");
         uint64_t rest;
@@ -138,7 +141,7 @@ static void run(const uint8_t *image, size_t image_len)
         size_t at = fahireky_rest(record, n, (size_t)rest);
         kept = n - at;
         memmove(record, record + at, kept);
-    } while (answer[FAHIREKY_AT_SAYS] == 0);
+    } while (answer[FAHIREKY_AT_SAYS] == FAHIREKY_ONWARD);
 }
 
 int main(void)
@@ -163,7 +166,10 @@ int main(void)
         run(NULL, 0);
         fahireky_start_flash(state, sizeof state, image, sizeof image, answer, sizeof answer);
         run(image, sizeof image);
-        printf("flashed\n");
+        fahireky_start_reset(state, sizeof state, false, false, answer, sizeof answer);
+        run(NULL, 0);
+        expect(answer[FAHIREKY_AT_SAYS] == FAHIREKY_CLOSING, "a reset that is not awaited");
+        printf("flashed, and reset\n");
     }
     for (int i = 0; i < PODS; i++)
         expect(memcmp(pods[i].flash, image, sizeof image) == 0, "what the pod holds");

@@ -348,8 +348,8 @@ static void learn(struct wire *w, const struct outcome *x)
     }
     if (number == 13 || number == 16 || number == 20 || number == 21)
         return;
-    w->phase = says == 0 ? READY : says == 1 ? WAITING : IDLE;
-    if (says == 1) {
+    w->phase = says == FAHIREKY_ONWARD ? READY : says == FAHIREKY_GRANTED ? WAITING : IDLE;
+    if (says == FAHIREKY_GRANTED) {
         w->request_len = FAHIREKY_LENGTH(x->code);
         memcpy(w->request, x->bytes[OUT], w->request_len);
     }

@@ -251,8 +251,9 @@ static void judge_answer(const uint8_t *a, uint64_t code)
     unsigned number = FAHIREKY_NUMBER(code), says = a[FAHIREKY_AT_SAYS], outcome = a[FAHIREKY_AT_OUTCOME];
     uint64_t rest = number_at(a + FAHIREKY_AT_REST, 8);
     must(a[FAHIREKY_AT_NUMBER] == number && number_at(a + FAHIREKY_AT_LENGTH, 8) == FAHIREKY_LENGTH(code), "the answer's code", code);
-    must(says == 3 ? number >= 1 && number <= 22 : number == (says == 2 && outcome == 5 ? 23 : 0), "what the answer says", code);
-    must(says <= 3 && outcome <= 5 && (says == 2 || outcome == 0) && (says == 1) == (call.what == REQUEST && number == 0), "says", code);
+    must(says == FAHIREKY_REFUSED ? number >= 1 && number <= 22 : number == (says == FAHIREKY_ENDED && outcome == 5 ? 23 : 0), "what the answer says", code);
+    must(says <= FAHIREKY_CLOSING && outcome <= 5 && (says == FAHIREKY_ENDED || outcome == 0), "says", code);
+    must((says == FAHIREKY_GRANTED || says == FAHIREKY_CLOSING) == (call.what == REQUEST && number == 0), "says of a request", code);
     must(call.what == TOLD ? rest <= call.len[RECORD] : rest == 0, "the rest", code);
     must(call.what != TOLD || number != 1 || rest == call.len[RECORD], "the rest after 1", code);
     must(!(KEEPING >> number & 1) || rest == 0, "the rest after a refusal that changes nothing", code);
@@ -338,15 +339,18 @@ static void judge(const struct outcome *x)
     must(FAHIREKY_LENGTH(code) == 0 || (call.what == REQUEST && (number == 0 || number == 16)), "a length that is none", code);
     judge_answer(x->bytes[ANSWER], code);
     judge_ids(x->bytes[ANSWER], code);
-    if (call.what == REQUEST && number == 0)
+    uint8_t says = x->bytes[ANSWER][FAHIREKY_AT_SAYS];
+    if (call.what == REQUEST && number == 0) {
         judge_request(x->bytes[OUT], code);
+        must(says != FAHIREKY_CLOSING || x->bytes[OUT][1] == 4, "a request that is not awaited and no reset", code);
+    }
     if (call.what == REQUEST && number == 16)
         must(FAHIREKY_LENGTH(code) > call.len[OUT] && FAHIREKY_LENGTH(code) <= FAHIREKY_REQUEST, "the length lacked", code);
     if (!(exports[call.what].written & S))
         return;
     if (ENDING >> number & 1)
         judge_refused(x);
-    if ((ENDING >> number & 1) || x->bytes[ANSWER][FAHIREKY_AT_SAYS] == 2)
+    if ((ENDING >> number & 1) || says == FAHIREKY_ENDED || says == FAHIREKY_CLOSING)
         judge_ended(x->bytes[STATE], code);
 }
 
@@ -374,7 +378,7 @@ const struct outcome *tried(bool low)
     met[call.what][plain(call.what) ? 0 : FAHIREKY_NUMBER(one.code)]++;
     if (call.what == REQUEST && FAHIREKY_NUMBER(one.code) == 0)
         granted[one.bytes[OUT][1]]++;
-    if (call.what == TOLD && written(ANSWER, one.code) && one.bytes[ANSWER][FAHIREKY_AT_SAYS] == 2)
+    if (call.what == TOLD && written(ANSWER, one.code) && one.bytes[ANSWER][FAHIREKY_AT_SAYS] == FAHIREKY_ENDED)
         ended[one.bytes[ANSWER][FAHIREKY_AT_OUTCOME]]++;
     return &one;
 }

@@ -1,4 +1,4 @@
-//! A host in Rust over a simulated wire: it finds the pods, attaches to each, flashes it, and looks at what the pod holds.
+//! A host in Rust over a simulated wire: it finds the pods, attaches to each, flashes and resets it, and looks at what the pod holds.
 
 use fahireky::{Client, Next, Outcome, Refusal};
 
@@ -71,8 +71,11 @@ fn run(client: &mut Client, image: &[u8], wire: &mut Wire) -> Result<Outcome, Re
     let mut buffer = [0; fahireky::REQUEST];
     let mut record = Vec::new();
     loop {
-        let n = client.request(image, &mut buffer)?;
-        record.extend(wire.heard(&buffer[..n]));
+        let request = client.request(image, &mut buffer)?;
+        record.extend(wire.heard(&buffer[..request.len]));
+        if !request.awaited {
+            return Ok(Outcome::Quiet);
+        }
         let told = client.record(image, &record);
         record = fahireky::rest(&record, told.rest).to_vec();
         if let Next::Over(outcome) = told.answer? {
@@ -96,7 +99,9 @@ fn main() -> Result<(), Refusal> {
         run(&mut client, &[], &mut wire)?;
         client.start_flash(&image)?;
         run(&mut client, &image, &mut wire)?;
-        println!("{}: flashed", id.text());
+        client.start_reset(false, false)?;
+        run(&mut client, &[], &mut wire)?;
+        println!("{}: flashed, and reset", id.text());
     }
     assert!(wire.pods.iter().all(|p| p.flash[..image.len()] == image));
     println!("{} pods hold the image", found.len());

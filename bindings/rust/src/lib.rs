@@ -11,8 +11,11 @@
 //! let mut buffer = [0; fahireky::REQUEST];
 //! client.start_discover(&[])?;
 //! let found = loop {
-//!     let n = client.request(&[], &mut buffer)?;
-//!     let heard: Vec<u8> = silent_wire(&buffer[..n]);
+//!     let request = client.request(&[], &mut buffer)?;
+//!     let heard: Vec<u8> = silent_wire(&buffer[..request.len]);
+//!     if !request.awaited {
+//!         break Outcome::Quiet;
+//!     }
 //!     match client.record(&[], &heard).answer? {
 //!         Next::Onward => {}
 //!         Next::Over(outcome) => break outcome,
@@ -22,6 +25,9 @@
 //! # fn silent_wire(_request: &[u8]) -> Vec<u8> { vec![] }
 //! # Ok::<(), fahireky::Refusal>(())
 //! ```
+//!
+//! With a reset that is not awaited the operation has ended once its request stands in the buffer: [`Request::awaited`] says so. A discovery
+//! has no such request; the loop above is that of any operation.
 //!
 //! A request with one answer leaves what follows the answer unread: [`Told::rest`] says where that begins, and the host puts it before
 //! the next record.
@@ -185,6 +191,15 @@ impl core::fmt::Display for Refusal {
 
 impl core::error::Error for Refusal {}
 
+/// A request at the front of the buffer.
+#[derive(Debug, Clone, Copy, PartialEq, Eq)]
+pub struct Request {
+    /// Its length.
+    pub len: usize,
+    /// Whether an answer is awaited. If not, the operation has succeeded, and no record is handed in.
+    pub awaited: bool,
+}
+
 /// The operation goes on, or has ended.
 #[derive(Debug, Clone, PartialEq, Eq)]
 pub enum Next {
@@ -279,7 +294,8 @@ impl Client {
         self.started(|s, a| raw::start_flash(s, image, a))
     }
 
-    /// Resets into the bootloader or the app. In boot the answer is awaited; else the reset has succeeded once its request is handed out.
+    /// Resets into the bootloader or the app. In boot the answer is awaited; else the reset has succeeded once its request is handed out,
+    /// and [`Request::awaited`] says so.
     pub fn start_reset(&mut self, bootloader: bool, in_boot: bool) -> Result<(), Refusal> {
         self.started(|s, a| raw::start_reset(s, bootloader, in_boot, a))
     }
@@ -289,13 +305,13 @@ impl Client {
         self.started(|s, a| raw::start_set_baud(s, baud, bootloader, in_boot, a))
     }
 
-    /// The next request, at the front of the buffer: its length. A refused one writes nothing.
-    pub fn request(&mut self, image: &[u8], buffer: &mut [u8]) -> Result<usize, Refusal> {
+    /// The next request, at the front of the buffer. A refused one writes nothing.
+    pub fn request(&mut self, image: &[u8], buffer: &mut [u8]) -> Result<Request, Refusal> {
         let mut answer = Answer::new();
         raw::request(&mut self.state, image, buffer, answer.room());
         match answer.refusal() {
             Some(r) => Err(r),
-            None => Ok(answer.length()),
+            None => Ok(answer.request()),
         }
     }
 

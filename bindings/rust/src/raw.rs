@@ -2,7 +2,7 @@
 //!
 //! The layouts are those of fahireky.h.
 
-use crate::{Heard, Id, Info, LONGEST, Next, Outcome, Refusal, Told};
+use crate::{Heard, Id, Info, LONGEST, Next, Outcome, Refusal, Request, Told};
 
 /// The bytes of a state.
 pub const STATE: usize = 1352;
@@ -141,8 +141,13 @@ impl Answer {
         u64::from_le_bytes(self.field(at))
     }
 
-    pub fn length(&self) -> usize {
+    fn length(&self) -> usize {
         self.u64(16) as usize
+    }
+
+    /// The request that was granted.
+    pub fn request(&self) -> Request {
+        Request { len: self.length(), awaited: self.0[1] == 1 }
     }
 
     fn id(&self, at: usize) -> Id {

@@ -1,6 +1,6 @@
 //! The calls as a user meets them: refusals in their order, what they leave, and a state that is kept and taken up again.
 
-use fahireky::{Client, Heard, Id, Next, Outcome, Refusal, STATE};
+use fahireky::{Client, Heard, Id, Next, Outcome, Refusal, Request, STATE};
 
 fn reply(status: u8, payload: &[u8]) -> Vec<u8> {
     let mut frame = vec![0xA5, 5, status, 0, 0, 0, 0, 0, payload.len() as u8, 0];
@@ -14,7 +14,7 @@ fn a_plain_select() {
     let mut c = Client::new();
     c.start_select(&[0b101], 3).unwrap();
     let mut buffer = [0xEE; 32];
-    let n = c.request(&[], &mut buffer).unwrap();
+    let n = c.request(&[], &mut buffer).unwrap().len;
     assert_eq!(&buffer[..n - 2], [0xA5, 5, 0, 0, 0, 0, 0, 0, 3, 0, 1, 3, 5]);
     assert!(buffer[n..].iter().all(|&b| b == 0xEE));
     let told = c.record(&[], &reply(1, &[7, 8]));
@@ -42,7 +42,7 @@ fn a_flash_wants_its_image() {
     let mut c = Client::new();
     c.start_flash(&[1, 2, 3]).unwrap();
     assert_eq!(c.request(&[1, 2], &mut [0; 64]), Err(Refusal::OtherImage));
-    assert_eq!(c.request(&[1, 2, 3], &mut [0; 64]), Ok(12));
+    assert_eq!(c.request(&[1, 2, 3], &mut [0; 64]), Ok(Request { len: 12, awaited: true }));
     let told = c.record(&[], &[1, 2, 3]);
     assert_eq!((told.answer, told.rest), (Err(Refusal::OtherImage), 0));
     assert_eq!(c.record(&[1, 2, 3], &reply(7, &[])).answer, Err(Refusal::Device(7)));
@@ -53,7 +53,7 @@ fn a_reset_that_is_not_awaited_ends_with_its_request() {
     let mut c = Client::new();
     c.start_set_baud(3, true, false).unwrap();
     let mut buffer = [0; 12];
-    assert_eq!(c.request(&[], &mut buffer), Ok(12));
+    assert_eq!(c.request(&[], &mut buffer), Ok(Request { len: 12, awaited: false }));
     assert_eq!(&buffer[..10], [0xA5, 4, 0, 3, 3, 0, 0, 0, 0, 0]);
     assert!(c == Client::new());
 }

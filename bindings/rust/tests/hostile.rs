@@ -167,7 +167,7 @@ impl Side {
             },
             |(r, _)| r.err(),
         );
-        let n = told.unwrap_or(0);
+        let n = told.map_or(0, |r| r.len);
         assert_eq!(buffer[n..], room[n..]);
         if told.is_ok() {
             assert_eq!(fahireky::crc16(0xFFFF, &buffer[..n - 2]).to_le_bytes(), buffer[n - 2..n]);

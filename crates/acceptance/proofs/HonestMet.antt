@@ -1,4 +1,4 @@
--- Wires that meet condition 3's premise: honest in the Selects that a discovery sends before its deselect, and not in all.
+-- What meets the premise of condition 3: wires that are honest in the Selects that a discovery sends before its deselect, and not in all.
 -- Assumes nothing.
 use Prim.Native.Nat.{ℕ, suc, _+_, _%_, _≤_}
 use mathlib.Core.Bool.{Bool, true, false, _||_, cond}

@@ -50,7 +50,7 @@ use Rattle.host.proofs.fahireky_uid_hex as FahirekyUidHex
 use Rattle.host.proofs.fahireky_parse_uid as FahirekyParseUid
 use Rattle.host.proofs.fahireky_image_compat as FahirekyImageCompat
 use Rattle.host.proofs.fahireky_crc16 as FahirekyCrc16
-use Rattle.acceptance.proofs.Contracts.{Contract, DeterminedBy, Determined, agree}
+use Rattle.acceptance.proofs.Contracts.{DeterminedBy, Determined, agree}
 
 -- The client's calls, and the calls beside it.
 pub new-determined : Determined (record { ended = ClientNew.ended; clauses = ClientNew.clauses })

@@ -33,7 +33,7 @@ use Rattle.lent.specs.Hosts.{Exported, Requested, handed}
 use Rattle.lent.specs.Exports as Export
 use Rattle.records.specs.Calls.{startSelect, startDeselect, startAttach, startDiscover, startInfo, startErase, startFlash, startReset, startSetBaud, request, record′, linkFailed}
 use Rattle.lasting.specs.Exports.{bufferless, exported}
-use Rattle.acceptance.proofs.Contracts.{Contract, Is, first, second, third, fourth, fifth}
+use Rattle.acceptance.proofs.Contracts.{Is, first, second, third, fourth, fifth}
 
 -- What is equal with no request's buffer is equal with none beside it.
 promised : {M : Type 1} (𝓤 : URA M) (x y : Exported) → fact 𝓤 (x ≡ y) ≡ fact 𝓤 (bufferless x ≡ bufferless y)

@@ -12,7 +12,6 @@ use Rattle.lore.proofs.Choice.{by-test}
 use Rattle.lore.proofs.Words.{Bytes}
 use Rattle.client.specs.declared.Client.{Client}
 use Rattle.client.specs.declared.Started.{Started}
-use Rattle.client.specs.declared.Told.{Told}
 use Rattle.client.specs.Clients.{fresh, attached}
 use Rattle.client.specs.Numbers.{changesNoState}
 use Rattle.state.specs.States as State

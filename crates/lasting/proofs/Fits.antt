@@ -1,15 +1,17 @@
 -- A client that fits fits after every call: each start, a request, a record of bytes, a failed link.
 -- Assumes nothing.
-use Prim.Native.Nat.{ℕ, _+_, _-_, _*_, _<_, _≤_, _^_}
+use Prim.Native.Nat.{ℕ, _+_, _-_, _*_, _%_, _<_, _≤_, _^_}
 use mathlib.Core.Bool.{Bool, true, false, cond}
-use mathlib.Core.List.{List}
+use mathlib.Core.List.{List, _++_}
 use mathlib.Core.Path.{_≡_, refl, sym, ap, subst}
 use native.Mathlib.Omega.{arith}
 use lib.Dec.{ltb, eqb}
-use lib.ListN.{length, drop, length-take}
+use lib.ListN.{length, drop, replicate, length-take}
 use borrow.Author.Tests.{ltb-false}
 use Rattle.paper.specs.Answers.{Answer, lost, answered, ok, device, answer}
-use Rattle.paper.specs.Frame.{Frame, frameBytes}
+use Rattle.paper.specs.Client.{payloadOf}
+use Rattle.paper.specs.Frame.{le, Frame, frameBytes}
+use Rattle.paper.specs.Hearing.{bitsOf}
 use Rattle.lore.proofs.Answered.{saidBy, Found, answer-found, answer-end, answer-payload}
 use Rattle.lore.proofs.Fields.{byte-below, bytes-take, bytes-drop}
 use Rattle.lore.proofs.Frames.{frame-length}
@@ -17,9 +19,9 @@ use Rattle.lore.proofs.Readings.{Read, read-known}
 use Rattle.lore.proofs.Words.{Bytes}
 use Rattle.ids.specs.declared.Id.{Id}
 use Rattle.ids.specs.Ids.{noId, idOf, idFrom}
-use Rattle.wire.specs.declared.Written.{Written}
-use Rattle.wire.specs.declared.Written.the-variants as Written
-use Rattle.frame.specs.Writing as Writing
+use Rattle.theory.proofs.FlashBytes.{write-carries}
+use Rattle.image.specs.Images.{paperInfo}
+use Rattle.select.specs.Selects.{asked}
 use Rattle.hearing.specs.declared.Heard.{Heard}
 use Rattle.hearing.specs.declared.Heard.the-variants as Heard
 use Rattle.table.specs.declared.Table.{Table}
@@ -27,12 +29,14 @@ use Rattle.table.specs.Rows.{noTable}
 use Rattle.walk.specs.declared.Walk.{Walk}
 use Rattle.walk.specs.declared.Phase.the-variants.{Asked}
 use Rattle.walk.specs.Moves.{noWalk, begin}
+use Rattle.steps.specs.declared.End.{End}
+use Rattle.steps.specs.declared.End.the-variants as End
 use Rattle.steps.specs.declared.Goes.{Goes}
 use Rattle.steps.specs.declared.Goes.the-variants as Goes
 use Rattle.steps.specs.Steps as Steps
 use Rattle.client.specs.declared.Client.{Client}
 use Rattle.client.specs.declared.Job.{Job}
-use Rattle.client.specs.declared.Job.the-variants.{Informing, Resetting}
+use Rattle.client.specs.declared.Job.the-variants.{Informing, Erasing, Writing, Verifying, Resetting}
 use Rattle.client.specs.declared.Phase.{Phase}
 use Rattle.client.specs.declared.Phase.the-variants.{Select, Demand, Leave}
 use Rattle.client.specs.declared.Progress.{Progress}
@@ -50,7 +54,8 @@ use Rattle.client.specs.declared.Turn.{Turn}
 use Rattle.client.specs.declared.Turn.the-variants.{Idle, Ready, Waiting}
 use Rattle.client.specs.Clients.{onTurn, otherImage, begun, idle, turned, holding, cleared, running, refuse, refuses, over, stops, onward, making}
 use Rattle.starting.specs.Starting.{starts, demands, badPrefix, startSelect, startDeselect, startAttach, startAttachTo, startDiscover, startInfo, startErase, startFlash, resets, startReset, startSetBaud}
-use Rattle.asking.specs.Asking.{granted, Asking, handing, seeded, nextSeed, selects, askedFor, withheld, request}
+use Rattle.demands.specs.Demands.{demandOf}
+use Rattle.asking.specs.Asking.{asks, nextSeed, seeded, searchFrame, frameOf, handing, handed, Asking, withheld, granting, askedFor, request}
 use Rattle.flashing.specs.declared.Next.{Next}
 use Rattle.flashing.specs.declared.Then.{Then}
 use Rattle.flashing.specs.declared.Then.the-variants.{On, Over, Refused}
@@ -61,6 +66,7 @@ use Rattle.flat.specs.Turns.{sizeOf}
 use Rattle.notes.specs.Notes.{heardTag, outcomeNote, refusalNote, noteOf}
 use Rattle.state.specs.States.{IdFits, TableFits, WalkFits, Fits}
 use Rattle.state.proofs.Laws.{no-id-fits, no-table-fits, no-walk-fits}
+use Rattle.records.proofs.Requests.{payload-length}
 use Rattle.lasting.proofs.Arrays.{chosen, id-from-fits, heard-fits}
 use Rattle.lasting.proofs.Walks.{standing-fits, step-fits}
 use Rattle.lasting.proofs.Turns.{PhaseFits, TurnFits, JobFits, turn-flat, turn-back}
@@ -174,37 +180,40 @@ module _ (c : Client) (h : Fits c) where
   unfolding startSetBaud
   set-baud-fits baud bootloader inBoot k = resets-fits _ inBoot k
 
--- A request: no frame is longer than 1,036 bytes.
-abbrev WrittenFits : Written → Type 0
-WrittenFits (Written.Done n) = n < 2 ^ 64
-WrittenFits (Written.Short n) = n < 2 ^ 64
-WrittenFits Written.TooLong = Unit {0}
+-- A request: of every client, none has more than 1,024 bytes of payload.
+payload-short : (c : Client) (p : Phase) (image : List ℕ) → length (frameOf c p image .payload) ≤ 1024
+unfolding frameOf searchFrame demandOf payloadOf le
+payload-short c (Select s) image =
+    omega (arith, payload-length (nextSeed (c .seed)) (asked (asks c s .bits) (asks c s .count % 256)), length-take (asks c s .count % 256) (bitsOf (asks c s .bits) ++ replicate 127 false))
+payload-short c (Demand (Informing why)) image = omega arith
+payload-short c (Demand (Erasing why info address)) image = omega arith
+payload-short c (Demand (Writing n info offset retries)) image = omega (arith, write-carries (paperInfo info) image offset .all, write-carries (paperInfo info) image offset .fits)
+payload-short c (Demand (Verifying n info)) image = omega arith
+payload-short c (Demand (Resetting reset)) image = omega arith
+payload-short c (Leave reset) image = omega arith
 
-written-fits : (f : Frame) (buffer : List ℕ) → WrittenFits (Writing.written f buffer .answer)
-unfolding Writing.written Writing.placed
-written-fits f buffer =
-    chosen Right (ltb 1024 (length (f .payload))) _ _ (λ e. tt)
-    (λ e. chosen Right (ltb (length buffer) (length (frameBytes f))) _ _ (λ t. small (ltb-false 1024 (length (f .payload)) e)) (λ t. small (ltb-false 1024 (length (f .payload)) e)))
-  where
-    Right : Writing.Outcome → Type 0
-    Right o = WrittenFits (o .answer)
+frame-small : (c : Client) (p : Phase) (image : List ℕ) → length (frameBytes (frameOf c p image)) < 2 ^ 64
+frame-small c p image = omega (arith, frame-length (frameOf c p image), payload-short c p image)
 
-    small : length (f .payload) ≤ 1024 → length (frameBytes f) < 2 ^ 64
-    small k = omega (arith, frame-length f)
+handing-fits : (p : Phase) (n : ℕ) → n < 2 ^ 64 → SaysFits (handing p n)
+unfolding handing noteOf
+handing-fits (Select s) n k = going-fits 1 n k
+handing-fits (Demand j) n k = going-fits 1 n k
+handing-fits (Leave reset) n k = going-fits 4 n k
 
 module _ (c : Client) (h : Fits c) where
-  granted-fits : (next : Client) → Fits next → (w : Written) → WrittenFits w → StartedFits (granted c next w)
-  unfolding granted noteOf refusalNote
-  granted-fits next k (Written.Done n) s = record { client = k; says = going-fits 1 n s }
-  granted-fits next k (Written.Short n) s = refuse-fits c h (ShortBuffer n) (refusing-fits _ false n 0 0 s (omega arith) (omega arith))
-  granted-fits next k Written.TooLong s = refuse-fits c h OutOfTurn (bare-fits _)
+  handed-fits : (p : Phase) → PhaseFits p → Fits (handed c p)
+  unfolding handed
+  handed-fits (Select s) k = seeded-fits (turned c (Waiting (Select s))) (turned-fits c h (Waiting (Select s)) k) (nextSeed (c .seed)) (omega arith)
+  handed-fits (Demand j) k = turned-fits c h (Waiting (Demand j)) k
+  handed-fits (Leave reset) k = idle-fits c h
 
   asked-fits : (p : Phase) → PhaseFits p → (image buffer : List ℕ) → StartedFits (askedFor c p image buffer .answer)
-  unfolding askedFor selects handing
-  asked-fits (Select s) k image buffer =
-      granted-fits _ (seeded-fits (turned c (Waiting (Select s))) (turned-fits c h (Waiting (Select s)) k) (nextSeed (c .seed)) (omega arith)) _ (written-fits _ buffer)
-  asked-fits (Demand j) k image buffer = granted-fits _ (turned-fits c h (Waiting (Demand j)) k) _ (written-fits _ buffer)
-  asked-fits (Leave reset) k image buffer = granted-fits _ (idle-fits c h) _ (written-fits _ buffer)
+  unfolding askedFor granting noteOf refusalNote
+  asked-fits p k image buffer =
+      chosen (λ (o : Asking). StartedFits (o .answer)) (ltb (length buffer) (length (frameBytes (frameOf c p image)))) _ _
+      (λ e. refuse-fits c h (ShortBuffer _) (refusing-fits _ false _ 0 0 (frame-small c p image) (omega arith) (omega arith)))
+      (λ e. record { client = handed-fits p k; says = handing-fits p _ (frame-small c p image) })
 
   pub request-fits : (image buffer : List ℕ) → StartedFits (request c image buffer .answer)
   unfolding request noteOf refusalNote
@@ -251,11 +260,12 @@ module _ (c : Client) (h : Fits c) where
 making-fits : (t : Told) (p : Progress) → ToldFits t → ProgressFits p → ToldFits (making t p)
 making-fits t p h k = record { client = h .client; says = h .says; rest = h .rest; progress = k; id = h .id; found = h .found }
 
-stop-says : (n : ℕ) → SaysFits (stopOf n)
+stop-says : (end : End) → SaysFits (stopOf end)
 unfolding stopOf noteOf refusalNote outcomeNote
-stop-says n =
-    chosen SaysFits (eqb n 12) _ _ (λ e. bare-fits _)
-    (λ e. chosen SaysFits (eqb n 14) _ _ (λ f. bare-fits _) (λ f. chosen SaysFits (eqb n 15) _ _ (λ g. bare-fits _) (λ g. end-fits 23 5 0 false)))
+stop-says End.DuplicateUid = bare-fits _
+stop-says End.LongId = bare-fits _
+stop-says End.TableFull = bare-fits _
+stop-says End.Unaddressed = end-fits 23 5 0 false
 
 -- A record that a Select hears.
 module _ (c : Client) (h : Fits c) (at : ℕ) (small : at < 2 ^ 64) where
@@ -267,7 +277,7 @@ module _ (c : Client) (h : Fits c) (at : ℕ) (small : at < 2 ^ 64) where
   unfolding walked noteOf outcomeNote
   walked-fits (Goes.On p) w v = onward-fits c h (Select (Walking p)) tt w v at small
   walked-fits Goes.Done w v = over-fits (cleared c) (cleared-fits c h) _ (end-fits 0 3 0 false) noId no-id-fits (w .found) (v .found) at small
-  walked-fits (Goes.Stopped n) w v = stops-fits c h _ (stop-says n) at small
+  walked-fits (Goes.Stopped end) w v = stops-fits c h _ (stop-says end) at small
 
   backed-fits : (given : Bool) → ToldFits (backed c given at)
   unfolding backed noteOf refusalNote

@@ -22,7 +22,7 @@ use Rattle.client.specs.declared.Outcome.the-variants as Outcome
 use Rattle.client.specs.declared.Refusal.{Refusal}
 use Rattle.client.specs.declared.Refusal.the-variants.{Io, Device, FirmwareTooLarge, CrcMismatch, BadInfo, Incompatible, NoDevice, SeveralDevices, NoSuchUid, AmbiguousUid, NotAddressable, DuplicateUid, BadPrefix, LongId, TableFull, ShortBuffer, RetriesSpent, ShortVerify, SpansTooFar, OtherImage, OutOfTurn}
 use Rattle.client.specs.declared.Says.{Says}
-use Rattle.client.specs.declared.Says.the-variants.{Granted, Onward, Over, Refused}
+use Rattle.client.specs.declared.Says.the-variants.{Granted, Closing, Onward, Over, Refused}
 use Rattle.client.specs.declared.Started.{Started}
 use Rattle.client.specs.declared.Told.{Told}
 use Rattle.client.specs.Numbers.{numberOf, changesNoState}
@@ -32,14 +32,14 @@ use Rattle.notes.specs.Notes.{noteOf, going, ending, refusing, outcomeNote, ref
 use Rattle.answers.specs.Answers as Answers
 use Rattle.codes.specs.Codes.{coded, Coded, writtenCode, writes, readAs, readUid, putUid}
 use Rattle.codes.proofs.Laws.{code-number}
-use Rattle.lent.specs.Hosts.{codeOf, lent, Exported, Requested, toldBy, leaves, tells, starts, handed, asks, requests}
+use Rattle.lent.specs.Hosts.{codeOf, lent, Requested, toldBy, leaves, tells, starts, handed, asks, requests}
 use Rattle.lent.specs.Exports as Export
 use Rattle.records.specs.Calls.{Call, startSelect, startDeselect, startAttach, startDiscover, startInfo, startErase, startFlash, startReset, startSetBaud, request, record′, linkFailed}
-use Rattle.records.specs.Refusals.{keeps, Begins}
-use Rattle.records.proofs.Refusals.{leaves-kept, select-begins, deselect-begins, attach-begins, attach-to-begins, discover-begins, info-begins, erase-begins, flash-begins, reset-begins, set-baud-begins}
+use Rattle.records.specs.Refusals.{keeps, begins}
+use Rattle.records.proofs.Refusals.{leaves-kept, begins-kept, select-begins, deselect-begins, attach-begins, attach-to-begins, discover-begins, info-begins, erase-begins, flash-begins, reset-begins, set-baud-begins}
 use Rattle.records.proofs.RefusedRequests.{asked-refused}
 use Rattle.records.proofs.RefusedRecords.{told-refused, failed-refused}
-use Rattle.lasting.specs.Exports.{bufferOf, bufferless, exported, Made, made, held}
+use Rattle.lasting.specs.Exports.{bufferOf, bufferless, exported, made, held}
 
 -- The number of an answer is a byte; one that changes no state is a refusal's.
 refusal-number : (r : Refusal) → (noteOf (Refused r) .number ≡ numberOf r) × (numberOf r < 256)
@@ -78,6 +78,7 @@ outcome-number Outcome.Unaddressed = (refl, omega arith)
 number-byte : (says : Says) → noteOf says .number < 256
 unfolding noteOf going
 number-byte (Granted n) = omega arith
+number-byte (Closing n) = omega arith
 number-byte Onward = omega arith
 number-byte (Over o) = outcome-number o .1
 number-byte (Refused r) = omega (arith, refusal-number r .0, refusal-number r .1)
@@ -85,6 +86,7 @@ number-byte (Refused r) = omega (arith, refusal-number r .0, refusal-number r .1
 refused-with : (says : Says) → changesNoState (noteOf says .number) ≡ true → (r : Refusal) × ((says ≡ Refused r) × (keeps r ≡ true))
 unfolding noteOf going keeps
 refused-with (Granted n) h = clash false h refl
+refused-with (Closing n) h = clash false h refl
 refused-with Onward h = clash false h refl
 refused-with (Over o) h = clash (changesNoState (outcomeNote o .number)) h (outcome-number o .0)
 refused-with (Refused r) h = (r, (refl, ap changesNoState (sym (refusal-number r .0)) ∙ h))
@@ -98,21 +100,23 @@ abbrev Kept : Client → Call → Type 0
 Kept c call = (made c call .told .client ≡ c) × (made c call .buffer ≡ bufferOf call)
 
 module _ (c : Client) where
-  start-kept : (s : Started) → Begins c s → changesNoState (noteOf (s .says) .number) ≡ true → s .client ≡ c
-  start-kept s b h = let k = refused-with (s .says) h in b .refused (k .0) (k .1 .0) .0
+  start-kept : (s : Started) (good : Bool) (next : Client) → s ≡ begins c good next → changesNoState (noteOf (s .says) .number) ≡ true → s .client ≡ c
+  start-kept s good next b h =
+      let k = refused-with (s .says) h in
+      ap (λ (x : Started). x .client) b ∙ begins-kept c good next (k .0) (ap (λ (x : Started). x .says) (sym b) ∙ k .1 .0)
 
   pub kept : (call : Call) → changesNoState (noteOf (made c call .told .says) .number) ≡ true → Kept c call
   unfolding made toldBy
-  kept (startSelect bytes bits) h = (start-kept _ (select-begins c bytes bits) h, refl)
-  kept startDeselect h = (start-kept _ (deselect-begins c) h, refl)
-  kept (startAttach none) h = (start-kept _ (attach-begins c) h, refl)
-  kept (startAttach (some bytes)) h = (start-kept _ (attach-to-begins c bytes) h, refl)
-  kept (startDiscover given) h = (start-kept _ (discover-begins c given) h, refl)
-  kept startInfo h = (start-kept _ (info-begins c) h, refl)
-  kept startErase h = (start-kept _ (erase-begins c) h, refl)
-  kept (startFlash image) h = (start-kept _ (flash-begins c image) h, refl)
-  kept (startReset bootloader inBoot) h = (start-kept _ (reset-begins c bootloader inBoot) h, refl)
-  kept (startSetBaud baud bootloader inBoot) h = (start-kept _ (set-baud-begins c baud bootloader inBoot) h, refl)
+  kept (startSelect bytes bits) h = (start-kept _ _ _ (select-begins c bytes bits) h, refl)
+  kept startDeselect h = (start-kept _ _ _ (deselect-begins c) h, refl)
+  kept (startAttach none) h = (start-kept _ _ _ (attach-begins c) h, refl)
+  kept (startAttach (some bytes)) h = (start-kept _ _ _ (attach-to-begins c bytes) h, refl)
+  kept (startDiscover given) h = (start-kept _ _ _ (discover-begins c given) h, refl)
+  kept startInfo h = (start-kept _ _ _ (info-begins c) h, refl)
+  kept startErase h = (start-kept _ _ _ (erase-begins c) h, refl)
+  kept (startFlash image) h = (start-kept _ _ _ (flash-begins c image) h, refl)
+  kept (startReset bootloader inBoot) h = (start-kept _ _ _ (reset-begins c bootloader inBoot) h, refl)
+  kept (startSetBaud baud bootloader inBoot) h = (start-kept _ _ _ (set-baud-begins c baud bootloader inBoot) h, refl)
   kept (request image buffer) h =
       let k = refused-with _ h in
       let e = asked-refused c image buffer (k .0) (k .1 .0) in

@@ -18,8 +18,9 @@ use Rattle.walk.specs.declared.Walk.{Walk}
 use Rattle.walk.specs.declared.Phase.{Phase}
 use Rattle.walk.specs.declared.Phase.the-variants.{Asked, Mine, Other, Leaving}
 use Rattle.walk.specs.Moves.{standing, finding, holding, noWalk, mark, lower, raise, turn, climb}
+use Rattle.steps.specs.declared.End.the-variants.{DuplicateUid}
 use Rattle.steps.specs.declared.Next.{Next}
-use Rattle.steps.specs.Steps.{stopped, descend, onward, leave, silent, kept, confirming, hears, isNothing, settled, done, tell, tooLong, step}
+use Rattle.steps.specs.Steps.{stopped, descend, onward, leave, silent, kept, confirming, hears, mine, other, settled, done, tell, step}
 use Rattle.state.specs.States.{Array, IdFits, TableFits, WalkFits}
 use Rattle.state.proofs.Laws.{no-id-fits, no-walk-fits}
 use Rattle.lasting.proofs.Arrays.{chosen, array-set, array-cut, array-bit}
@@ -107,11 +108,27 @@ module _ (w : Walk) (h : WalkFits w) (x : Id) (k : IdFits x) where
       bare : WalkFits (holding w noId)
       bare = holding-fits w h noId no-id-fits
 
+  mine-fits : (d : Heard) → NextFits (mine w d x)
+  unfolding mine stopped
+  mine-fits Heard.Nothing = h
+  mine-fits Heard.One = h
+  mine-fits Heard.TooLong = no-walk-fits
+  mine-fits Heard.Unaddressed = h
+  mine-fits Heard.Garble = h
+
+  other-fits : (good : Bool) (d : Heard) → NextFits (other w good d)
+  unfolding other stopped
+  other-fits good Heard.Nothing = settled-fits good
+  other-fits good Heard.One = settled-fits false
+  other-fits good Heard.TooLong = no-walk-fits
+  other-fits good Heard.Unaddressed = settled-fits false
+  other-fits good Heard.Garble = settled-fits false
+
   tell-fits : (p : Phase) (d : Heard) → w .found .count ≤ 64 → NextFits (tell w p d x)
   unfolding tell done
   tell-fits Asked d few = hears-fits w h x k d
-  tell-fits Mine d few = h
-  tell-fits (Other good) d few = settled-fits (good && isNothing d)
+  tell-fits Mine d few = mine-fits d
+  tell-fits (Other good) d few = other-fits good d
   tell-fits Leaving d few = finding-fits noWalk no-walk-fits _ (sorted-fits (w .found) (h .found) few)
 
   pub step-fits : (p : Phase) (d : Heard) → NextFits (step w p d x)
@@ -119,7 +136,7 @@ module _ (w : Walk) (h : WalkFits w) (x : Id) (k : IdFits x) where
   step-fits p d =
       both (leb (w .depth) 128) (leb (w .found .count) 64) refl
     where
-      both : (a b : Bool) → leb (w .found .count) 64 ≡ b → NextFits (cond (a && b) (cond (tooLong p d) (stopped 14) (tell w p d x)) (stopped 12))
-      both true true e = chosen NextFits (tooLong p d) _ _ (λ t. no-walk-fits) (λ t. tell-fits p d (leb-true (w .found .count) 64 e))
+      both : (a b : Bool) → leb (w .found .count) 64 ≡ b → NextFits (cond (a && b) (tell w p d x) (stopped DuplicateUid))
+      both true true e = tell-fits p d (leb-true (w .found .count) 64 e)
       both true false e = no-walk-fits
       both false b e = no-walk-fits

@@ -15,7 +15,7 @@ use Rattle.lines.specs.declared.Turn.the-variants as Turn
 use Rattle.lines.specs.declared.Turn.the-variants.{Half, Whole}
 use Rattle.lines.specs.Reading.{turn}
 use Rattle.client.specs.declared.Says.{Says}
-use Rattle.client.specs.declared.Says.the-variants.{Granted, Onward, Over, Refused}
+use Rattle.client.specs.declared.Says.the-variants.{Granted, Closing, Onward, Over, Refused}
 use Rattle.client.specs.declared.Started.{Started}
 use Rattle.client.specs.declared.Client.{Client}
 use Rattle.table.specs.declared.Table.{Table}
@@ -74,6 +74,7 @@ settled (Ended k) = true
 handed-settled : (s : Started) (k : ℕ) (x : Says) → s .says ≡ x → settled (handed s k .stage) ≡ true
 unfolding handed settled
 handed-settled s k (Granted n) e = rw e
+handed-settled s k (Closing n) e = rw e
 handed-settled s k Onward e = rw e
 handed-settled s k (Over o) e = rw e
 handed-settled s k (Refused r) e = rw e
@@ -81,6 +82,7 @@ handed-settled s k (Refused r) e = rw e
 pub goes-settled : (x : Says) (c : Client) (k : ℕ) (t : Table) → settled (goes x c k t .stage) ≡ true
 unfolding goes settled
 goes-settled (Granted n) c k t = refl
+goes-settled (Closing n) c k t = refl
 goes-settled Onward c k t = handed-settled (request c [] room .answer) k (request c [] room .answer .says) refl
 goes-settled (Over o) c k t = refl
 goes-settled (Refused r) c k t = refl

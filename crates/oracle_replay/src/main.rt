@@ -118,6 +118,12 @@ fn print_read(rest: usize, p: Progress) {
     print_progress(p);
 }
 
+fn print_request(room: &[u8], n: usize) {
+    show::print(b"> ");
+    show::print_front(room, n);
+    show::print(b"\n");
+}
+
 // The next request, asked for and printed.
 fn ask(c: Client, image: &[u8]) -> Client {
     let mut room = [0u8; 1036];
@@ -125,9 +131,10 @@ fn ask(c: Client, image: &[u8]) -> Client {
     let says = s.says;
     let next = s.client;
     if let Says::Granted(n) = says {
-        show::print(b"> ");
-        show::print_front(&room, n);
-        show::print(b"\n");
+        print_request(&room, n);
+    }
+    if let Says::Closing(n) = says {
+        print_request(&room, n);
     }
     next
 }
@@ -141,6 +148,7 @@ fn told(t: Told, image: &[u8]) -> Client {
     let found = t.found;
     match says {
         Says::Granted(_) => c,
+        Says::Closing(_) => c,
         Says::Onward => {
             print_read(t.rest, progress);
             ask(c, image)

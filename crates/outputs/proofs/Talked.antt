@@ -33,7 +33,7 @@ use Rattle.client.specs.declared.Outcome.{Outcome}
 use Rattle.client.specs.declared.Outcome.the-variants as Outcome
 use Rattle.client.specs.declared.Progress.{Progress}
 use Rattle.client.specs.declared.Says.{Says}
-use Rattle.client.specs.declared.Says.the-variants.{Granted, Onward, Over, Refused}
+use Rattle.client.specs.declared.Says.the-variants.{Granted, Closing, Onward, Over, Refused}
 use Rattle.client.specs.declared.Told.{Told}
 use Rattle.client.specs.Numbers.{numberOf, endOf, saysOf}
 use Rattle.asking.specs.Asking.{Asking, request}
@@ -118,6 +118,7 @@ module _ (seed : ℕ) (id : Option Id) (s : State) (f : Fits (record { seed = se
 number-ends : (says : Says) (p : Progress) (x : Code.Id) (t : Table) (n : ℕ) → saysOf says p x t ≡ refused n [] → (c : Client) (k : ℕ) → goes says c k t ≡ Replays.ended c k t n
 unfolding saysOf goes endOf
 number-ends (Granted m) p x t n e c k = absurd (let z : _≡_ {A = ℕ} 0 1 = cc in omega arith)
+number-ends (Closing m) p x t n e c k = absurd (let z : _≡_ {A = ℕ} 0 1 = cc in omega arith)
 number-ends Onward p x t n e c k = absurd (let z : _≡_ {A = ℕ} 0 1 = cc in omega arith)
 number-ends (Over Outcome.Quiet) p x t n e c k = absurd (let z : _≡_ {A = ℕ} 0 1 = cc in omega arith)
 number-ends (Over (Outcome.Heard h)) p x t n e c k = absurd (let z : _≡_ {A = ℕ} 0 1 = cc in omega arith)

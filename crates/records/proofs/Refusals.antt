@@ -21,13 +21,16 @@ use Rattle.client.specs.declared.Phase.{Phase}
 use Rattle.client.specs.declared.Phase.the-variants.{Select, Demand, Leave}
 use Rattle.client.specs.declared.Purpose.the-variants.{Tell, Clear, Load}
 use Rattle.client.specs.declared.Refusal.{Refusal}
+use Rattle.client.specs.declared.Refusal.the-variants.{BadPrefix, OutOfTurn}
 use Rattle.client.specs.declared.Reset.{Reset}
+use Rattle.client.specs.declared.Says.the-variants.{Onward, Refused}
 use Rattle.client.specs.declared.Search.the-variants.{Probing, Parting, Seeking, Walking}
 use Rattle.client.specs.declared.Started.{Started}
 use Rattle.client.specs.declared.Turn.the-variants.{Idle, Ready}
-use Rattle.client.specs.Clients.{begun, idle, cleared}
+use Rattle.client.specs.Clients.{begun, idle, cleared, running, refuse}
 use Rattle.starting.specs.Starting.{starts, demands, badPrefix, startSelect, startDeselect, startAttach, startAttachTo, startDiscover, startInfo, startErase, startFlash, resets, startReset, startSetBaud}
 use Rattle.records.specs.Refusals.{keeps, parts, leaves, begins, goodCount, asking, resetPhase}
+use Rattle.records.proofs.Cases.{unrefused}
 
 -- What a refusal leaves.
 module _ (r : Refusal) (c : Client) where
@@ -46,6 +49,19 @@ module _ (r : Refusal) (c : Client) where
   pub leaves-attached : parts r ≡ false → (leaves r c .attached ≡ c .attached) × (leaves r c .id ≡ c .id)
   unfolding leaves idle
   leaves-attached h = either (λ (d : Client). (d .attached ≡ c .attached) × (d .id ≡ c .id)) (keeps r) (refl, refl) (rw h (refl, refl))
+
+-- A start that is refused changes nothing.
+pub begins-kept : (c : Client) (good : Bool) (next : Client) (r : Refusal) → begins c good next .says ≡ Refused r → begins c good next .client ≡ c
+unfolding begins
+begins-kept c good next r e = go (running (c .turn)) good e
+  where
+    begun-or : Bool → Bool → Started
+    begun-or late good = cond late (refuse c OutOfTurn) (cond good (record { says = Onward; client = next }) (refuse c BadPrefix))
+
+    go : (late good : Bool) → begun-or late good .says ≡ Refused r → begun-or late good .client ≡ c
+    go true good e = refl
+    go false true e = unrefused Onward r refl e
+    go false false e = refl
 
 -- Starts: 21, then 13, else it begins.
 module _ (c : Client) where

@@ -1,53 +1,125 @@
 //! The kinds of run: what is put on the wire, and which refusals of 13 to 22 may occur and why.
 
+use crate::reasons;
 use crate::run::{Allowed, End, Operation, Ours, Rust, Trace, same};
-use crate::wire::{Info, Pod, Random, Wire, damaged, frame, reply};
+use crate::wire::{Info, Pod, Random, Wire, address, damaged, frame, reply};
 
-/// A disagreement: the kind, the operations so far, and what differs.
-#[derive(Debug)]
-pub struct Disagreement {
-    pub kind: &'static str,
-    pub what: String,
-    pub operation: Operation,
-    pub rust: Trace,
-    pub ours: Trace,
+/// How far the requests went that both sides sent alike.
+#[derive(Default)]
+pub struct Reach {
+    /// The largest image of a Verify, which is its address.
+    pub image: u32,
+    /// The largest capacity of a pod whose last Erase was answered.
+    pub capacity: u64,
+    /// The most Selects and Erases of one run.
+    pub selects: usize,
+    pub erases: usize,
+    /// The largest address of an Erase and of a Write, and how many were beyond 2^16 and beyond 2^24.
+    pub erase: Addresses,
+    pub write: Addresses,
+}
+
+#[derive(Default)]
+pub struct Addresses {
+    pub largest: u32,
+    pub beyond: [u64; 2],
+}
+
+impl Addresses {
+    fn count(&mut self, address: u32) {
+        self.largest = self.largest.max(address);
+        self.beyond[0] += (address > 1 << 16) as u64;
+        self.beyond[1] += (address > 1 << 24) as u64;
+    }
+}
+
+impl Reach {
+    fn count(&mut self, run: &Trace) {
+        let (mut selects, mut erases) = (0, 0);
+        for (request, handed) in run.steps() {
+            match request[1] {
+                1 => {
+                    erases += 1;
+                    self.erase.count(address(request));
+                    let whole = handed.progress.iter().filter(|(done, of)| done >= of).map(|&(_, of)| of);
+                    self.capacity = whole.fold(self.capacity, u64::max);
+                }
+                2 => self.write.count(address(request)),
+                3 => self.image = self.image.max(address(request)),
+                5 => selects += 1,
+                _ => {}
+            }
+        }
+        self.selects = self.selects.max(selects);
+        self.erases = self.erases.max(erases);
+    }
 }
 
 /// Counts runs and keeps disagreements; every so many runs, calls out of turn are put between.
+#[derive(Default)]
 pub struct Judge {
-    pub runs: u64,
+    /// Runs of both sides, runs of the port alone, and leaf calls on both sides.
+    pub both: u64,
+    pub alone: u64,
+    pub leaves: u64,
+    /// The port's refusals in runs of both sides.
     pub refusals: [u64; 24],
-    /// The most requests of a run.
-    pub most: usize,
-    pub bad: Vec<Disagreement>,
+    pub reach: Reach,
+    pub bad: Vec<String>,
 }
 
 impl Judge {
     pub fn new() -> Judge {
-        Judge { runs: 0, refusals: [0; 24], most: 0, bad: Vec::new() }
+        Judge::default()
     }
 
-    /// One operation on each side. The answer is the rest that both kept, unless the run ended in Io or in a refusal of the port's own.
-    pub fn run(&mut self, pair: &mut Pair, kind: &'static str, allowed: Allowed, operation: Operation, wire: Wire, fails_at: Option<usize>) -> bool {
-        self.runs += 1;
-        let strays = self.runs % 7 == 0;
+    /// One operation on each side. The answer is whether the clients may go on: not after Io, nor after a refusal of the port's own.
+    pub fn run(
+        &mut self,
+        pair: &mut Pair,
+        kind: &str,
+        allowed: Allowed,
+        operation: Operation,
+        wire: Wire,
+        fails_at: Option<usize>,
+    ) -> bool {
+        self.both += 1;
+        let strays = self.both % 7 == 0;
         let rust = pair.rust.run(&operation, wire.clone(), fails_at, &pair.kept);
         let ours = pair.ours.run(&operation, wire, fails_at, &pair.kept, strays);
-        self.most = self.most.max(ours.requests.len());
-        let within = match &operation {
-            Operation::Discover(prefix) if prefix.len() <= 16 => ours.requests.len() <= 132 + 260 * (128 - 8 * prefix.len()),
-            _ => true,
-        };
         if let End::Refused(n, _) = ours.end {
             self.refusals[n as usize] += 1;
         }
-        let verdict = same(&rust, &ours, allowed).and(if within { Ok(()) } else { Err("more Selects than the bound".into()) });
+        let verdict = same(&operation, &rust, &ours, allowed).and_then(|()| within_bound(&operation, &ours));
         let goes_on = verdict.is_ok() && !matches!(ours.end, End::Refused(1 | 13..=22, _));
-        pair.kept = if goes_on { ours.rest.clone() } else { Vec::new() };
-        if let Err(what) = verdict {
-            self.bad.push(Disagreement { kind, what, operation, rust, ours });
+        match verdict {
+            Ok(()) => self.reach.count(&ours),
+            Err(what) => {
+                let operation = format!("{operation:?}");
+                self.bad.push(format!("{kind}: {what}\n{operation:.2000}\nRust {}\nport {}", rust.tail(), ours.tail()));
+            }
         }
+        pair.kept = if goes_on { ours.rest } else { Vec::new() };
         goes_on
+    }
+
+    /// An Erase of the port alone, on a pod that it must refuse with 19 at its Info: without a failing link the Rust has no end there.
+    pub fn endless(&mut self, info: &Info) {
+        self.alone += 1;
+        let ours = Ours::new().run(&Operation::Erase, Wire::Pod(Pod::new(info.bytes(), 1)), None, &[], false);
+        if (ours.requests.len(), &ours.end) != (1, &End::Refused(19, vec![])) {
+            self.bad.push(format!("19 was due\nport {}", ours.tail()));
+        }
+    }
+}
+
+/// A discovery takes no more Selects than its bound.
+fn within_bound(operation: &Operation, ours: &Trace) -> Result<(), String> {
+    match operation {
+        Operation::Discover(prefix) if prefix.len() <= 16 && ours.requests.len() > 132 + 260 * (128 - 8 * prefix.len()) => {
+            Err("more Selects than the bound".into())
+        }
+        _ => Ok(()),
     }
 }
 
@@ -87,7 +159,6 @@ fn alphabet(command: u8, payload: &[u8]) -> Vec<Vec<u8>> {
 }
 
 /// Each operation over every record of at most two frames of the alphabet, then over silence. 14: a frame of the alphabet holds 17 bytes.
-/// 18: one holds none.
 pub fn short_records(judge: &mut Judge) {
     let image = vec![1, 2, 3, 4, 5];
     let operations = [
@@ -172,6 +243,20 @@ pub fn honest(judge: &mut Judge, r: &mut Random, runs: usize) {
     }
 }
 
+/// Honest wires with 60 to 70 ids, and links that fail at times, also after the 65th. 15: the 65th id.
+pub fn crowded(judge: &mut Judge, r: &mut Random, runs: usize) {
+    for _ in 0..runs {
+        let (n, length) = (60 + r.below(11), 1 + r.below(16));
+        let mut ids = std::collections::BTreeSet::new();
+        while ids.len() < n {
+            ids.insert(r.bytes(length));
+        }
+        let fails_at = r.one_in(2).then(|| 5 * n + r.below(3 * n));
+        let wire = Wire::Honest(ids.into_iter().collect());
+        judge.run(&mut Pair::new(), "crowded", &[15], Operation::Discover(vec![]), wire, fails_at);
+    }
+}
+
 /// Any wire to a discovery, to the bound. 15: more than 64 ids may be kept.
 pub fn adverse(judge: &mut Judge, r: &mut Random, runs: usize) {
     let mut pair = Pair::new();
@@ -179,7 +264,9 @@ pub fn adverse(judge: &mut Judge, r: &mut Random, runs: usize) {
         let wire = Wire::Adverse(Random::new(r.next()));
         let prefix = if r.one_in(2) { r.bytes(r.clone().below(17)) } else { r.bytes(13 + r.clone().below(4)) };
         let fails_at = r.one_in(10).then(|| r.below(20));
-        judge.run(&mut pair, "adverse", &[15], Operation::Discover(prefix), wire, fails_at);
+        if !judge.run(&mut pair, "adverse", &[15], Operation::Discover(prefix), wire, fails_at) {
+            pair = Pair::new();
+        }
     }
 }
 
@@ -204,7 +291,7 @@ pub fn stubborn(judge: &mut Judge) {
 }
 
 /// Noisy records to every operation: frames good and damaged, cut and too long, several, stray A5s, the rest carried on to the next
-/// operation. 14: ids of over 16 bytes occur. 18: a Verify's answer may be short.
+/// operation. 14: ids of over 16 bytes occur. 18: a Verify's answer may be short. 19: an Info may be any bytes.
 pub fn noisy(judge: &mut Judge, r: &mut Random, runs: usize) {
     let mut pair = Pair::new();
     for _ in 0..runs {
@@ -244,7 +331,7 @@ pub fn noisy(judge: &mut Judge, r: &mut Random, runs: usize) {
             _ => Operation::SetBaud(r.byte(), r.one_in(2), r.one_in(2)),
         };
         let fails_at = r.one_in(20).then(|| r.below(4));
-        if !judge.run(&mut pair, "noisy", &[14, 18], operation, Wire::Scripted(records), fails_at) {
+        if !judge.run(&mut pair, "noisy", &[14, 18, 19], operation, Wire::Scripted(records), fails_at) {
             pair = Pair::new();
         }
     }
@@ -252,7 +339,8 @@ pub fn noisy(judge: &mut Judge, r: &mut Random, runs: usize) {
 
 /// Pods to be erased and flashed, with faults: images and devices of every size class, keys right, wrong, missing and unset; Writes that
 /// are refused up to 17 times. 17: the 17th refusal of one Write. 18: a Verify's answer under two bytes. 19: an erase size that takes the
-/// capacity over 2^32 - 1; the Rust has no end there and is not run.
+/// capacity over 2^32 - 1. A capacity of 2^32 - 1 takes the Rust 65,537 Erases and more, or without end: so its link fails within
+/// twelve requests. (`far` has such a list whole.)
 pub fn pods(judge: &mut Judge, r: &mut Random, runs: usize) {
     let mut pair = Pair::new();
     for _ in 0..runs {
@@ -280,8 +368,7 @@ pub fn pods(judge: &mut Judge, r: &mut Random, runs: usize) {
         };
         let info = Info {
             capacity,
-            // So many Erases that a run stays short.
-            erase_size: if capacity == 0xFFFF_FFFF && !r.one_in(3) { 0xFFFF } else { erase_size },
+            erase_size,
             compat: *r.pick(&[0xFFFF_FFFF, 0xFFFF_FFFF, key, key ^ 1]),
             max_payload: *r.pick(&[0, 3, 4, 5, 7, 8, 63, 64, 1023, 1024, 1025, 65535]),
         };
@@ -297,33 +384,87 @@ pub fn pods(judge: &mut Judge, r: &mut Random, runs: usize) {
         if r.one_in(6) {
             pod.check = Some(r.bytes(r.clone().below(5)));
         }
-        let erases = (capacity as u64).div_ceil((info.erase_size as u64).max(1));
-        if erases * info.erase_size as u64 > 0xFFFF_FFFF {
-            let (operation, wire) = (Operation::Erase, Wire::Pod(Pod::new(info.bytes(), 1)));
-            let ours = Ours::new().run(&operation, wire, None, &[], false);
-            judge.runs += 1;
-            judge.refusals[19] += 1;
-            let far = info.erase_size != 0 && info.capacity != 0 && info.max_payload >= 4;
-            if ours.end != End::Refused(if far { 19 } else { 5 }, vec![]) {
-                judge.bad.push(Disagreement { kind: "pods", what: "19".into(), operation, rust: ours.clone(), ours });
-            }
-            continue;
-        }
-        if erases > 4096 {
-            continue;
+        if info.max_payload >= 4 && reasons::spans_too_far(capacity as u64, erase_size as u64) && r.one_in(10) {
+            judge.endless(&info);
         }
         let operation = if r.one_in(5) { Operation::Erase } else { Operation::Flash(image) };
-        let fails_at = r.one_in(15).then(|| r.below(12));
-        if !judge.run(&mut pair, "pods", &[17, 18], operation, Wire::Pod(pod), fails_at) {
+        let fails_at = (capacity == 0xFFFF_FFFF || r.one_in(15)).then(|| r.below(12));
+        let goes_on = judge.run(&mut pair, "pods", &[17, 18, 19], operation, Wire::Pod(pod), fails_at);
+        // A rest can hold the Info of its pod.
+        if !goes_on || capacity == 0xFFFF_FFFF {
             pair = Pair::new();
         }
     }
 }
 
+/// Every erase size at its edge: the largest capacity that it does not take over 2^32 - 1, and one more. 19: the one more. The link fails
+/// at the first Erase.
+pub fn edges(judge: &mut Judge) {
+    for erase_size in 1..=0xFFFF {
+        let fits = 0xFFFF_FFFF / erase_size as u32 * erase_size as u32;
+        for capacity in [Some(fits), fits.checked_add(1)].into_iter().flatten() {
+            let info = Info { capacity, erase_size, ..INFO };
+            let operation = if erase_size % 2 == 0 { Operation::Erase } else { Operation::Flash(vec![erase_size as u8]) };
+            let allowed: Allowed = if capacity == fits { &[] } else { &[19] };
+            judge.run(&mut Pair::new(), "edges", allowed, operation, Wire::Pod(Pod::new(info.bytes(), 1)), Some(1));
+        }
+    }
+}
+
+/// What comes late in a far run, at a request of this command from this address on.
+fn late(pod: &mut Pod, r: &mut Random, from: (u8, u32)) {
+    pod.from = from;
+    match r.below(6) {
+        0 => {}
+        1 => pod.refuses = 16,
+        2 => pod.refuses = 17,
+        3 => pod.check = Some(r.bytes(r.clone().below(4))),
+        4 => pod.every = 1,
+        _ => pod.every = 3,
+    }
+}
+
+/// A device that takes the shortest list of Erases that a capacity of 2^32 - 1 can have: 65,537.
+const FAR: Info = Info { capacity: 0xFFFF_FFFF, erase_size: 0xFFFF, compat: 0xFFFF_FFFF, max_payload: 1024 };
+
+/// Far addresses: in each round a list of 65,537 Erases, and Writes beyond 2^16 and beyond 2^24, with retries, faults and failing
+/// links late in the run. 17 and 18: as in `pods`.
+pub fn far(judge: &mut Judge, r: &mut Random, rounds: usize) {
+    for round in 0..rounds {
+        // The list is whole, or has a fault in its last half.
+        let mut pod = Pod::new(FAR.bytes(), r.next());
+        if round % 2 == 1 {
+            late(&mut pod, r, (1, 0x8000_0000 | r.clone().next() as u32));
+        }
+        let operation = if r.one_in(2) { Operation::Erase } else { Operation::Flash(r.bytes(r.clone().below(9000))) };
+        judge.run(&mut Pair::new(), "far", &[17, 18], operation, Wire::Pod(pod), None);
+        let (small, large) = (*r.pick(&[4, 7, 64, 1023]), *r.pick(&[1000, 1024, 65535]));
+        far_image(judge, r, round, 1 << 16, Info { erase_size: 64, max_payload: small, ..FAR });
+        far_image(judge, r, round, 1 << 24, Info { erase_size: 4096, max_payload: large, ..FAR });
+    }
+}
+
+/// An image that goes beyond an address, and that its device just holds; the trouble comes after that address. In the first round it is
+/// sixteen refusals of each Write, in every fifth a failing link.
+fn far_image(judge: &mut Judge, r: &mut Random, round: usize, beyond: usize, info: Info) {
+    let n = beyond + 2049 + r.below(9000);
+    let info = Info { capacity: (n + r.below(3 * info.erase_size as usize)) as u32, ..info };
+    let mut pod = Pod::new(info.bytes(), r.next());
+    if round > 0 {
+        late(&mut pod, r, (1 + r.clone().below(2) as u8, beyond as u32));
+    } else {
+        pod.refuses = 16;
+        pod.from = (2, beyond as u32);
+    }
+    let erases = info.capacity.div_ceil(info.erase_size as u32) as usize;
+    let chunk = (info.max_payload as usize).min(1024) & !3;
+    let fails_at = (round % 5 == 4).then(|| 1 + erases + beyond.div_ceil(chunk) + r.below(4));
+    judge.run(&mut Pair::new(), "far", &[17, 18], Operation::Flash(r.bytes(n)), Wire::Pod(pod), fails_at);
+}
+
 /// `hear`, the check, the key and the texts, beside the Rust's own.
-pub fn leaves(judge: &mut Judge, r: &mut Random, runs: usize) {
-    for _ in 0..runs {
-        judge.runs += 1;
+pub fn leaves(judge: &mut Judge, r: &mut Random, rounds: usize) {
+    for _ in 0..rounds {
         let n = r.below(60);
         let mut bytes = if r.one_in(3) { r.bytes(n) } else { reply(r.byte(), r.byte() % 4, &r.bytes(r.clone().below(20))) };
         if r.one_in(3) {
@@ -341,35 +482,33 @@ pub fn leaves(judge: &mut Judge, r: &mut Random, runs: usize) {
             Ok(fahireky::Heard::Unaddressed) => (2, vec![]),
             Ok(fahireky::Heard::Garble) => (3, vec![]),
             // An id of over 16 bytes is refused, and nothing else is.
-            Err(fahireky::Refusal::LongId) if rust.1.len() > 16 => rust.clone(),
+            Err(fahireky::Refusal::LongId) if reasons::long_id(&bytes) => rust.clone(),
             Err(_) => (9, vec![]),
         };
-        let text = |r: &mut Random| -> String {
-            (0..r.below(36)).map(|_| *r.pick(b"0123456789abcdefABCDEFgG:/@`") as char).collect()
-        };
-        let text = text(r);
+        let text: String = (0..r.below(36)).map(|_| *r.pick(b"0123456789abcdefABCDEFgG:/@`") as char).collect();
         let start = r.next() as u16;
-        let equal = rust == ours
-            && reference::image_compat(&bytes) == fahireky::image_compat(&bytes)
-            && tinyboot_protocol::crc::crc16(start, &bytes) == fahireky::crc16(start, &bytes)
-            && reference::parse_uid(&text).ok() == fahireky::Id::parse(&text).ok().map(|id| id.bytes().to_vec())
-            && fahireky::Id::new(&bytes).is_none_or(|id| id.text() == reference::uid_hex(&bytes));
-        if !equal {
-            let trace = Ours::new().run(&Operation::Deselect, Wire::Scripted(vec![]), None, &[], false);
-            let what = format!("leaves: {bytes:02x?} {text:?} {start:04x}");
-            judge.bad.push(Disagreement { kind: "leaves", what, operation: Operation::Deselect, rust: trace.clone(), ours: trace });
+        let mut calls = vec![
+            rust == ours,
+            reference::image_compat(&bytes) == fahireky::image_compat(&bytes),
+            tinyboot_protocol::crc::crc16(start, &bytes) == fahireky::crc16(start, &bytes),
+            reference::parse_uid(&text).ok() == fahireky::Id::parse(&text).ok().map(|id| id.bytes().to_vec()),
+        ];
+        calls.extend(fahireky::Id::new(&bytes).map(|id| id.text() == reference::uid_hex(&bytes)));
+        judge.leaves += calls.len() as u64;
+        if calls.contains(&false) {
+            judge.bad.push(format!("leaves: {bytes:02x?} {text:?} {start:04x}: {calls:?}"));
         }
     }
 }
 
-/// All kinds: the exhaustive ones, then so many seeded runs.
+/// All kinds: the exhaustive ones, the far ones, and so many seeded runs of both sides. None that is planned is left out.
 pub fn all(seed: u64, runs: usize) -> Judge {
     let mut judge = Judge::new();
     let r = &mut Random::new(seed);
     let mut said = 0;
     let mut say = |judge: &Judge, kind: &str| {
-        println!("{kind}: {} runs, {} disagreements", judge.runs - said, judge.bad.len());
-        said = judge.runs;
+        println!("{kind}: {} runs, {} disagreements", judge.both - said, judge.bad.len());
+        said = judge.both;
     };
     short_records(&mut judge);
     say(&judge, "short records");
@@ -379,15 +518,24 @@ pub fn all(seed: u64, runs: usize) -> Judge {
     say(&judge, "deep");
     stubborn(&mut judge);
     say(&judge, "stubborn");
-    leaves(&mut judge, r, runs / 4);
-    say(&judge, "leaves");
+    edges(&mut judge);
+    say(&judge, "edges");
+    far(&mut judge, r, 1 + runs / 200_000);
+    say(&judge, "far");
+    let before = judge.both;
     honest(&mut judge, r, runs / 10);
     say(&judge, "honest");
+    crowded(&mut judge, r, runs / 1000);
+    say(&judge, "crowded");
     adverse(&mut judge, r, runs / 100);
     say(&judge, "adverse");
-    noisy(&mut judge, r, runs / 3);
-    say(&judge, "noisy");
-    pods(&mut judge, r, runs / 4);
+    pods(&mut judge, r, 2 * runs / 5);
     say(&judge, "pods");
+    let others = (judge.both - before) as usize;
+    noisy(&mut judge, r, runs - others);
+    say(&judge, "noisy");
+    assert_eq!(judge.both - before, runs as u64, "seeded runs that were planned and not made");
+    leaves(&mut judge, r, runs / 3);
+    println!("leaves: {} calls, {} disagreements", judge.leaves, judge.bad.len());
     judge
 }

@@ -1,4 +1,5 @@
-//! differential [RUNS [SEED]]: compares the port with the Rust on the exhaustive kinds and on so many seeded runs.
+//! differential [RUNS [SEED]]: compares the port with the Rust on the exhaustive kinds, on far addresses, on so many seeded runs of both
+//! sides, and on leaf calls.
 
 use differential::kinds;
 
@@ -8,11 +9,18 @@ fn main() {
     let seed = args.next().unwrap_or(1);
     let judge = kinds::all(seed, runs as usize);
     for bad in judge.bad.iter().take(3) {
-        println!("{bad:#?}");
+        println!("{bad}");
     }
     let met: Vec<String> = (1..24).filter(|&n| judge.refusals[n] > 0).map(|n| format!("{n}: {}", judge.refusals[n])).collect();
-    println!("the longest run: {} requests", judge.most);
     println!("refusals met: {}", met.join(", "));
-    println!("{} runs, seed {seed}: {} disagreements", judge.runs, judge.bad.len());
+    let reach = &judge.reach;
+    println!("the longest discovery: {} Selects; the longest list of Erases: {}", reach.selects, reach.erases);
+    println!("the largest image: {} bytes; the largest capacity: {}", reach.image, reach.capacity);
+    for (name, a) in [("Erases", &reach.erase), ("Writes", &reach.write)] {
+        let [far, farther] = a.beyond;
+        println!("{name}: {far} at addresses beyond 2^16, {farther} beyond 2^24, the largest {}", a.largest);
+    }
+    println!("seed {seed}: {} runs of both sides, {} of the port alone, {} leaf calls", judge.both, judge.alone, judge.leaves);
+    println!("{} disagreements", judge.bad.len());
     std::process::exit((!judge.bad.is_empty()) as i32);
 }

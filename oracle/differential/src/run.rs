@@ -5,9 +5,10 @@ use std::rc::Rc;
 use std::time::Duration;
 
 use embedded_io::{ErrorKind, ErrorType, Read, Write};
-use fahireky::{Client, Heard, Id, Next, Outcome, Refusal};
+use fahireky::{Client, Heard, Id, Next, Outcome, Refusal, Request};
 use reference::{FlashError, Found, Link};
 
+use crate::reasons;
 use crate::wire::Wire;
 
 #[derive(Clone, Debug)]
@@ -34,15 +35,53 @@ pub enum End {
     Refused(u8, Vec<u64>),
 }
 
-/// All that is compared.
-#[derive(Debug, Clone, PartialEq, Eq)]
-pub struct Trace {
-    pub requests: Vec<Vec<u8>>,
+/// What lay unread after a request that was sent, which a host hands in; how much of it was read; and the progress reported then.
+#[derive(Debug, Clone, Default, PartialEq, Eq)]
+pub struct Handed {
+    pub record: Vec<u8>,
+    pub read: usize,
     pub progress: Vec<(u64, u64)>,
-    pub end: End,
+}
+
+/// What a client keeps from one operation to the next: the attached id, and the seed.
+#[derive(Debug, Clone, PartialEq, Eq)]
+pub struct State {
     pub attached: Option<Vec<u8>>,
     pub seed: u8,
+}
+
+/// All that is compared. There is one `handed` for each request, but for a last one whose sending failed.
+#[derive(Debug, Clone, PartialEq, Eq)]
+pub struct Trace {
+    pub before: State,
+    pub requests: Vec<Vec<u8>>,
+    pub handed: Vec<Handed>,
+    pub end: End,
+    pub after: State,
     pub rest: Vec<u8>,
+}
+
+impl Trace {
+    /// Each request with what it heard.
+    pub fn steps(&self) -> impl Iterator<Item = (&[u8], &Handed)> {
+        self.requests.iter().map(Vec::as_slice).zip(&self.handed)
+    }
+
+    /// The state after an operation that was refused at a Select or in a flash: "seed and (but for deselects) attached id stay as they are
+    /// then". The seed is that of the last Select.
+    fn stays(&self) -> State {
+        let select = self.requests.iter().rfind(|request| request[1] == 5);
+        State { attached: self.before.attached.clone(), seed: select.map_or(self.before.seed, |request| request[10]) }
+    }
+
+    /// How it ended, with its last steps.
+    pub fn tail(&self) -> String {
+        let last = |n: usize| n.saturating_sub(20);
+        let (requests, handed) = (&self.requests[last(self.requests.len())..], &self.handed[last(self.handed.len())..]);
+        let Trace { before, end, after, rest, .. } = self;
+        let n = self.requests.len();
+        format!("{before:?} {end:?} {after:?} {rest:?}, {n} requests, the last {requests:?}, {handed:?}")
+    }
 }
 
 // The Rust.
@@ -54,14 +93,6 @@ struct Port {
     heard: Vec<u8>,
     read: usize,
     handed: Vec<Handed>,
-}
-
-/// What a host would have handed in after a request, how much of it was read, and the progress that was reported then.
-#[derive(Clone, Default)]
-pub struct Handed {
-    pub record: Vec<u8>,
-    pub read: usize,
-    pub progress: Vec<(u64, u64)>,
 }
 
 /// The bus of the Rust's client; the runs keep a handle of their own to look into it.
@@ -163,28 +194,29 @@ impl Rust {
         Rust { client: reference::Client::new(bus.clone(), Duration::ZERO), bus }
     }
 
-    /// What was handed in during the last run.
-    pub fn handed(&self) -> Vec<Handed> {
-        self.bus.0.borrow().handed.clone()
+    /// The ids that the walk under a prefix keeps, to its end, or until the link fails after the last of these records.
+    pub fn kept(prefix: &[u8], records: Vec<Vec<u8>>) -> Vec<Vec<u8>> {
+        let mut rust = Rust::new();
+        rust.begin(Some(records.len()), Wire::Scripted(records), &[]);
+        reference::inner::kept(&mut rust.client, prefix)
+    }
+
+    fn state(&self) -> State {
+        State { attached: self.client.uid().map(<[u8]>::to_vec), seed: reference::inner::seed(&self.client) }
+    }
+
+    fn begin(&mut self, fails_at: Option<usize>, wire: Wire, kept: &[u8]) {
+        let mut port = self.bus.0.borrow_mut();
+        *port = Port { wire, fails_at, requests: vec![], heard: kept.to_vec(), read: 0, handed: vec![] };
     }
 
     pub fn run(&mut self, operation: &Operation, wire: Wire, fails_at: Option<usize>, kept: &[u8]) -> Trace {
-        {
-            let mut port = self.bus.0.borrow_mut();
-            port.wire = wire;
-            port.fails_at = fails_at;
-            port.requests.clear();
-            port.handed.clear();
-            port.heard = kept.to_vec();
-            port.read = 0;
-        }
-        let mut progress = Vec::new();
+        self.begin(fails_at, wire, kept);
+        let before = self.state();
         let bus = self.bus.clone();
         let mut report = |done: u32, of: u32| {
-            progress.push((done as u64, of as u64));
-            if let Some(last) = bus.0.borrow_mut().handed.last_mut() {
-                last.progress.push((done as u64, of as u64));
-            }
+            let mut port = bus.0.borrow_mut();
+            port.handed.last_mut().expect("progress after a record").progress.push((done as u64, of as u64));
         };
         let c = &mut self.client;
         let quiet = |r: Result<(), FlashError>| r.map_or_else(refused, |()| End::Quiet);
@@ -210,13 +242,13 @@ impl Rust {
             Operation::Reset(bootloader, in_boot) => quiet(c.reset(*bootloader, *in_boot)),
             Operation::SetBaud(baud, bootloader, in_boot) => quiet(c.set_baud(*baud, *bootloader, *in_boot)),
         };
-        let port = self.bus.0.borrow();
+        let mut port = self.bus.0.borrow_mut();
         Trace {
-            requests: port.requests.clone(),
-            progress,
+            before,
+            requests: std::mem::take(&mut port.requests),
+            handed: std::mem::take(&mut port.handed),
             end,
-            attached: self.client.uid().map(<[u8]>::to_vec),
-            seed: reference::inner::seed(&self.client),
+            after: self.state(),
             rest: port.heard[port.read..].to_vec(),
         }
     }
@@ -269,6 +301,10 @@ impl Ours {
         Ours { client: Client::new(), buffer: [0; fahireky::REQUEST] }
     }
 
+    fn state(&self) -> State {
+        State { attached: self.client.attached().map(|id| id.bytes().to_vec()), seed: self.client.seed() }
+    }
+
     /// An operation, started while none runs.
     fn start(&mut self, operation: &Operation) -> Result<(), Refusal> {
         let c = &mut self.client;
@@ -300,10 +336,18 @@ impl Ours {
         assert!(before == self.client);
     }
 
+    /// The next request's bytes, and whether its answer is awaited; no byte after them is changed.
+    fn request(&mut self, image: &[u8]) -> Result<(Vec<u8>, bool), Refusal> {
+        self.buffer.fill(0xC3);
+        let Request { len, awaited } = self.client.request(image, &mut self.buffer)?;
+        assert!(self.buffer[len..].iter().all(|&b| b == 0xC3), "a byte after the request");
+        Ok((self.buffer[..len].to_vec(), awaited))
+    }
+
     pub fn run(&mut self, operation: &Operation, mut wire: Wire, fails_at: Option<usize>, kept: &[u8], strays: bool) -> Trace {
         let image: &[u8] = if let Operation::Flash(image) = operation { image } else { &[] };
-        let awaited = !matches!(operation, Operation::Reset(_, false) | Operation::SetBaud(_, _, false));
-        let (mut requests, mut progress, mut rest) = (Vec::new(), Vec::new(), kept.to_vec());
+        let before = self.state();
+        let (mut requests, mut handed, mut rest) = (Vec::new(), Vec::new(), kept.to_vec());
         let end = 'run: {
             if let Err(r) = self.start(operation) {
                 break 'run End::Refused(r.number(), carried(&r));
@@ -313,19 +357,22 @@ impl Ours {
                     self.out_of_turn(false);
                     assert!(matches!(self.client.request(image, &mut [7; 11]), Err(Refusal::ShortBuffer(12..))));
                 }
-                self.buffer.fill(0xC3);
-                let n = match self.client.request(image, &mut self.buffer) {
-                    Ok(n) => n,
+                let k = requests.len();
+                let awaited = match self.request(image) {
+                    Ok((request, awaited)) => {
+                        requests.push(request);
+                        awaited
+                    }
                     Err(r) => break 'run End::Refused(r.number(), carried(&r)),
                 };
-                assert!(self.buffer[n..].iter().all(|&b| b == 0xC3), "a byte after the request");
-                let k = requests.len();
-                requests.push(self.buffer[..n].to_vec());
                 let failed = fails_at == Some(k);
                 if !failed {
-                    rest.extend(wire.heard(k, &self.buffer[..n]));
+                    rest.extend(wire.heard(k, &requests[k]));
                 }
                 if !awaited {
+                    if !failed {
+                        handed.push(Handed { record: rest.clone(), ..Handed::default() });
+                    }
                     break 'run End::Quiet;
                 }
                 if strays {
@@ -333,11 +380,12 @@ impl Ours {
                 }
                 let told = if failed { self.client.link_failed() } else { self.client.record(image, &rest) };
                 if failed {
-                    assert_eq!(told.rest, 0);
+                    assert_eq!((told.rest, told.progress), (0, None));
                 } else {
-                    rest = fahireky::rest(&rest, told.rest).to_vec();
+                    let unread = fahireky::rest(&rest, told.rest).to_vec();
+                    let record = std::mem::replace(&mut rest, unread);
+                    handed.push(Handed { record, read: told.rest, progress: told.progress.into_iter().collect() });
                 }
-                progress.extend(told.progress);
                 match told.answer {
                     Ok(Next::Onward) => {}
                     Ok(Next::Over(o)) => break 'run ended(o),
@@ -345,66 +393,53 @@ impl Ours {
                 }
             }
         };
-        Trace {
-            requests,
-            progress,
-            end,
-            attached: self.client.attached().map(|id| id.bytes().to_vec()),
-            seed: self.client.seed(),
-            rest,
-        }
+        Trace { before, requests, handed, end, after: self.state(), rest }
     }
 }
 
 /// What a comparison may excuse: the refusals of 13 to 22 that can occur in this kind of run.
 pub type Allowed = &'static [u8];
 
-/// Whether an allowed refusal has its reason: 14 after a Select; 15 where the Rust finds more than 64 ids; 17 after one Write sent 17 times;
-/// 18 after a Verify. No other is allowed anywhere.
-fn justified(n: u8, rust: &Trace, ours: &Trace) -> bool {
-    let sent = &ours.requests;
-    let command = sent.last().map(|request| request[1]);
-    match n {
-        14 => command == Some(5),
-        15 => matches!(&rust.end, End::Found(ids) if ids.len() > 64) || rust.requests.len() > sent.len(),
-        17 => command == Some(2) && sent.len() >= 17 && sent[sent.len() - 17..].iter().all(|request| request == &sent[sent.len() - 1]),
-        18 => command == Some(3),
-        _ => false,
+/// The refusal of 13 to 22 that the port gave, and the step at which it gave it.
+fn own(ours: &Trace) -> Option<(usize, u8)> {
+    match ours.end {
+        End::Refused(n @ 13..=22, _) => Some((ours.requests.len().saturating_sub(1), n)),
+        _ => None,
     }
 }
 
-/// Whether the port's run is the Rust's. At the first Io the rest is not compared. Where the port gives an allowed refusal of its own, all
-/// that came before it is compared.
-pub fn same(rust: &Trace, ours: &Trace, allowed: Allowed) -> Result<(), String> {
-    if let End::Refused(n @ 13..=22, _) = ours.end {
-        if !allowed.contains(&n) {
-            return Err(format!("refusal {n} may not occur here"));
-        }
-        if rust.requests.get(..ours.requests.len()) != Some(&ours.requests[..]) {
-            return Err("requests before the refusal".into());
-        }
-        if rust.progress.get(..ours.progress.len()) != Some(&ours.progress[..]) {
-            return Err("progress before the refusal".into());
-        }
-        if !justified(n, rust, ours) {
-            return Err(format!("refusal {n} without its reason"));
-        }
-        return Ok(());
+/// Whether the port's run is the Rust's. The port gives a refusal of its own exactly where it is due by the bytes, and only where it is
+/// allowed; all that came before it is compared.
+pub fn same(operation: &Operation, rust: &Trace, ours: &Trace, allowed: Allowed) -> Result<(), String> {
+    let given = own(ours);
+    if given.is_some_and(|(_, n)| !allowed.contains(&n)) {
+        return Err(format!("a refusal that may not occur here: {:?}", ours.end));
     }
-    if rust.requests != ours.requests {
-        return Err("requests".into());
+    agree(rust.before == ours.before, "attached id or seed before")?;
+    // After a refusal of the port's own the Rust may go on.
+    let n = if given.is_some() { ours.requests.len() } else { rust.requests.len() };
+    agree(rust.requests.get(..n) == Some(&ours.requests[..]), "requests")?;
+    agree(given.is_some() || rust.handed.len() == ours.handed.len(), "records")?;
+    let io = given.is_none() && rust.end == End::Refused(1, vec![]);
+    for (k, ours) in ours.handed.iter().enumerate() {
+        let Some(rust) = rust.handed.get(k) else { return Err("records".into()) };
+        agree(rust.record == ours.record, "records")?;
+        agree(rust.progress == ours.progress, "progress")?;
+        // What was read of a record that gave Io is not compared.
+        agree(rust.read == ours.read || (io && k + 1 == n), "what was read")?;
     }
-    if rust.progress != ours.progress {
-        return Err("progress".into());
+    let due = reasons::due(operation, rust, ours);
+    if given != due {
+        return Err(format!("the refusal due is {due:?}, and {given:?} was given"));
     }
-    if rust.end != ours.end {
-        return Err("end".into());
+    if given.is_some() {
+        return agree(ours.after == ours.stays(), "attached id or seed after a refusal");
     }
-    if (&rust.attached, rust.seed) != (&ours.attached, ours.seed) {
-        return Err("attached id or seed".into());
-    }
-    if rust.end != End::Refused(1, vec![]) && rust.rest != ours.rest {
-        return Err("rest".into());
-    }
-    Ok(())
+    agree(rust.end == ours.end, "end")?;
+    agree(rust.after == ours.after, "attached id or seed")?;
+    agree(io || rust.rest == ours.rest, "rest")
+}
+
+fn agree(equal: bool, what: &str) -> Result<(), String> {
+    if equal { Ok(()) } else { Err(what.into()) }
 }

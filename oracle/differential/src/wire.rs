@@ -89,14 +89,19 @@ impl Info {
     }
 }
 
-/// The bits that a Select's request asks for.
-fn asked(request: &[u8]) -> Vec<bool> {
-    let count = request[11] as usize;
-    (0..count).map(|k| request[12 + k / 8] >> (k % 8) & 1 != 0).collect()
+/// The address in a request.
+pub fn address(request: &[u8]) -> u32 {
+    u32::from_le_bytes(request[4..8].try_into().unwrap())
 }
 
-fn begins(prefix: &[bool], id: &[u8]) -> bool {
-    prefix.len() <= 8 * id.len() && prefix.iter().enumerate().all(|(k, &b)| (id[k / 8] >> (k % 8) & 1 != 0) == b)
+/// The prefix that a Select's request asks for: its bit count, then its bits.
+fn asked(request: &[u8]) -> (usize, &[u8]) {
+    (request[11] as usize, &request[12..request.len() - 2])
+}
+
+fn begins((count, bits): (usize, &[u8]), id: &[u8]) -> bool {
+    let (whole, spare) = (count / 8, count % 8);
+    count <= 8 * id.len() && bits[..whole] == id[..whole] && (spare == 0 || (bits[whole] ^ id[whole]) << (8 - spare) == 0)
 }
 
 #[derive(Clone)]
@@ -108,7 +113,7 @@ pub enum Wire {
     /// Anything that a Select may hear, with the ids that fit what was asked for likely.
     Adverse(Random),
     /// Pods of these ids, each made to fail its confirmation down to its last bit: the most Selects that so many ids take.
-    Stubborn(Vec<Vec<u8>>, HashSet<Vec<bool>>),
+    Stubborn(Vec<Vec<u8>>, HashSet<(usize, Vec<u8>)>),
     /// One pod in its bootloader.
     Pod(Pod),
 }
@@ -118,6 +123,8 @@ pub enum Wire {
 pub struct Pod {
     pub info: Vec<u8>,
     pub faults: Random,
+    /// The command and address from which on it has its faults and refuses Writes: a flash's requests come in this order.
+    pub from: (u8, u32),
     /// One answer in so many is a fault; none if 0.
     pub every: usize,
     /// So many Writes at each offset are answered with status 3 first, or with a bad check.
@@ -130,17 +137,22 @@ pub struct Pod {
 
 impl Pod {
     pub fn new(info: Vec<u8>, seed: u64) -> Pod {
-        Pod { info, faults: Random::new(seed), every: 0, refuses: 0, seen: 0, flash: Vec::new(), check: None }
+        Pod { info, faults: Random::new(seed), from: (0, 0), every: 0, refuses: 0, seen: 0, flash: Vec::new(), check: None }
+    }
+
+    /// Whether it is to have faults at a request.
+    fn begun(&self, request: &[u8]) -> bool {
+        (request[1], address(request)) >= self.from
     }
 
     fn sound(&mut self, request: &[u8]) -> Vec<u8> {
         let command = request[1];
-        let address = u32::from_le_bytes(request[4..8].try_into().unwrap()) as usize;
+        let address = address(request) as usize;
         let payload = &request[10..request.len() - 2];
         match command {
             0 => reply(0, 1, &self.info.clone()),
             2 => {
-                if self.seen < self.refuses {
+                if self.seen < self.refuses && self.begun(request) {
                     self.seen += 1;
                     return if self.seen % 2 == 0 { reply(2, 3, &[]) } else { damaged(reply(2, 1, &[])) };
                 }
@@ -164,7 +176,7 @@ impl Pod {
     }
 
     fn heard(&mut self, request: &[u8]) -> Vec<u8> {
-        if self.every == 0 || !self.faults.one_in(self.every) {
+        if self.every == 0 || !self.begun(request) || !self.faults.one_in(self.every) {
             return self.sound(request);
         }
         let r = &mut self.faults.clone();
@@ -198,7 +210,7 @@ impl Wire {
             Wire::Scripted(records) => records.get(k).cloned().unwrap_or_default(),
             Wire::Honest(ids) => {
                 let prefix = asked(request);
-                let mut matching = ids.iter().filter(|id| begins(&prefix, id));
+                let mut matching = ids.iter().filter(|id| begins(prefix, id));
                 match (matching.next(), matching.next()) {
                     (None, _) => Vec::new(),
                     (Some(id), None) => reply(5, 1, id),
@@ -206,14 +218,15 @@ impl Wire {
                 }
             }
             Wire::Adverse(r) => {
-                let prefix = asked(request);
+                let (count, bits) = asked(request);
                 match r.below(16) {
                     0..4 => Vec::new(),
                     4..9 => vec![0x55],
                     9..14 => {
                         let mut id = r.bytes(1 + r.clone().below(16));
-                        for (k, &b) in prefix.iter().enumerate().take(8 * id.len()) {
-                            id[k / 8] = id[k / 8] & !(1 << (k % 8)) | (b as u8) << (k % 8);
+                        for k in 0..count.min(8 * id.len()) {
+                            let bit = 1 << (k % 8);
+                            id[k / 8] = id[k / 8] & !bit | bits[k / 8] & bit;
                         }
                         reply(5, 1, &id)
                     }
@@ -227,12 +240,12 @@ impl Wire {
             }
             Wire::Stubborn(ids, met) => {
                 let prefix = asked(request);
-                let mut matching = ids.iter().filter(|id| begins(&prefix, id));
+                let mut matching = ids.iter().filter(|id| begins(prefix, id));
                 match (matching.next(), matching.next()) {
                     (Some(id), None) => reply(5, 1, id),
-                    (None, _) if met.contains(&prefix) => Vec::new(),
+                    (None, _) if met.contains(&(prefix.0, prefix.1.to_vec())) => Vec::new(),
                     _ => {
-                        met.insert(prefix);
+                        met.insert((prefix.0, prefix.1.to_vec()));
                         vec![0]
                     }
                 }

@@ -2,7 +2,7 @@
 
 use differential::run::{End, Operation, Ours, Rust};
 use differential::wire::{Info, Pod, Wire, reply};
-use fahireky::{Client, Id, Refusal};
+use fahireky::{Client, Id, Refusal, Request};
 
 const INFO: Info = Info { capacity: 8, erase_size: 8, compat: 0xFFFF_FFFF, max_payload: 4 };
 
@@ -64,9 +64,12 @@ fn a_select_of_129_bits() {
 
 #[test]
 fn an_erase_address_that_overflows() {
-    // The Rust has no end here, and is not run.
+    // The Rust has no end here: its link fails.
     let info = Info { capacity: 0xFFFF_FFFF, erase_size: 2, ..INFO };
-    let port = Ours::new().run(&Operation::Erase, Wire::Pod(Pod::new(info.bytes(), 1)), None, &[], false);
+    let wire = Wire::Pod(Pod::new(info.bytes(), 1));
+    let rust = Rust::new().run(&Operation::Erase, wire.clone(), Some(1000), &[]);
+    assert_eq!((rust.end, rust.requests.len()), (refused(1), 1001));
+    let port = Ours::new().run(&Operation::Erase, wire, None, &[], false);
     assert_eq!((port.end, port.requests.len()), (refused(19), 1));
 }
 
@@ -93,7 +96,7 @@ fn an_image_of_another_length() {
     let mut c = Client::new();
     c.start_flash(&[0; 5]).unwrap();
     assert_eq!(c.request(&[0; 6], &mut [0; 12]), Err(Refusal::OtherImage));
-    assert_eq!(c.request(&[0; 5], &mut [0; 12]), Ok(12));
+    assert_eq!(c.request(&[0; 5], &mut [0; 12]), Ok(Request { len: 12, awaited: true }));
 }
 
 #[test]

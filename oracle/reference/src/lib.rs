@@ -9,6 +9,13 @@ pub mod inner {
         super::hear(bytes)
     }
 
+    /// The ids that the walk under a prefix keeps, to its end or to what ends it before.
+    pub fn kept<T: super::Link>(client: &mut super::Client<T>, prefix: &[u8]) -> Vec<Vec<u8>> {
+        let mut ids = Vec::new();
+        let _ = client.walk(&mut super::bits_of(prefix), &mut ids, None);
+        ids
+    }
+
     pub fn seed<T: super::Link>(client: &super::Client<T>) -> u8 {
         client.seed
     }

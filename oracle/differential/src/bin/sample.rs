@@ -38,8 +38,8 @@ fn code(operation: &Operation) -> Vec<u8> {
 }
 
 /// Each request, what was read of the record after it, and the progress; then the ids and the end, the seed and the attached id.
-fn shown(trace: &Trace, handed: &[Handed], awaited: bool) -> String {
-    let mut out = String::new();
+fn shown(trace: &Trace, awaited: bool) -> String {
+    let (mut out, handed) = (String::new(), &trace.handed);
     for (k, request) in trace.requests.iter().enumerate() {
         writeln!(out, "> {}", hex(request)).unwrap();
         let last = k + 1 == trace.requests.len();
@@ -71,14 +71,14 @@ fn shown(trace: &Trace, handed: &[Handed], awaited: bool) -> String {
         }
         End::Refused(n, _) => writeln!(out, "= {n:08x}").unwrap(),
     }
-    writeln!(out, "s {:08x} {}", trace.seed, hex(trace.attached.as_deref().unwrap_or(&[]))).unwrap();
+    writeln!(out, "s {:08x} {}", trace.after.seed, hex(trace.after.attached.as_deref().unwrap_or(&[]))).unwrap();
     out
 }
 
 /// Whether a Verify was answered with fewer than two bytes: there the Rust reads bytes of an earlier frame, and the port refuses with 18.
-fn short_verify(trace: &Trace, handed: &[Handed]) -> bool {
+fn short_verify(trace: &Trace) -> bool {
     let verify = trace.requests.last().is_some_and(|r| r[1] == 3);
-    let Some(last) = handed.last() else { return false };
+    let Some(last) = trace.handed.last() else { return false };
     let answer = &last.record[..last.read];
     verify && answer.len() >= 12 && answer[answer.len() - 12] == 0xA5
 }
@@ -101,10 +101,9 @@ fn clients(folder: &Path, all: Vec<Operations>) {
         for (operation, wire, fails_at) in operations {
             let awaited = !matches!(operation, Operation::Reset(_, false) | Operation::SetBaud(_, _, false));
             let trace = rust.run(&operation, wire, fails_at, &kept);
-            let handed = rust.handed();
-            input += &asked(&operation, if awaited { &handed } else { &[] });
+            input += &asked(&operation, if awaited { &trace.handed } else { &[] });
             input += if fails_at.is_some() { "01\n\n" } else { "\n" };
-            output += &shown(&trace, &handed, awaited);
+            output += &shown(&trace, awaited);
             kept = trace.rest;
             if let End::Refused(n, carries) = &trace.end {
                 let carries: Vec<String> = carries.iter().map(|c| format!(" {c:08x}")).collect();
@@ -341,13 +340,12 @@ fn main() {
     for (operation, wire) in runs {
         let mut rust = Rust::new();
         let trace = rust.run(&operation, wire, None, &[]);
-        let handed = rust.handed();
-        if short_verify(&trace, &handed) {
+        if short_verify(&trace) {
             continue;
         }
-        input += &asked(&operation, &handed);
+        input += &asked(&operation, &trace.handed);
         input += "\n";
-        output += &shown(&trace, &handed, true);
+        output += &shown(&trace, true);
     }
     fs::write(folder.join("runs.in"), input).unwrap();
     fs::write(folder.join("runs.out"), output).unwrap();
