@@ -33,10 +33,8 @@ use Rattle.steps.specs.Steps as Steps
 use Rattle.client.specs.declared.Told.{Told}
 use Rattle.client.specs.Clients as Code
 use Rattle.client.specs.Clients.{otherImage, fresh, idle, running, over}
-use Rattle.frame.specs.Writing.{placed, written}
 use Rattle.starting.specs.Starting.{starts, demands, startSelect, startAttach, startAttachTo, startInfo}
-use Rattle.asking.specs.Asking as Asking
-use Rattle.asking.specs.Asking.{asks, handing, askedFor, request}
+use Rattle.asking.specs.Asking.{asks, searchFrame, frameOf, handing, handed, granting, askedFor, request}
 use Rattle.telling.specs.Telling.{probed, hears, answeredTo, record′, linkFailed}
 use Rattle.records.specs.Calls.{Call, Good, paperCall, codeCall, Answer, paperAnswers, codeAnswers, reached, Rests}
 use Rattle.records.specs.Served.{isOnward, resting, discovered, heardBy, EndsAs, Finds, Lists, devices}
@@ -132,11 +130,11 @@ unattached-good : All Good unattached
 unattached-good = ((omega arith, tt), (tt, (tt, (tt, (tells-bytes, tt)))))
 
 selected-rests : reached fresh selected ≡ resting 1 none
-unfolding reached codeCall fresh startSelect starts request askedFor Asking.selects asks handing Asking.granted written placed frameBytes frameBody frameHead le otherImage record′ answeredTo hears probed Steps.long over idle oneHeard hear frames clean replies alone read readSynced readSized rightCheck skipped number check crcFrom crcByte crcBit selectPayload bitsOf counting bit packed binary running idFrom
+unfolding reached codeCall fresh startSelect starts request askedFor granting searchFrame frameOf handing handed asks frameBytes frameBody frameHead le otherImage record′ answeredTo hears probed Steps.long over idle oneHeard hear frames clean replies alone read readSynced readSized rightCheck skipped number check crcFrom crcByte crcBit selectPayload bitsOf counting bit packed binary running idFrom
 selected-rests = refl
 
 unattached-rests : reached fresh unattached ≡ resting 1 none
-unfolding reached codeCall fresh startAttachTo startInfo demands starts request askedFor Asking.selects asks handing Asking.granted written placed frameBytes frameBody frameHead le otherImage record′ linkFailed over idle selectPayload bitsOf counting bit packed binary running idFrom
+unfolding reached codeCall fresh startAttachTo startInfo demands starts request askedFor granting searchFrame frameOf handing handed asks frameBytes frameBody frameHead le otherImage record′ linkFailed over idle selectPayload bitsOf counting bit packed binary running idFrom
 unattached-rests = refl
 
 pub idle-canonical-met : reached fresh selected ≡ reached fresh unattached

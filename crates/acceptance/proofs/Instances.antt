@@ -1,43 +1,27 @@
 -- What meets the premises of condition 2: each theorem with a premise, applied to values that meet it.
 -- Assumes nothing.
-use Prim.Native.Nat.{ℕ, _+_, _-_, _≤_}
-use mathlib.Core.Bool.{true, false}
+use Prim.Native.Nat.{ℕ, _≤_}
+use mathlib.Core.Bool.{true}
 use mathlib.Core.List.{List, [], _∷_, _++_}
 use mathlib.Core.Option.{Option, some}
 use mathlib.Core.Path.{_≡_, refl}
 use native.Mathlib.Omega.{arith}
 use lib.ListN.{length, drop, replicate, length-replicate}
 use Rattle.paper.specs.Answers.{ok, answerFrom, answer, sound, informed, spansTooFar, tooLarge, incompatible, key, chunk, padding, steps, apart, below, eraseAddresses}
-use Rattle.paper.specs.Attach.{attach}
-use Rattle.paper.specs.Client.{refused, granted, payloadOf}
 use Rattle.paper.specs.Flash.{accepted, transact, refuseIf, inform, eraseOne, eraseAll, prepare, repeated, persist, writeWithin, offsets, writeAll, verify, informOnly, erase, flash, reset}
 use Rattle.paper.specs.Frame.{le, number, crcBit, crcByte, crcFrom, check, Frame, whole, frameHead, frameBody, frameBytes, skipped, rightCheck, readSized, readSynced, read, Info, infoOf}
-use Rattle.paper.specs.Hearing.{Id, before}
-use Rattle.paper.specs.Log.{longer}
-use Rattle.paper.specs.Talk.{_>>=_, each, quiet, knows}
-use Rattle.paper.specs.Walk.{discover}
-use Rattle.theory.specs.FlashOrder.{Event, heard, failed, readEvent, play, toldBy, toldIn, told, Flashed, Ended, most, erasesMost, flashMost}
-use Rattle.ids.specs.Ids.{idFrom}
+use Rattle.paper.specs.Hearing.{Id}
+use Rattle.paper.specs.Talk.{_>>=_, each, knows}
+use Rattle.theory.specs.Driven.{Round}
+use Rattle.theory.specs.FlashOrder.{Event, heard, failed, unanswered, readEvent, play, toldBy, toldIn, told, Flashed, Ended, most, erasesMost, flashMost}
 use Rattle.image.specs.Images.{codeInfo}
 use Rattle.client.specs.declared.Client.{Client}
 use Rattle.client.specs.declared.Job.the-variants.{Writing}
-use Rattle.client.specs.declared.Phase.{Phase}
 use Rattle.client.specs.declared.Phase.the-variants.{Demand}
-use Rattle.client.specs.declared.Refusal.the-variants.{Io, Device, NoSuchUid, BadPrefix, ShortBuffer, OtherImage, OutOfTurn}
-use Rattle.client.specs.declared.Says.the-variants.{Refused}
-use Rattle.client.specs.declared.Turn.the-variants.{Idle, Ready, Waiting}
-use Rattle.client.specs.Clients.{otherFor, otherImage, turned, running, refuse, refuses, over, stops}
-use Rattle.client.specs.Numbers.{numberOf}
-use Rattle.demands.specs.Demands.{demandOf}
-use Rattle.frame.specs.Writing.{placed, written}
-use Rattle.starting.specs.Starting.{starts, badPrefix, startSelect, startDeselect, startAttach, startAttachTo, startDiscover, startInfo, startErase, startFlash, startReset, startSetBaud}
-use Rattle.asking.specs.Asking as Asking
-use Rattle.asking.specs.Asking.{handing, askedFor, withheld, request}
-use Rattle.answering.specs.Answering.{tells}
-use Rattle.telling.specs.Telling.{answeredTo, record′, linkFailed}
-use Rattle.records.specs.Driven.{Round, driven, Returns, Refuses}
-use Rattle.records.specs.Refusals.{keeps, parts, leaves}
-use Rattle.records.specs.Served.{opening, resting}
+use Rattle.client.specs.declared.Turn.the-variants.{Waiting}
+use Rattle.client.specs.Clients.{turned}
+use Rattle.telling.specs.Telling.{record′}
+use Rattle.records.specs.Served.{resting}
 use Rattle.acceptance.proofs.Condition2 as Condition2
 
 -- A device: capacity 6, erase_size 4, no key, max_payload 4.
@@ -54,71 +38,43 @@ device = record {
 }
 
 -- What it answers, as bytes: its Info; Ok to an Erase, a Write and a Reset; status 3 to a Write; the check of the image to a Verify.
-abbrev informs : List ℕ
+abbrev pub informs : List ℕ
 informs = 0xA5 ∷ 0x00 ∷ 0x01 ∷ 0x00 ∷ 0x00 ∷ 0x00 ∷ 0x00 ∷ 0x00 ∷ 0x12 ∷ 0x00 ∷ 0x06 ∷ 0x00 ∷ 0x00 ∷ 0x00 ∷ 0x04 ∷ 0x00 ∷ 0x03 ∷ 0x00 ∷ 0x07 ∷ 0x00 ∷ 0x01 ∷ 0x02 ∷ 0xFF ∷ 0xFF ∷ 0xFF ∷ 0xFF ∷ 0x04 ∷ 0x00 ∷ 0x78 ∷ 0x99 ∷ []
 
-abbrev erased : List ℕ
+abbrev pub erased : List ℕ
 erased = 0xA5 ∷ 0x01 ∷ 0x01 ∷ 0x00 ∷ 0x00 ∷ 0x00 ∷ 0x00 ∷ 0x00 ∷ 0x00 ∷ 0x00 ∷ 0x80 ∷ 0x52 ∷ []
 
 abbrev pub wrote : List ℕ
 wrote = 0xA5 ∷ 0x02 ∷ 0x01 ∷ 0x00 ∷ 0x00 ∷ 0x00 ∷ 0x00 ∷ 0x00 ∷ 0x00 ∷ 0x00 ∷ 0xC4 ∷ 0x7F ∷ []
 
-abbrev mismatched : List ℕ
+abbrev pub mismatched : List ℕ
 mismatched = 0xA5 ∷ 0x02 ∷ 0x03 ∷ 0x00 ∷ 0x00 ∷ 0x00 ∷ 0x00 ∷ 0x00 ∷ 0x00 ∷ 0x00 ∷ 0x62 ∷ 0xF0 ∷ []
 
-abbrev verified : List ℕ
+abbrev pub verified : List ℕ
 verified = 0xA5 ∷ 0x03 ∷ 0x01 ∷ 0x00 ∷ 0x00 ∷ 0x00 ∷ 0x00 ∷ 0x00 ∷ 0x02 ∷ 0x00 ∷ 0x87 ∷ 0xBD ∷ 0xF7 ∷ 0x40 ∷ []
 
-abbrev was-reset : List ℕ
+abbrev pub was-reset : List ℕ
 was-reset = 0xA5 ∷ 0x04 ∷ 0x01 ∷ 0x00 ∷ 0x00 ∷ 0x00 ∷ 0x00 ∷ 0x00 ∷ 0x00 ∷ 0x00 ∷ 0x4C ∷ 0x25 ∷ []
 
 abbrev pub image : List ℕ
 image = 0x10 ∷ 0x21 ∷ 0x32 ∷ 0x43 ∷ 0x54 ∷ []
 
 -- The image is lent with every request and every answer.
-abbrev answers : List ℕ → Round
+abbrev pub answers : List ℕ → Round
 answers bytes = record { lent = image; event = heard image bytes }
 
-abbrev buffer : List ℕ
+abbrev pub buffer : List ℕ
 buffer = replicate 1036 0
 
-room : 1036 ≤ length buffer
+pub room : 1036 ≤ length buffer
 room = omega (arith, length-replicate {A = ℕ} 1036 0)
 
 abbrev pub attached : Option Id
 attached = some (0xC1 ∷ 0x07 ∷ [])
 
 -- A flash to its end: the Info, two Erases, the first Write twice, the second, the Verify.
-abbrev flashed : List Round
+abbrev pub flashed : List Round
 flashed = answers informs ∷ answers erased ∷ answers erased ∷ answers mismatched ∷ answers wrote ∷ answers wrote ∷ answers verified ∷ []
-
-pub flash-driven-met : Returns 255 attached (driven buffer flashed (opening (startFlash (resting 255 attached) image))) (knows device)
-unfolding play readEvent answer answerFrom read readSynced readSized rightCheck skipped number check crcFrom crcByte crcBit accepted transact refuseIf inform eraseOne eraseAll erase prepare repeated persist writeWithin offsets writeAll verify flash each _>>=_ sound informed spansTooFar tooLarge incompatible key padding chunk steps apart below eraseAddresses infoOf
-flash-driven-met =
-    Condition2.flash-driven buffer room 255 (omega arith) attached (omega arith) flashed image
-    ((refl, refl), ((refl, refl), ((refl, refl), ((refl, refl), ((refl, refl), ((refl, refl), ((refl, refl), tt)))))))
-
-pub info-driven-met : Returns 255 attached (driven buffer (answers informs ∷ []) (opening (startInfo (resting 255 attached)))) (knows device)
-unfolding play readEvent answer answerFrom read readSynced readSized rightCheck skipped number check crcFrom crcByte crcBit accepted transact inform informOnly _>>=_ sound informed infoOf
-info-driven-met = Condition2.info-driven buffer room 255 (omega arith) attached (omega arith) (answers informs ∷ [])
-
--- To its end; and with a link that fails at the second Erase.
-pub erase-driven-met :
-    Returns 255 attached (driven buffer (answers informs ∷ answers erased ∷ answers erased ∷ []) (opening (startErase (resting 255 attached)))) (knows device)
-    × Refuses 255 attached (driven buffer (answers informs ∷ answers erased ∷ record { lent = []; event = failed } ∷ []) (opening (startErase (resting 255 attached)))) 1 []
-unfolding play readEvent answer answerFrom read readSynced readSized rightCheck skipped number check crcFrom crcByte crcBit accepted transact refuseIf inform eraseOne eraseAll erase each _>>=_ sound informed spansTooFar steps apart below eraseAddresses infoOf
-erase-driven-met = (
-  Condition2.erase-driven buffer room 255 (omega arith) attached (omega arith) (answers informs ∷ answers erased ∷ answers erased ∷ []),
-  Condition2.erase-driven buffer room 255 (omega arith) attached (omega arith) (answers informs ∷ answers erased ∷ record { lent = []; event = failed } ∷ []),
-)
-
-pub reset-driven-met : Returns 255 attached (driven buffer (answers was-reset ∷ []) (opening (startReset (resting 255 attached) true true))) quiet
-unfolding play readEvent answer answerFrom read readSynced readSized rightCheck skipped number check crcFrom crcByte crcBit accepted transact reset _>>=_
-reset-driven-met = Condition2.reset-driven buffer room 255 (omega arith) attached (omega arith) (answers was-reset ∷ []) true
-
-pub baud-driven-met : Returns 255 attached (driven buffer (answers was-reset ∷ []) (opening (startSetBaud (resting 255 attached) 5 false true))) quiet
-unfolding play readEvent answer answerFrom read readSynced readSized rightCheck skipped number check crcFrom crcByte crcBit accepted transact reset _>>=_
-baud-driven-met = Condition2.baud-driven buffer room 255 (omega arith) attached (omega arith) (answers was-reset ∷ []) 5 false
 
 -- The flash above, as events, and links that fail after its end, to as many as its bound: 1, 2 Erases, 17 for each of 2 Writes, and 1.
 abbrev flashing : List Event
@@ -140,7 +96,7 @@ pub info-ends-met : Ended (play informOnly (heard image informs ∷ []) [] .1)
 info-ends-met = Condition2.info-ends (heard image informs ∷ []) .ends (omega arith)
 
 bound-3 : most erasesMost (told (play erase (heard [] informs ∷ heard [] erased ∷ failed ∷ []) [] .0)) ≡ 3
-unfolding most erasesMost told toldIn toldBy play readEvent answer answerFrom read readSynced readSized rightCheck skipped number check crcFrom crcByte crcBit accepted transact refuseIf inform eraseOne eraseAll erase each _>>=_ sound informed spansTooFar steps apart below eraseAddresses infoOf
+unfolding most erasesMost told toldIn toldBy play readEvent unanswered answer answerFrom read readSynced readSized rightCheck skipped number check crcFrom crcByte crcBit accepted transact refuseIf inform eraseOne eraseAll erase each _>>=_ sound informed spansTooFar steps apart below eraseAddresses infoOf
 bound-3 = refl
 
 pub erase-ends-met : Ended (play erase (heard [] informs ∷ heard [] erased ∷ failed ∷ []) [] .1)

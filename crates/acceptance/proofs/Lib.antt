@@ -10,6 +10,7 @@ pub mod Results
 pub mod Ties
 pub mod BenchLog
 pub mod Instances
+pub mod DrivenMet
 pub mod Condition1Met
 pub mod Discoveries
 pub mod HonestMet

@@ -161,12 +161,12 @@ module _ (buffer : List ℕ) where
 
         sent : (b : Bool)
             → _≡_ {A = List Sent}
-            (cond b (onSays (asking buffer r code .answer .says) (λ k. Theory.handing k (asking buffer r code .bytes) (some (r .event)) ∷ sends buffer rs (telling buffer r code)) (λ k. Theory.handing k (asking buffer r code .bytes) none ∷ []) [] []) [])
-            (cond b (onAsked (Theory.asking buffer r paper .says) (λ k. Theory.handing k (Theory.asking buffer r paper .buffer) (some (r .event)) ∷ Theory.sends buffer rs (Theory.telling buffer r paper)) (λ k. Theory.handing k (Theory.asking buffer r paper .buffer) none ∷ []) []) [])
+            (cond b (onSays (asking buffer r code .answer .says) (λ k. Theory.sending k (asking buffer r code .bytes) (some (r .event)) ∷ sends buffer rs (telling buffer r code)) (λ k. Theory.sending k (asking buffer r code .bytes) none ∷ []) [] []) [])
+            (cond b (onAsked (Theory.asking buffer r paper .says) (λ k. Theory.sending k (Theory.asking buffer r paper .buffer) (some (r .event)) ∷ Theory.sends buffer rs (Theory.telling buffer r paper)) (λ k. Theory.sending k (Theory.asking buffer r paper .buffer) none ∷ []) []) [])
         sent true =
             asked-said (λ (x y : List Sent). x ≡ y) _ _ _ _ _ _
-            (λ k. ap₂ (λ (l : List ℕ) (m : List Sent). Theory.handing k l (some (r .event)) ∷ m) filled (on .sent))
-            (λ k. ap (λ (l : List ℕ). Theory.handing k l none ∷ []) filled)
+            (λ k. ap₂ (λ (l : List ℕ) (m : List Sent). Theory.sending k l (some (r .event)) ∷ m) filled (on .sent))
+            (λ k. ap (λ (l : List ℕ). Theory.sending k l none ∷ []) filled)
             refl (asking buffer r code .answer .says) (Theory.asking buffer r paper .says) said
         sent false = refl
 

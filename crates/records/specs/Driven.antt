@@ -49,8 +49,8 @@ unfoldable pub sends : List ℕ → List Round → Told → List Sent
 sends buffer [] t = []
 sends buffer (r ∷ rs) t =
     cond (isOnward (t .says))
-    (onSays (asking buffer r t .answer .says) (λ k. Theory.handing k (asking buffer r t .bytes) (some (r .event)) ∷ sends buffer rs (telling buffer r t))
-    (λ k. Theory.handing k (asking buffer r t .bytes) none ∷ []) [] [])
+    (onSays (asking buffer r t .answer .says) (λ k. Theory.sending k (asking buffer r t .bytes) (some (r .event)) ∷ sends buffer rs (telling buffer r t))
+    (λ k. Theory.sending k (asking buffer r t .bytes) none ∷ []) [] [])
     []
 
 -- What an answer says, read as document 01's.

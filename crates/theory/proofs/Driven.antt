@@ -15,7 +15,7 @@ use Rattle.paper.specs.Hearing.{Id, onSome}
 use Rattle.paper.specs.Talk.{Demand, Ask, select, demand, leave, Answer, Talk, return, stop, report, ask, Outcome}
 use Rattle.paper.specs.Count.{All}
 use Rattle.theory.specs.FlashOrder.{Past, Event, heard, failed, lost, unanswered, readEvent, play}
-use Rattle.theory.specs.Driven.{Round, events, Sent, goesOn, tells, driven, handing, sends, OfLength, LendsIn, Lends, sizeOf, seedOver, idOver, restAfter, brought, nothingYet, success, resting, StandsAs}
+use Rattle.theory.specs.Driven.{Round, events, Sent, goesOn, tells, driven, sending, sends, OfLength, LendsIn, Lends, sizeOf, seedOver, idOver, restAfter, brought, nothingYet, success, resting, StandsAs}
 use Rattle.theory.proofs.Sizes.{asked-size, Returns, Modest, room}
 
 -- An image of the length that runs passes the test on it.
@@ -83,7 +83,7 @@ module _ (buffer : List ℕ) (n : Option ℕ) where
   abbrev pub handed : Ask → ℕ → List ℕ → Option Event → Sent
   handed q seed image e = record { bytes = bytesOf q (seedAfter q seed) image; then = e }
 
-  front : (xs : List ℕ) (e : Option Event) → handing (length xs) (xs ++ drop (length xs) buffer) e ≡ record { bytes = xs; then = e }
+  front : (xs : List ℕ) (e : Option Event) → sending (length xs) (xs ++ drop (length xs) buffer) e ≡ record { bytes = xs; then = e }
   front xs e = ap (λ (l : List ℕ). record { bytes = l; then = e }) (take-append-seam xs (drop (length xs) buffer))
 
   left-client : (d : Demand) (f : Answer (leave d) → Talk Outcome) (o : Outcome) → f tt ≡ return o → (seed : ℕ) (id : Option Id)

@@ -34,7 +34,7 @@ use Rattle.theory.proofs.Fits.{step-fits, start-fits}
 use Rattle.theory.proofs.FlashVerify.{verdict, verify-only, verify-if}
 use Rattle.theory.proofs.Frames.{Fits, read-written, written-read, fits-read}
 use Rattle.theory.proofs.Heard.{hear-reply, hear-ok, hear-unsupported, hear-other, hear-echo, frames-fuel, answer-fuel, answer-reply, answer-echo}
-use Rattle.theory.proofs.Images.{addresses-fit, addresses-below}
+use Rattle.theory.proofs.Images.{addresses-fit, capacity-fits, addresses-below}
 use Rattle.theory.proofs.Keeping as Keeping
 use Rattle.theory.proofs.Keeping.{turn-sound, record-fits}
 use Rattle.theory.proofs.Kept.{Listed, kept-listed, kept-distinct}
@@ -155,6 +155,10 @@ device = record {
 pub addresses-fit-met : All (λ x. x + 2 ≤ 0xFFFFFFFF) (0 ∷ 2 ∷ 4 ∷ [])
 unfolding spansTooFar steps apart below eraseAddresses
 addresses-fit-met = addresses-fit device (omega arith) refl
+
+pub capacity-fits-met : 5 ≤ 0xFFFFFFFF
+unfolding spansTooFar steps
+capacity-fits-met = capacity-fits device (omega arith) refl
 
 pub addresses-below-met : All (λ x. x < 5) (0 ∷ 2 ∷ 4 ∷ [])
 unfolding steps apart below eraseAddresses

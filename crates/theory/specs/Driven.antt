@@ -64,16 +64,16 @@ driven buffer (r ∷ rs) t =
     t
 
 -- "A granted request fills its own length of the buffer": the first bytes of it, and what happened then.
-abbrev pub handing : ℕ → List ℕ → Option Event → Sent
-handing k buffer then = record { bytes = take k buffer; then = then }
+abbrev pub sending : ℕ → List ℕ → Option Event → Sent
+sending k buffer then = record { bytes = take k buffer; then = then }
 
 -- All that is handed out on the way, the first one first.
 unfoldable pub sends : List ℕ → List Round → Told → List Sent
 sends buffer [] t = []
 sends buffer (r ∷ rs) t =
     cond (goesOn (t .says))
-    (onAsked (asking buffer r t .says) (λ k. handing k (asking buffer r t .buffer) (some (r .event)) ∷ sends buffer rs (telling buffer r t))
-    (λ k. handing k (asking buffer r t .buffer) none ∷ []) [])
+    (onAsked (asking buffer r t .says) (λ k. sending k (asking buffer r t .buffer) (some (r .event)) ∷ sends buffer rs (telling buffer r t))
+    (λ k. sending k (asking buffer r t .buffer) none ∷ []) [])
     []
 
 -- An image of the length that a flash was started with; any image, where none was.

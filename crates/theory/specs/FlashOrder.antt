@@ -155,7 +155,8 @@ pub record MayWrite (n : ℕ) (past : Past) : Type 0 where
   pub passed : Passed n (told past) info
   pub cleared : erased past ≡ eraseAddresses info
 
--- What a flash of an image of n bytes may demand: the Info, first of all; an Erase; the Write that follows on the bytes taken; the Verify.
+-- What a flash of an image of n bytes may demand: the Info, first of all; an Erase; the Write that follows on the bytes taken, where some are left; the
+-- Verify.
 pub data InOrder (n : ℕ) (past : Past) (d : Demand) : Type 0 where
   toInform : past ≡ [] → d ≡ infoRequest → InOrder n past d
   toErase : (may : MayErase n past) → d ≡ eraseRequest (may .info) (d .address) → InOrder n past d
