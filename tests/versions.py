@@ -159,5 +159,5 @@ for file in [pathlib.Path(a) for a in sys.argv[1:]] or sorted((root / "tests/ver
     faults += bad
 for fault in faults:
     print(fault)
-print(f"{len(everything)} wrong versions of code and contract, {len(faults)} faults")
+print(f"wrong versions of code and contract: {len(everything)}, faults: {len(faults)}")
 sys.exit(1 if faults or not everything else 0)
