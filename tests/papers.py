@@ -21,7 +21,7 @@ for path, names in cited:
         if not re.search(rf"^\s*(?:abbrev |unfoldable )?pub (?:record |data )?{re.escape(name)}\b", text, re.M):
             bad.append(f"THEOREMS.md: {path} has no public {name}")
 
-wrong = {f"{e.parent.parent.name}/{label}" for e in root.glob("crates/*/must-fail/*.edit") for label in re.findall(r"(?m)^wrong: (.*)$", e.read_text())}
+wrong = {f"{e.parent.parent.name}/{label}" for e in root.glob("crates/*/must-fail*/*.edit") for label in re.findall(r"(?m)^wrong: (.*)$", e.read_text())}
 crates = {c.name for c in (root / "crates").iterdir()}
 for doc in sorted(root.glob("docs/*.md")):
     for label in re.findall(r"`(\w+/\w+)`", doc.read_text()):
