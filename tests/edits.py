@@ -10,6 +10,7 @@ crates/NAME/must-fail-long are tried by `tests/long edits`, which leaves their l
 not judged, and are counted apart: only that each text still stands once in its file, and that the table has a row for it, is looked at.
 
 python3 tests/edits.py            the verdict
+python3 tests/edits.py --long     the verdict on the rounds of the long tests alone, each held to its row of the table
 python3 tests/edits.py --table    writes the table
 """
 import pathlib
@@ -123,7 +124,8 @@ def stored(wrong):
 
 
 everything, untried, bad = [], 0, []
-for edit in sorted(root.glob("crates/*/must-fail*/*.edit")):
+long = sys.argv[1:] == ["--long"]
+for edit in sorted(root.glob(f"crates/*/must-fail{'-long' if long else '*'}/*.edit")):
     name = f"{edit.parent.parent.name}/{edit.stem}"
     log = root / "target" / edit.parent.name / edit.parent.parent.name / edit.stem / ".log"
     wrongs = read(edit)
@@ -131,7 +133,7 @@ for edit in sorted(root.glob("crates/*/must-fail*/*.edit")):
     if len(set(places)) < len(places) or (len(wrongs) > 1 and any(w.place is None for w in wrongs)):
         bad.append(f"{name}: two wrong versions in one place, or a definition's beside others")
     tried = log.exists()
-    if not tried and edit.parent.name != "must-fail-long":
+    if not tried and (long or edit.parent.name != "must-fail-long"):
         bad.append(f"{name}: no log")
         continue
     bad += [f"{name}: {what}" for what in stale(edit)]
@@ -140,6 +142,8 @@ for edit in sorted(root.glob("crates/*/must-fail*/*.edit")):
         w.fact = refused(w, log.read_text()) if tried else stored(w)
         if w.fact is None:
             bad.append(f"{name}: {w.label} ({w.place}) " + ("is not refused at a fact" if tried else "is in no row of docs/CONTRACTS.md"))
+        if long and w.fact != stored(w):
+            bad.append(f"{name}: {w.label} is refused at {w.fact}, and docs/CONTRACTS.md says {stored(w)}")
         if not w.rule:
             bad.append(f"{name}: {w.label} does not say what rule it breaks")
     everything += wrongs
@@ -152,7 +156,7 @@ text = document.read_text()
 written = text[: text.index(mark)] + table(everything)
 if sys.argv[1:] == ["--table"]:
     document.write_text(written)
-elif text != written:
+elif text != written and not long:
     bad.append("docs/CONTRACTS.md: its table is not that of the edits; python3 tests/edits.py --table writes it")
 for line in bad:
     print(line)
