@@ -1,19 +1,19 @@
--- Eight steps of the register in closed form: a step takes a sum apart, the low byte only moves up, the high byte's part is computed.
+-- Eight and sixteen steps of the register in closed form: each takes a sum apart, so it is known by what it makes of each bit.
 -- Assumes nothing.
-use Prim.Native.Nat.{ℕ, zero, suc, _+_, _*_, _/_, _%_, _^_, _<_, _≤_}
-use mathlib.Core.List.{List}
+use Prim.Native.Nat.{ℕ, zero, suc, _+_, _-_, _*_, _/_, _%_, _^_, _<_}
+use mathlib.Core.Bool.{cond}
+use mathlib.Core.List.{List, [], _∷_}
 use mathlib.Core.Path.{_≡_, refl, sym, _∙_, ap, ap₂}
 use native.Mathlib.Decide.{decLt}
-use native.Mathlib.Nat.{zero-add, add-zero}
+use native.Mathlib.Nat.{add-zero, one-mul, pow-suc, div-le-self, lt-of-le-of-lt}
 use native.Mathlib.Omega.{arith}
 use lib.Arith.{bin-ind}
 use lib.Bits.{bitXor, differ, xor-step, xor-zero-r, xor-comm, xor-lt, xor-block, xor-shifted, xor-shr, xor-mod}
-use lib.Dec.{lit<}
-use lib.ListN.{getD}
+use lib.Dec.{ltb, lit<}
+use lib.ListN.{drop, getD}
+use lib.Pow.{pow-pos}
 use borrow.Author.Tests.{lt-ltb, le-ltb}
-use Rattle.lore.proofs.Bits.{counting-at}
 use Rattle.paper.specs.Frame.{crcBit, crcByte}
-use Rattle.paper.specs.Hearing.{counting}
 
 digit : (P : ℕ → Type 0) → P 0 → P 1 → (x : ℕ) → P (x % 2)
 digit P p q x = go (x % 2) (omega arith)
@@ -47,86 +47,154 @@ xor-swap =
     digits a b p =
         xor-step (bitXor a b) p ∙ ap₂ (λ (x y : ℕ). bitXor x (p / 2) * 2 + differ y (p % 2)) (xor-shr a b 1) (xor-odd a b)
 
-doubled : (x y : ℕ) → bitXor (x * 2) (y * 2) ≡ bitXor x y * 2
-doubled x y = sym (ap₂ bitXor (add-zero (x * 2)) (add-zero (y * 2))) ∙ xor-block 1 x y 0 0 (lit< tt) (lit< tt) ∙ add-zero (bitXor x y * 2)
-
--- What does not reach the top bit is only shifted.
-step : (x y : ℕ) → y < 0x8000 → crcBit (bitXor x y) ≡ bitXor (crcBit x) (y * 2)
-unfolding crcBit
-step x y k = go (decLt x 0x8000)
+pub swap-sums : (a b c d : ℕ) → bitXor (bitXor a b) (bitXor c d) ≡ bitXor (bitXor a c) (bitXor b d)
+swap-sums a b c d = sym (together (bitXor a b) c d) ∙ ap (λ (x : ℕ). bitXor x d) (xor-swap a b c) ∙ together (bitXor a c) b d
   where
-    go : Dec (x < 0x8000) → crcBit (bitXor x y) ≡ bitXor (crcBit x) (y * 2)
-    go (yes h) = rw (lt-ltb x 0x8000 h, lt-ltb (bitXor x y) 0x8000 (xor-lt 15 x y h k)) (sym (doubled x y))
-    go (no h) = rw (le-ltb x 0x8000 (omega arith), le-ltb (bitXor x y) 0x8000 top, moved) (xor-swap (x * 2 % 0x10000) (y * 2) 0x1021)
+    together : (a b c : ℕ) → bitXor (bitXor a b) c ≡ bitXor a (bitXor b c)
+    together a b c = ap (λ (x : ℕ). bitXor x c) (xor-comm a b) ∙ xor-swap b a c ∙ xor-comm (bitXor b c) a
+
+-- What takes a sum apart and stays within 16 bits: shifts, sums, and one after another.
+record Linear : Type 0 where
+  of : ℕ → ℕ
+  apart : (x y : ℕ) → of (bitXor x y) ≡ bitXor (of x) (of y)
+  fits : (x : ℕ) → x < 2 ^ 16 → of x < 2 ^ 16
+
+abbrev same : Linear
+same = record { of = λ x. x; apart = λ x y. refl; fits = λ x h. h }
+
+abbrev shr : ℕ → Linear
+shr k = record { of = λ x. x / 2 ^ k; apart = λ x y. xor-shr x y k; fits = λ x h. lt-of-le-of-lt (div-le-self x (2 ^ k)) h }
+
+abbrev shl : ℕ → Linear
+shl k =
+    record {
+      of = λ x. x * 2 ^ k % 2 ^ 16;
+      apart = λ x y. ap (λ (z : ℕ). z % 2 ^ 16) (sym (shifted x y)) ∙ xor-mod (x * 2 ^ k) (y * 2 ^ k) 16;
+      fits = λ x h. omega arith;
+    }
+  where
+    shifted : (x y : ℕ) → bitXor (x * 2 ^ k) (y * 2 ^ k) ≡ bitXor x y * 2 ^ k
+    shifted x y =
+        sym (ap₂ bitXor (add-zero (x * 2 ^ k)) (add-zero (y * 2 ^ k))) ∙ xor-block k x y 0 0 (pow-pos k) (pow-pos k)
+        ∙ add-zero (bitXor x y * 2 ^ k)
+
+abbrev sum : Linear → Linear → Linear
+sum f g =
+    record {
+      of = λ x. bitXor (f .of x) (g .of x);
+      apart = λ x y. ap₂ bitXor (f .apart x y) (g .apart x y) ∙ swap-sums (f .of x) (f .of y) (g .of x) (g .of y);
+      fits = λ x h. xor-lt 16 (f .of x) (g .of x) (f .fits x h) (g .fits x h);
+    }
+
+abbrev after : Linear → Linear → Linear
+after f g =
+    record {
+      of = λ x. f .of (g .of x);
+      apart = λ x y. ap (f .of) (g .apart x y) ∙ f .apart (g .of x) (g .of y);
+      fits = λ x h. f .fits (g .of x) (g .fits x h);
+    }
+
+abbrev twice : Linear → Linear
+twice f = after f f
+
+-- What it makes of the bits below the n-th, and of none. Two that agree on those agree on n bits.
+basis : (ℕ → ℕ) → ℕ → List ℕ
+basis f zero = f 0 ∷ []
+basis f (suc n) = f (2 ^ n) ∷ basis f n
+
+by-bits : (f g : Linear) (n : ℕ) → basis (f .of) n ≡ basis (g .of) n → (x : ℕ) → x < 2 ^ n → f .of x ≡ g .of x
+unfolding basis
+by-bits f g zero e x h = let none : x ≡ 0 = omega arith in rw none (ap (λ (s : List ℕ). getD s 0 0) e)
+by-bits f g (suc n) e x h = go (by-bits f g n (ap (drop 1) e)) (decLt x (2 ^ n))
+  where
+    go : ((x : ℕ) → x < 2 ^ n → f .of x ≡ g .of x) → Dec (x < 2 ^ n) → f .of x ≡ g .of x
+    go ih (yes l) = ih x l
+    go ih (no l) = cut f ∙ ap₂ bitXor (ap (λ (s : List ℕ). getD s 0 0) e) (ih (x - 2 ^ n) rest) ∙ sym (cut g)
       where
-        none : y / 2 ^ 15 ≡ 0
-        none = omega arith
+        rest : x - 2 ^ n < 2 ^ n
+        rest = omega (arith, pow-suc 2 n)
 
-        top : 0x8000 ≤ bitXor x y
-        top = omega (arith, xor-shr x y 15 ∙ ap (bitXor (x / 2 ^ 15)) none ∙ xor-zero-r (x / 2 ^ 15))
+        cut : (f : Linear) → f .of x ≡ bitXor (f .of (2 ^ n)) (f .of (x - 2 ^ n))
+        cut f =
+            let e : bitXor (2 ^ n) (x - 2 ^ n) ≡ x = (rw (one-mul (2 ^ n)) at (xor-shifted 1 n (x - 2 ^ n) rest)) ∙ omega arith in
+            ap (f .of) (sym e) ∙ f .apart (2 ^ n) (x - 2 ^ n)
 
-        moved : bitXor x y * 2 % 0x10000 ≡ bitXor (x * 2 % 0x10000) (y * 2)
-        moved =
-            ap (λ (z : ℕ). z % 0x10000) (sym (doubled x y)) ∙ xor-mod (x * 2) (y * 2) 16
-            ∙ ap (bitXor (x * 2 % 0x10000)) (omega arith)
+abbrev spread : Linear
+spread = sum (sum (shl 12) (shl 5)) same
 
-abbrev two : ℕ → ℕ
-two x = crcBit (crcBit x)
+-- A step of the register is one of them: the polynomial is 2 ^ 12 + 2 ^ 5 + 1.
+abbrev step : Linear
+step = sum (shl 1) (after spread (shr 15))
 
-abbrev four : ℕ → ℕ
-four x = two (two x)
+abbrev eight : Linear
+eight = twice (twice (twice step))
 
-abbrev eight : ℕ → ℕ
-eight x = four (four x)
+abbrev Is : (ℕ → ℕ) → Linear → Type 0
+Is g f = (x : ℕ) → x < 2 ^ 16 → g x ≡ f .of x
 
-by-two : (x y : ℕ) → y < 0x4000 → two (bitXor x y) ≡ bitXor (two x) (y * 4)
-by-two x y h = ap crcBit (step x y (omega arith)) ∙ step (crcBit x) (y * 2) (omega arith) ∙ ap (bitXor (two x)) (omega arith)
+is-twice : (g : ℕ → ℕ) (f : Linear) → Is g f → Is (λ x. g (g x)) (twice f)
+is-twice g f e x h = ap g (e x h) ∙ e (f .of x) (f .fits x h)
 
-by-four : (x y : ℕ) → y < 0x1000 → four (bitXor x y) ≡ bitXor (four x) (y * 16)
-by-four x y h = ap two (by-two x y (omega arith)) ∙ by-two (two x) (y * 4) (omega arith) ∙ ap (bitXor (four x)) (omega arith)
-
-by-eight : (x y : ℕ) → y < 0x100 → eight (bitXor x y) ≡ bitXor (eight x) (y * 256)
-by-eight x y h = ap four (by-four x y (omega arith)) ∙ by-four (four x) (y * 16) (omega arith) ∙ ap (bitXor (eight x)) (omega arith)
-
-abbrev onto : ℕ → ℕ
-onto x = bitXor x (x / 2 ^ 4)
-
-abbrev spread : ℕ → ℕ
-spread y = bitXor (bitXor (y * 2 ^ 12 % 2 ^ 16) (y * 2 ^ 5 % 2 ^ 16)) y
-
-each : counting (λ x. eight (x * 256)) 0 256 ≡ counting (λ x. spread (onto x)) 0 256
-unfolding counting crcBit
-each = refl
-
-agree : (f g : ℕ → ℕ) (n : ℕ) → counting f 0 n ≡ counting g 0 n → (x : ℕ) → x < n → f x ≡ g x
-agree f g n e x h =
-    rw zero-add at (sym (counting-at f 0 n 0 x h) ∙ ap (λ (s : List ℕ). getD s x 0) e ∙ counting-at g 0 n 0 x h)
-
-high : (x : ℕ) → x < 256 → eight (x * 256) ≡ spread (onto x)
-high = agree (λ x. eight (x * 256)) (λ x. spread (onto x)) 256 each
-
--- A byte enters at the top, and eight steps follow.
-pub closed : (c b : ℕ) → c < 2 ^ 16 → b < 256 → bitXor (spread (onto (bitXor (c / 2 ^ 8) b))) (c * 2 ^ 8 % 2 ^ 16) ≡ crcByte c b
-unfolding crcByte
-closed c b hc hb =
-    ap₂ bitXor (sym (high h hh)) up ∙ sym (by-eight (h * 256) l (omega arith)) ∙ ap eight (xor-shifted h 8 l (omega arith) ∙ sym entered)
+is-step : Is crcBit step
+unfolding crcBit
+is-step x h = go (decLt x 0x8000)
   where
-    h : ℕ
-    h = bitXor (c / 2 ^ 8) b
+    go : Dec (x < 0x8000) → cond (ltb x 0x8000) (x * 2) (bitXor (x * 2 % 0x10000) 0x1021) ≡ step .of x
+    go (yes l) =
+        let low : x / 2 ^ 15 ≡ 0 = omega arith in
+        rw (lt-ltb x 0x8000 l) (omega arith ∙ sym (xor-zero-r (x * 2 ^ 1 % 2 ^ 16)) ∙ ap (λ (y : ℕ). bitXor (x * 2 ^ 1 % 2 ^ 16) (spread .of y)) (sym low))
+    go (no l) =
+        let top : x / 2 ^ 15 ≡ 1 = omega arith in
+        rw (le-ltb x 0x8000 (omega arith)) (ap (λ (y : ℕ). bitXor (x * 2 ^ 1 % 2 ^ 16) (spread .of y)) (sym top))
 
-    l : ℕ
-    l = c % 256
+-- A byte enters at the top, and eight steps follow: computed for each bit.
+module _ (c b : ℕ) (hc : c < 2 ^ 16) (hb : b < 256) where
+  abbrev entered : ℕ
+  entered = bitXor c (b * 256)
 
-    up : c * 2 ^ 8 % 2 ^ 16 ≡ l * 256
-    up = omega arith
+  fits-entered : entered < 2 ^ 16
+  fits-entered = xor-lt 16 c (b * 256) hc (omega arith)
 
-    hh : h < 256
-    hh = xor-lt 8 (c / 2 ^ 8) b (omega arith) hb
+  is-eight : crcByte c b ≡ eight .of entered
+  unfolding crcByte
+  is-eight = is-twice _ (twice (twice step)) (is-twice _ (twice step) (is-twice crcBit step is-step)) entered fits-entered
 
-    cut : c ≡ c / 2 ^ 8 * 256 + l
-    cut = omega arith
+  abbrev byte : Linear
+  byte = sum (after spread (after (sum same (shr 4)) (shr 8))) (shl 8)
 
-    entered : bitXor c (b * 256) ≡ h * 256 + l
-    entered =
-        ap₂ bitXor cut (sym (add-zero (b * 256))) ∙ xor-block 8 (c / 2 ^ 8) b l 0 (omega arith) (lit< tt)
-        ∙ ap (λ (z : ℕ). h * 256 + z) (xor-zero-r l)
+  is-byte : Is (eight .of) byte
+  unfolding basis
+  is-byte = by-bits eight byte 16 refl
+
+  low : entered * 2 ^ 8 % 2 ^ 16 ≡ c * 2 ^ 8 % 2 ^ 16
+  low = shl 8 .apart c (b * 256) ∙ ap (bitXor (c * 2 ^ 8 % 2 ^ 16)) (omega arith) ∙ xor-zero-r (c * 2 ^ 8 % 2 ^ 16)
+
+  pub closed : bitXor (spread .of (bitXor (bitXor (c / 2 ^ 8) b) (bitXor (c / 2 ^ 8) b / 2 ^ 4))) (c * 2 ^ 8 % 2 ^ 16) ≡ crcByte c b
+  closed =
+      let top : bitXor (c / 2 ^ 8) b ≡ entered / 2 ^ 8 = sym (xor-shr c (b * 256) 8 ∙ ap (bitXor (c / 2 ^ 8)) (omega arith)) in
+      ap₂ (λ (x y : ℕ). bitXor (spread .of (bitXor x (x / 2 ^ 4))) y) top (sym low) ∙ sym (is-byte entered fits-entered) ∙ sym is-eight
+
+-- Two bytes: the second, eight steps before it enters, stands at the bottom.
+abbrev onto : Linear
+onto = sum (sum (sum (sum same (shr 4)) (shr 8)) (shr 11)) (shr 12)
+
+is-sixteen : Is (twice eight .of) (after spread onto)
+unfolding basis
+is-sixteen = by-bits (twice eight) (after spread onto) 16 refl
+
+risen : (b : ℕ) → b < 256 → eight .of b ≡ b * 256
+unfolding basis
+risen b h = by-bits eight (shl 8) 8 refl b h ∙ omega arith
+
+pub pair : (c a b y : ℕ) → c < 2 ^ 16 → a < 256 → b < 256 → y ≡ onto .of (bitXor (bitXor c (a * 2 ^ 8 % 2 ^ 16)) b)
+    → spread .of y ≡ crcByte (crcByte c a) b
+pair c a b y hc ha hb e =
+    let up : a * 2 ^ 8 % 2 ^ 16 ≡ a * 256 = omega arith in
+    ap (spread .of) (e ∙ ap (λ (z : ℕ). onto .of (bitXor (bitXor c z) b)) up)
+    ∙ sym (is-sixteen (bitXor u b) (xor-lt 16 u b (fits-entered c a hc ha) (omega arith)))
+    ∙ ap (eight .of) (eight .apart u b ∙ ap (bitXor (eight .of u)) (risen b hb))
+    ∙ sym (is-eight (eight .of u) b (eight .fits u (fits-entered c a hc ha)) hb)
+    ∙ ap (λ (z : ℕ). crcByte z b) (sym (is-eight c a hc ha))
+  where
+    u : ℕ
+    u = bitXor c (a * 256)

@@ -1,15 +1,18 @@
 -- The ways through the Select's writer.
 -- Assumes nothing.
-use Prim.Native.Nat.{ℕ, _+_, _-_, _*_, _/_, _%_, _^_, _<_, _≤_}
+use Prim.Native.Nat.{ℕ, suc, _+_, _-_, _*_, _/_, _%_, _^_, _<_, _≤_}
 use mathlib.Core.Bool.{Bool, true, false, cond}
 use mathlib.Core.List.{List, [], _∷_, _++_}
 use mathlib.Core.Path.{_≡_, refl, sym, _∙_, ap, ap₂}
-use native.Mathlib.Decide.{decLt}
+use native.Mathlib.Decide.{decLt, le-ind}
+use native.Mathlib.Nat.{zero-div}
 use native.Mathlib.Numerals.{add-one}
 use native.Mathlib.Omega.{arith}
 use lib.Bits.{bitOr}
-use lib.ListN.{length, take, drop, getD, set, replicate, length-take, length-append, length-replicate, getD-replicate, List·getD-eq-default, List·getD-append}
+use lib.Dec.{eqb}
+use lib.ListN.{length, take, drop, getD, set, replicate, length-take, length-append, length-replicate, getD-replicate, List·getD-append}
 use lib.Seq.{take-all, take-suc, length-take-le, drop-at, drop-drop, getD-take, getD-append-add, set-append-left}
+use borrow.Author.Tests.{eq-eqb, ne-eqb}
 use borrow.Rule.Slice.PartMut.{putMid}
 use Rattle.paper.specs.Frame.{le, check, frameBytes}
 use Rattle.paper.specs.Hearing.{bit, bitsOf, packed, selectPayload, selectFrame}
@@ -17,7 +20,7 @@ use Rattle.paper.specs.Walk.{_▹_}
 use Rattle.lore.proofs.Bits.{bits-length, bits-at}
 use Rattle.lore.proofs.Packed.{packed-length, packed-zero, packed-none}
 use Rattle.lore.proofs.Parts.{part-all, mid-all}
-use Rattle.ids.specs.Ids.{withOne, setBit}
+use Rattle.ids.specs.Ids.{bitOf, withOne, setBit}
 use Rattle.ids.proofs.Shift.{one-shl, or-shl}
 use Rattle.ids.proofs.Pack.{pack-one}
 use Rattle.frame.specs.declared.Head.{Head}
@@ -26,22 +29,16 @@ use Rattle.frame.proofs.Assembled.{too-short, assembled}
 use Rattle.wire.specs.declared.Placed.the-variants.{Done, Short}
 use Rattle.select.specs.Selects.{asked, bytesFor}
 
--- A bit of the prefix, in its bytes and after them.
-module _ (bits : List ℕ) (k : ℕ) (long : length bits ≡ 16) where
-  pub bit-after : 128 ≤ k → false ≡ getD (bitsOf bits) k false
-  bit-after h = sym (List·getD-eq-default (bitsOf bits) false {n = k} (omega (arith, bits-length bits)))
-
-  pub bit-within : (b : Bool) → k < 128 → b ≡ bit bits k → b ≡ getD (bitsOf bits) k false
-  bit-within b h e = e ∙ sym (bits-at bits k (omega arith))
-
 -- `dst[k / 8] |= 1 << (k % 8)` where the bit is 1, and nothing where it is 0.
-module _ (d : List ℕ) (k : ℕ) (b one : Bool) (e : one ≡ b) where
-  pub one-put : one ≡ true → set d (k / 8) (bitOr (getD d (k / 8) 0) (1 * 2 ^ (k % 8) % 256)) ≡ cond b (setBit d k) d
+module _ (d : List ℕ) (x k r : ℕ) (e : r ≡ bitOf x (k % 8)) where
+  pub one-put : r ≡ 1 → set d (k / 8) (bitOr (getD d (k / 8) 0) (1 * 2 ^ (k % 8) % 256)) ≡ cond (eqb (bitOf x (k % 8)) 1) (setBit d k) d
   unfolding setBit
-  one-put h = rw (← e, h) (ap (set d (k / 8)) (ap (bitOr (getD d (k / 8) 0)) (one-shl (k % 8) (omega arith)) ∙ or-shl (getD d (k / 8) 0) (k % 8)))
+  one-put h =
+      rw (eq-eqb (bitOf x (k % 8)) 1 (sym e ∙ h))
+      (ap (set d (k / 8)) (ap (bitOr (getD d (k / 8) 0)) (one-shl (k % 8) (omega arith)) ∙ or-shl (getD d (k / 8) 0) (k % 8)))
 
-  pub zero-put : one ≡ false → d ≡ cond b (setBit d k) d
-  zero-put h = rw (← e, h)
+  pub zero-put : (r ≡ 1 → ⊥) → d ≡ cond (eqb (bitOf x (k % 8)) 1) (setBit d k) d
+  zero-put h = rw (ne-eqb (bitOf x (k % 8)) 1 (λ q. h (e ∙ q)))
 
 -- A bit of some bytes is set where others follow.
 set-front : (a rest : List ℕ) (k : ℕ) → k < 8 * length a → setBit (a ++ rest) k ≡ setBit a k ++ rest
@@ -75,17 +72,32 @@ module _ (bits : List ℕ) (count : ℕ) (long : length bits ≡ 16) (small : co
   abbrev n : ℕ
   n = bytesFor count
 
-  asked-bit : (k : ℕ) → k < count → getD q k false ≡ getD (bitsOf bits) k false
-  asked-bit k h = getD-take count (bitsOf bits ++ replicate 127 false) k false h ∙ go (decLt k 128)
+  -- A bit asked for: in the bytes, and after them.
+  asked-bit : (k : ℕ) → k < count → k < 128 → getD q k false ≡ eqb (bitOf (getD bits (k / 8) 0) (k % 8)) 1
+  unfolding bit
+  asked-bit k h l =
+      getD-take count (bitsOf bits ++ replicate 127 false) k false h
+      ∙ List·getD-append (bitsOf bits) (replicate 127 false) false k (omega (arith, bits-length bits))
+      ∙ bits-at bits k (omega arith)
+
+  asked-after : (i : ℕ) → 128 ≤ i → i < count → getD q i false ≡ false
+  asked-after i h l =
+      let e : length (bitsOf bits) + (i - 128) ≡ i = omega (arith, bits-length bits) in
+      getD-take count (bitsOf bits ++ replicate 127 false) i false l
+      ∙ ap (λ (j : ℕ). getD (bitsOf bits ++ replicate 127 false) j false) (sym e)
+      ∙ getD-append-add (bitsOf bits) (replicate 127 false) (i - 128) false
+      ∙ getD-replicate 127 (i - 128) false false (omega arith)
+
+  -- Bits that are all false need not be put.
+  passed : (k m : ℕ) → k ≤ m → ((i : ℕ) → k ≤ i → i < m → i < count → getD q i false ≡ false) → packed n (take k q) ≡ packed n (take m q)
+  passed k m h =
+      le-ind (λ (m : ℕ). ((i : ℕ) → k ≤ i → i < m → i < count → getD q i false ≡ false) → packed n (take k q) ≡ packed n (take m q)) (λ none. refl)
+      (λ m g ih none. ih (λ i f l. none i f (omega arith)) ∙ go m (none m g (omega arith)) (decLt m (length q))) m h
     where
-      go : Dec (k < 128) → getD (bitsOf bits ++ replicate 127 false) k false ≡ getD (bitsOf bits) k false
-      go (yes l) = List·getD-append (bitsOf bits) (replicate 127 false) false k (omega (arith, bits-length bits))
-      go (no l) =
-          let e : length (bitsOf bits) + (k - 128) ≡ k = omega (arith, bits-length bits) in
-          ap (λ (i : ℕ). getD (bitsOf bits ++ replicate 127 false) i false) (sym e)
-          ∙ getD-append-add (bitsOf bits) (replicate 127 false) (k - 128) false
-          ∙ getD-replicate 127 (k - 128) false false (omega arith)
-          ∙ bit-after bits k long (omega arith)
+      go : (m : ℕ) → (m < count → getD q m false ≡ false) → Dec (m < length q) → packed n (take m q) ≡ packed n (take (suc m) q)
+      go m e (yes h) =
+          sym (packed-zero n (take m q)) ∙ ap (packed n) (ap (take m q ▹_) (sym (e (omega (arith, asked-length bits count long small)))) ∙ sym (take-suc q m false h))
+      go m e (no h) = ap (packed n) (take-all m q (omega arith) ∙ sym (take-all (suc m) q (omega arith)))
 
   module _ (m : ℕ) (dst d₀ : List ℕ) (em : m ≡ n) (e₀ : d₀ ≡ replicate m 0 ++ drop m dst) where
     behind : drop n d₀ ≡ drop n dst
@@ -94,20 +106,35 @@ module _ (bits : List ℕ) (count : ℕ) (long : length bits ≡ 16) (small : co
     pub bits-none : d₀ ≡ packed n (take 0 q) ++ drop n d₀
     bits-none = (rw em at e₀) ∙ ap₂ (λ (x y : List ℕ). x ++ y) (sym (packed-none n)) (sym behind)
 
-    pub bits-done : (k : ℕ) (d : List ℕ) → k ≤ count → count ≤ k → d ≡ packed n (take k q) ++ drop n d₀ → d ≡ packed n q ++ drop n dst
-    bits-done k d l g e = e ∙ ap₂ (λ (x : List Bool) (y : List ℕ). packed n x ++ y) (take-all k q (omega (arith, asked-length bits count long small))) behind
+    module _ (k : ℕ) (d : List ℕ) (e : d ≡ packed n (take k q) ++ drop n d₀) where
+      pub bits-done : count ≤ k → d ≡ packed n q ++ drop n dst
+      bits-done g = e ∙ ap₂ (λ (x : List Bool) (y : List ℕ). packed n x ++ y) (take-all k q (omega (arith, asked-length bits count long small))) behind
 
-  pub bits-more : (k : ℕ) (d₀ d d′ : List ℕ) → k < count → d ≡ packed n (take k q) ++ drop n d₀ → d′ ≡ cond (getD (bitsOf bits) k false) (setBit d k) d
-      → d′ ≡ packed n (take (k + 1) q) ++ drop n d₀
-  bits-more k d₀ d d′ h e e′ =
-      e′
-      ∙ ap₂ (λ (b : Bool) (x : List ℕ). cond b (setBit x k) x) (sym (asked-bit k h)) e
-      ∙ go (getD q k false)
-      ∙ ap (λ (x : List ℕ). x ++ drop n d₀) (bit-more n q k (omega (arith, asked-length bits count long small)) (omega (arith, asked-length bits count long small)))
-    where
-      go : (b : Bool) → cond b (setBit (packed n (take k q) ++ drop n d₀) k) (packed n (take k q) ++ drop n d₀) ≡ cond b (setBit (packed n (take k q)) k) (packed n (take k q)) ++ drop n d₀
-      go true = set-front (packed n (take k q)) (drop n d₀) k (rw (packed-length n (take k q)) (omega arith))
-      go false = refl
+      pub bits-over : 128 ≤ k → d ≡ packed n q ++ drop n dst
+      bits-over g =
+          let all : take (k + count) q ≡ q = take-all (k + count) q (omega (arith, asked-length bits count long small)) in
+          e ∙ ap₂ (λ (x y : List ℕ). x ++ y) (passed k (k + count) (omega arith) (λ i l u m. asked-after i (omega arith) m) ∙ ap (packed n) all) behind
+
+  module _ (k : ℕ) (d₀ d : List ℕ) (l : k < 128) (e : d ≡ packed n (take k q) ++ drop n d₀) where
+    pub bits-passed : getD bits (k / 8) 0 ≡ 0 → d ≡ packed n (take (8 * (k / 8) + 8) q) ++ drop n d₀
+    bits-passed z = e ∙ ap (λ (x : List ℕ). x ++ drop n d₀) (passed k (8 * (k / 8) + 8) (omega arith) none)
+      where
+        none : (i : ℕ) → k ≤ i → i < 8 * (k / 8) + 8 → i < count → getD q i false ≡ false
+        none i g h m =
+            let byte : i / 8 ≡ k / 8 = omega arith in
+            asked-bit i m (omega arith) ∙ ap (λ (x : ℕ). eqb (bitOf x (i % 8)) 1) (ap (λ (j : ℕ). getD bits j 0) byte ∙ z) ∙ rw zero-div
+
+    pub bits-more : (d′ : List ℕ) → k < count → d′ ≡ cond (eqb (bitOf (getD bits (k / 8) 0) (k % 8)) 1) (setBit d k) d
+        → d′ ≡ packed n (take (k + 1) q) ++ drop n d₀
+    bits-more d′ h e′ =
+        e′
+        ∙ ap₂ (λ (b : Bool) (x : List ℕ). cond b (setBit x k) x) (sym (asked-bit k h l)) e
+        ∙ go (getD q k false)
+        ∙ ap (λ (x : List ℕ). x ++ drop n d₀) (bit-more n q k (omega (arith, asked-length bits count long small)) (omega (arith, asked-length bits count long small)))
+      where
+        go : (b : Bool) → cond b (setBit (packed n (take k q) ++ drop n d₀) k) (packed n (take k q) ++ drop n d₀) ≡ cond b (setBit (packed n (take k q)) k) (packed n (take k q)) ++ drop n d₀
+        go true = set-front (packed n (take k q)) (drop n d₀) k (rw (packed-length n (take k q)) (omega arith))
+        go false = refl
 
 module _ (seed : ℕ) (bits : List ℕ) (count : ℕ) (long : length bits ≡ 16) (small : count < 256) where
   payload-is : selectPayload seed (asked bits count) ≡ seed ∷ count ∷ packed (bytesFor count) (asked bits count)

@@ -2,13 +2,14 @@
 use frame::Head;
 use wire::Placed;
 ghost use mathlib.Core.Path.{_≡_};
-ghost use mathlib.Core.Bool.{false, cond};
+ghost use mathlib.Core.Bool.{cond};
 ghost use mathlib.Core.List.{[], _∷_, _++_};
-ghost use Prim.Native.Nat.{_+_, _/_, _≤_, _<_};
-ghost use lib.ListN.{length, getD, drop};
+ghost use Prim.Native.Nat.{_+_, _/_, _%_, _≤_, _<_};
+ghost use lib.ListN.{length, drop};
 ghost use Rattle.paper.specs.Frame.{frameBytes};
-ghost use Rattle.paper.specs.Hearing.{bitsOf, packed, selectPayload, selectFrame};
-ghost use Rattle.ids.specs.Ids.{setBit};
+ghost use Rattle.paper.specs.Hearing.{packed, selectPayload, selectFrame};
+ghost use lib.Dec.{eqb};
+ghost use Rattle.ids.specs.Ids.{bitOf, setBit};
 ghost use Rattle.frame.specs.Writing.{placed};
 ghost use Rattle.select.specs.Selects.{asked, bytesFor};
 
@@ -20,27 +21,18 @@ fn bytes_for(count: u8) -> usize
     (count as usize + 7) / 8
 }
 
-// Bit k of the prefix, by shift and mask; zero after the sixteenth byte.
-fn bit(bits: [u8; 16], k: usize) -> bool
-    ensures { λ r. ⌜ r ≡ getD (bitsOf bits) k false ⌝ }
-{
-    if 128 <= k {
-        return false;
-    }
-    ids::bit_at(bits, k)
-}
-
-// Bit k of the prefix put where it is still zero, by shift and mask.
-fn put_bit(dst: &mut [u8], bits: [u8; 16], k: usize)
+// Bit k mod 8 of a byte put as bit k, where it is still zero, by shift and mask.
+fn put_bit(dst: &mut [u8], x: u8, k: usize)
     requires { ⌜ k / 8 < length (now dst) ⌝ }
-    ensures { λ _. ⌜ now (dst .exit) ≡ cond (getD (bitsOf bits) k false) (setBit (now (dst .entry)) k) (now (dst .entry)) ⌝ }
+    ensures { λ _. ⌜ now (dst .exit) ≡ cond (eqb (bitOf x (k % 8)) 1) (setBit (now (dst .entry)) k) (now (dst .entry)) ⌝ }
 {
-    if bit(bits, k) {
+    if ids::bit_of(x, k % 8) == 1 {
         dst[k / 8] |= 1 << (k % 8);
     }
 }
 
-// The first so many bits, in as few bytes as hold them: those zero at first, then bit after bit.
+// The first so many bits, in as few bytes as hold them: those zero at first, then bit after bit. A byte that is zero has no bit to put, and
+// there is none after the sixteenth.
 fn put_bits(dst: &mut [u8], bits: [u8; 16], count: u8)
     requires { ⌜ bytesFor count ≤ length (now dst) ⌝ }
     ensures { λ _. ⌜ now (dst .exit) ≡ packed (bytesFor count) (asked bits count) ++ drop (bytesFor count) (now (dst .entry)) ⌝ }
@@ -48,8 +40,16 @@ fn put_bits(dst: &mut [u8], bits: [u8; 16], count: u8)
     wire::fill(dst, bytes_for(count), 0);
     let mut k = 0;
     while k < count as usize {
-        put_bit(dst, bits, k);
-        k += 1;
+        if 128 <= k {
+            return;
+        }
+        let x = bits[k / 8];
+        if x == 0 {
+            k = 8 * (k / 8) + 8;
+        } else {
+            put_bit(dst, x, k);
+            k += 1;
+        }
     }
 }
 

@@ -5,8 +5,8 @@ use borrow.Author.Needs.{needs}
 use Rattle.select.proofs.put_bit.Statement.{statement}
 use Rattle.select.proofs.put_bit.Tie as tie
 
-bit-requires : tie.Need-bit-requires
-bit-requires c κs = search needs
+bit-of-requires : tie.Need-bit-of-requires
+bit-of-requires c κs = search needs
 
 cast-dst : tie.Need-cast-dst
 cast-dst c = search needs
@@ -33,7 +33,7 @@ pub put-bit-spec : {M : Type 1} → statement M
 put-bit-spec =
     tie.close
     (tie.spec
-    bit-requires
+    bit-of-requires
     cast-dst
     shl-dst
     slice-read-dst
