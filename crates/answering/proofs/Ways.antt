@@ -12,7 +12,8 @@ use Rattle.lore.proofs.Answered.{answer-payload}
 use Rattle.hearing.specs.declared.Answered.{Answered}
 use Rattle.hearing.specs.declared.Answered.the-variants.{Lost, Device, Ok}
 use Rattle.hearing.specs.Heard.{shownAnswer}
-use Rattle.client.specs.declared.Client.{Client}
+use Rattle.walk.specs.declared.Walk.{Walk}
+use Rattle.client.specs.declared.Front.{Front}
 use Rattle.client.specs.declared.Job.{Job}
 use Rattle.client.specs.declared.Outcome.{Outcome}
 use Rattle.client.specs.declared.Phase.the-variants.{Demand}
@@ -20,24 +21,28 @@ use Rattle.client.specs.declared.Refusal.{Refusal}
 use Rattle.client.specs.declared.Refusal.the-variants.{Io}
 use Rattle.client.specs.declared.Says.the-variants as Says
 use Rattle.client.specs.declared.Told.{Told}
+use Rattle.client.specs.declared.Verdict.{Verdict}
 use Rattle.client.specs.Clients.{stops, onward, making}
+use Rattle.client.specs.Verdicts.{clientOf, toldOf}
 use Rattle.flashing.specs.declared.Next.{Next}
 use Rattle.flashing.specs.declared.Then.the-variants.{On, Over, Refused}
 use Rattle.flashing.specs.Flashing.{accepted, declined}
 use Rattle.answering.specs.Answering.{goes, tells}
 
-module _ (c : Client) (next : Next) (at : ℕ) where
-  pub goes-on : (r t : Told) (job : Job) → next .then ≡ On job → t ≡ onward c (Demand job) (c .walk) at → r ≡ making t (next .progress) → r ≡ goes c next at
-  unfolding goes
-  goes-on r t job h e q = rw h (rw e at q)
+-- The verdict that progress is added to is named to the search by its rest's range.
+module _ (f : Front) (next : Next) (at : ℕ) (r : Verdict) where
+  module _ (v : Verdict) (l : v .rest < 2 ^ 64) (q : (w : Walk) → toldOf r w ≡ making (toldOf v w) (next .progress)) where
+    pub goes-on : (job : Job) → next .then ≡ On job → ((w : Walk) → toldOf v w ≡ onward (clientOf f w) (Demand job) w at) → (w : Walk) → toldOf r w ≡ goes (clientOf f w) next at
+    unfolding goes
+    goes-on job h e w = rw h (q w ∙ ap (λ (x : Told). making x (next .progress)) (e w))
 
-  pub goes-over : (r t : Told) (o : Outcome) → next .then ≡ Over o → t ≡ stops c (Says.Over o) at → r ≡ making t (next .progress) → r ≡ goes c next at
-  unfolding goes
-  goes-over r t o h e q = rw h (rw e at q)
+    pub goes-over : (o : Outcome) → next .then ≡ Over o → ((w : Walk) → toldOf v w ≡ stops (clientOf f w) (Says.Over o) at) → (w : Walk) → toldOf r w ≡ goes (clientOf f w) next at
+    unfolding goes
+    goes-over o h e w = rw h (q w ∙ ap (λ (x : Told). making x (next .progress)) (e w))
 
-  pub goes-refused : (r : Told) (x : Refusal) → next .then ≡ Refused x → r ≡ stops c (Says.Refused x) at → r ≡ goes c next at
+  pub goes-refused : (x : Refusal) → next .then ≡ Refused x → ((w : Walk) → toldOf r w ≡ stops (clientOf f w) (Says.Refused x) at) → (w : Walk) → toldOf r w ≡ goes (clientOf f w) next at
   unfolding goes
-  goes-refused r x h e = rw h e
+  goes-refused x h e w = rw h (e w)
 
 was-lost : (x : Answer) → shownAnswer x ≡ Lost → x ≡ lost
 was-lost lost e = refl
@@ -78,18 +83,19 @@ module _ (bytes : List ℕ) (a : Answered) (ea : a ≡ shownAnswer (answer bytes
       ∙ ap (λ (k : ℕ). take (length (known .payload)) (drop k bytes)) (known .starts)
       ∙ answer-payload bytes (known .payload) end (known .came) .1
 
-module _ (c : Client) (job : Job) (image bytes : List ℕ) (a : Answered) (ea : a ≡ shownAnswer (answer bytes)) (r : Told) where
-  pub tells-lost : a ≡ Lost → r ≡ stops c (Says.Refused Io) (length bytes) → r ≡ tells c job image bytes
+module _ (f : Front) (job : Job) (image bytes : List ℕ) (a : Answered) (ea : a ≡ shownAnswer (answer bytes)) (r : Verdict) where
+  pub tells-lost : a ≡ Lost → ((w : Walk) → toldOf r w ≡ stops (clientOf f w) (Says.Refused Io) (length bytes)) → (w : Walk) → toldOf r w ≡ tells (clientOf f w) job image bytes
   unfolding tells
-  tells-lost h q = rw (was-lost (answer bytes) (sym ea ∙ h)) q
+  tells-lost h q w = rw (was-lost (answer bytes) (sym ea ∙ h)) (q w)
 
-  pub tells-device : (s end : ℕ) (n : Next) → a ≡ Device s end → n ≡ declined job s → r ≡ goes c n end → r ≡ tells c job image bytes
+  pub tells-device : (s end : ℕ) (n : Next) → a ≡ Device s end → n ≡ declined job s → ((w : Walk) → toldOf r w ≡ goes (clientOf f w) n end)
+      → (w : Walk) → toldOf r w ≡ tells (clientOf f w) job image bytes
   unfolding tells
-  tells-device s end n h en q = rw (was-device (answer bytes) s end (sym ea ∙ h)) (rw en at q)
+  tells-device s end n h en q w = rw (was-device (answer bytes) s end (sym ea ∙ h)) (rw en at q w)
 
-  pub tells-ok : (from len end : ℕ) (n : Next) → a ≡ Ok from len end → n ≡ accepted job (take (from + len - from) (drop from bytes)) image → r ≡ goes c n end
-      → r ≡ tells c job image bytes
+  pub tells-ok : (from len end : ℕ) (n : Next) → a ≡ Ok from len end → n ≡ accepted job (take (from + len - from) (drop from bytes)) image
+      → ((w : Walk) → toldOf r w ≡ goes (clientOf f w) n end) → (w : Walk) → toldOf r w ≡ tells (clientOf f w) job image bytes
   unfolding tells
-  tells-ok from len end n h en q =
+  tells-ok from len end n h en q w =
       rw (known bytes a ea from len end h .came)
-      (q ∙ ap (λ (m : Next). goes c m end) (en ∙ ap (λ (p : List ℕ). accepted job p image) (payload-is bytes a ea from len end h)))
+      (q w ∙ ap (λ (m : Next). goes (clientOf f w) m end) (en ∙ ap (λ (p : List ℕ). accepted job p image) (payload-is bytes a ea from len end h)))

@@ -1,28 +1,37 @@
 -- The ways through the writers of an answer, from the facts that the code has.
 -- Assumes nothing.
-use Prim.Native.Nat.{ℕ, _+_, _≤_}
+use Prim.Native.Nat.{ℕ, _+_, _-_, _<_, _≤_}
 use mathlib.Core.List.{List, [], _∷_, _++_}
 use mathlib.Core.Path.{_≡_, refl, sym, _∙_, ap}
 use native.Mathlib.Omega.{arith}
-use lib.ListN.{length, take, drop, length-append, length-drop}
-use lib.Seq.{length-take-le}
+use lib.ListN.{length, take, drop, replicate, length-append, length-drop, length-replicate, take-append-drop}
+use borrow.Author.Tests.{le-leb, lt-leb}
+use borrow.Rule.Slice.PartMut.{putMid}
+use lib.Seq.{length-take-le, take-add, drop-drop}
 use Rattle.paper.specs.Frame.{le}
-use Rattle.lore.proofs.Fields.{Put, behind}
+use Rattle.lore.proofs.Fields.{Put, num, behind, before, found, after, put-length}
+use Rattle.lore.proofs.Parts.{part-all}
 use Rattle.lore.proofs.Words.{le-length}
 use Rattle.ids.specs.declared.Id.{Id}
 use Rattle.table.specs.declared.Table.{Table}
-use Rattle.client.specs.declared.Says.{Says}
+use Rattle.table.specs.Rows.{noTable, giving, sortRows, sorted, rowBytes, tableIn}
+use Rattle.table.specs.Rows as Rows
+use Rattle.table.proofs.Rows.{Sized, count-puts}
+use Rattle.table.proofs.Ways.{table-in}
 use Rattle.client.specs.declared.Progress.{Progress}
 use Rattle.turns.specs.Flats.{flag, savedInfo}
 use Rattle.turns.proofs.Ways.{info-length}
-use Rattle.state.specs.States.{savedId, savedTable}
+use Rattle.state.specs.States as State
+use Rattle.state.specs.States.{savedId, savedTable, loadedTable, loadedWalk, loaded}
+use Rattle.state.proofs.Laws.{table-zero}
+use Rattle.state.proofs.InPlace.{part-put}
 use Rattle.notes.specs.declared.Note.{Note}
 use Rattle.notes.specs.declared.Gain.{Gain}
-use Rattle.notes.specs.Notes.{noteOf, gainOf}
-use Rattle.answers.specs.Answers.{size, tagged, sizes, pair, numbered, shown}
+use Rattle.notes.specs.Notes.{gainOf}
+use Rattle.answers.specs.Answers.{size, tagged, sizes, pair, numbered, fronted, listed}
 
 -- What was put at a place has the width left for it, since the length stays.
-put-of : (at n : ℕ) (s b d : List ℕ) → at + n ≤ length b → length d ≡ length b → d ≡ take at b ++ s ++ drop (at + n) b → Put at n s b d
+pub put-of : (at n : ℕ) (s b d : List ℕ) → at + n ≤ length b → length d ≡ length b → d ≡ take at b ++ s ++ drop (at + n) b → Put at n s b d
 put-of at n s b d room same e = record {
   sized = omega (arith, simp length-append at (sym same ∙ ap length e), length-take-le at b (omega arith), length-drop (at + n) b);
   holds = e;
@@ -58,13 +67,73 @@ module _ (n : Note) (g : Gain) (rest : ℕ) (b d₁ d₂ d₃ d₄ : List ℕ) (
       let fourth : Put 48 18 (savedInfo (n .info)) d₃ d₄ = record { sized = info-length (n .info); holds = e₄ } in
       behind (omega arith) (behind (omega arith) (behind (omega arith) first second) third) fourth .holds
 
-  pub put-answer : (says : Says) (progress : Progress) (x : Id) (t : Table) → n ≡ noteOf says → g ≡ gainOf progress → length d₂ ≡ length d₁ → d₁ ≡ numbered n g rest ++ drop 66 b
-      → d₂ ≡ take 66 d₁ ++ savedId x ++ drop 83 d₁ → d₃ ≡ take 83 d₂ ++ savedTable t ++ drop 1179 d₂ → length d₁ ≡ length b → length d₃ ≡ length d₂
-      → d₃ ≡ shown says progress x t rest ++ drop size b
-  unfolding shown
-  put-answer says progress x t en eg l₂ e₁ e₂ e₃ l₁ l₃ =
-      behind (omega arith)
-      (behind (omega arith) (put-of 0 66 (numbered n g rest) b d₁ (omega arith) l₁ e₁) (put-of 66 17 (savedId x) d₁ d₂ (omega arith) l₂ e₂))
-      (put-of 83 1096 (savedTable t) d₂ d₃ (omega arith) l₃ e₃)
-      .holds
-      ∙ rw (en, eg)
+  pub put-front : (progress : Progress) (x : Id) → g ≡ gainOf progress → length d₂ ≡ length d₁ → d₁ ≡ numbered n g rest ++ drop 66 b → d₂ ≡ take 66 d₁ ++ savedId x ++ drop 83 d₁
+      → length d₁ ≡ length b → d₂ ≡ fronted n progress x rest ++ drop 83 b
+  unfolding fronted
+  put-front progress x eg l₂ e₁ e₂ l₁ =
+      behind (omega arith) (put-of 0 66 (numbered n g rest) b d₁ (omega arith) l₁ e₁) (put-of 66 17 (savedId x) d₁ d₂ (omega arith) l₂ e₂) .holds ∙ rw eg
+
+-- The list beside the answer.
+module _ (a : List ℕ) (room : size ≤ length a) where
+  pub list-none : (d : List ℕ) → d ≡ replicate 1096 0 ++ drop 1096 (take (length a - 83) (drop 83 a)) → putMid 83 (length a - 83) a d ≡ listed noTable a
+  unfolding listed
+  list-none d e = part-put 83 1096 (replicate 1096 0) a d (length-replicate {A = ℕ} 1096 0) e .holds ∙ rw (← table-zero)
+
+  module _ (s : List ℕ) (n : ℕ) (en : n ≡ loaded s .walk .found .count) where
+    pub list-over : (d : List ℕ) → 64 < n → d ≡ listed noTable a → d ≡ listed (giving (loadedTable 239 s)) a
+    unfolding giving loaded loadedWalk loadedTable
+    list-over d h e = e ∙ rw (← en, lt-leb n 64 h)
+
+    module _ (hs : State.size ≤ length s) (h : n ≤ 64) (d₁ d₂ : List ℕ) (e₁ : d₁ ≡ take 83 a ++ take 1088 (drop 239 s) ++ drop (83 + length (take 1088 (drop 239 s))) a) where
+      abbrev list : Table
+      list = loadedTable 239 s
+
+      abbrev part : List ℕ
+      part = take (length d₁ - 83) (drop 83 d₁)
+
+      r : 83 ≤ length a
+      r = omega arith
+
+      rows : rowBytes list ≡ take 1088 (drop 239 s)
+      unfolding rowBytes loadedTable
+      rows = sym (take-add 1024 64 (drop 239 s) ∙ ap (λ (l : List ℕ). take 1024 (drop 239 s) ++ take 64 l) (drop-drop 1024 239 s))
+
+      list-sized : Sized list
+      unfolding loadedTable
+      list-sized = record { bytes = length-take-le 1024 (drop 239 s) (omega (arith, length-drop 239 s)); lengths = length-take-le 64 (drop 1263 s) (omega (arith, length-drop 1263 s)) }
+
+      pasted : Put 83 1088 (take 1088 (drop 239 s)) a d₁
+      pasted =
+          let sized : length (take 1088 (drop 239 s)) ≡ 1088 = length-take-le 1088 (drop 239 s) (omega (arith, length-drop 239 s)) in
+          record { sized = sized; holds = e₁ ∙ ap (λ (k : ℕ). take 83 a ++ take 1088 (drop 239 s) ++ drop (83 + k) a) sized }
+
+      list-in : tableIn part n ≡ list
+      unfolding loaded loadedWalk loadedTable
+      list-in =
+          table-in list list-sized (drop 1088 part) part
+          (sym (take-append-drop 1088 part) ∙ ap (λ (l : List ℕ). l ++ drop 1088 part) (ap (take 1088) (part-all 83 d₁) ∙ found r pasted ∙ sym rows)) n (sym en)
+
+      counted : sorted list .count ≡ n
+      unfolding sorted loaded loadedWalk loadedTable
+      counted = count-puts (sortRows (Rows.rows list 0 (list .count))) list 0 ∙ sym en
+
+      given-is : giving list ≡ sorted list
+      unfolding giving loaded loadedWalk loadedTable
+      given-is = rw (le-leb (list .count) 64 (rw en at h))
+
+      saved-given : savedTable (giving list) ≡ rowBytes (sorted list) ++ le 8 n
+      unfolding savedTable rowBytes
+      saved-given = ap savedTable given-is ∙ ap (λ (k : ℕ). sorted list .ids ++ sorted list .lens ++ le 8 k) counted
+
+      pub list-given : (d₃ : List ℕ) → length d₂ ≡ length part → d₂ ≡ rowBytes (sorted (tableIn part n)) ++ drop 1088 part
+          → d₃ ≡ take 1171 (putMid 83 (length d₁ - 83) d₁ d₂) ++ le 8 n ++ drop 1179 (putMid 83 (length d₁ - 83) d₁ d₂) → d₃ ≡ listed (giving list) a
+      unfolding listed
+      list-given d₃ l e₂ e₃ =
+          let e : d₂ ≡ rowBytes (sorted list) ++ drop 1088 part = e₂ ∙ ap (λ (t : Table). rowBytes (sorted t) ++ drop 1088 part) list-in in
+          let sized : length (rowBytes (sorted list)) ≡ 1088 =
+          omega (arith, l, ap length e ∙ length-append (rowBytes (sorted list)) (drop 1088 part), length-drop 1088 part, ap length (part-all 83 d₁), length-drop 83 d₁, put-length r pasted (omega arith)) in
+          let over : Put 83 1088 (rowBytes (sorted list)) a (putMid 83 (length d₁ - 83) d₁ d₂) = record {
+            sized = sized;
+            holds = part-put 83 1088 (rowBytes (sorted list)) d₁ d₂ sized e .holds ∙ rw (before r pasted, after r pasted);
+          } in
+          behind r over (num 8 n e₃) .holds ∙ ap (λ (y : List ℕ). take 83 a ++ y ++ drop size a) (sym saved-given)

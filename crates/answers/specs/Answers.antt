@@ -2,6 +2,7 @@
 -- Assumes nothing.
 use Prim.Native.Nat.{ℕ}
 use mathlib.Core.List.{List, [], _∷_, _++_}
+use lib.ListN.{take, drop}
 use Rattle.paper.specs.Frame.{le}
 use Rattle.ids.specs.declared.Id.{Id}
 use Rattle.table.specs.declared.Table.{Table}
@@ -36,3 +37,10 @@ numbered n g rest = tagged n g ++ sizes n g rest ++ pair n ++ savedInfo (n .info
 -- From 66: the id, 83 the ids found.
 unfoldable pub shown : Says → Progress → Id → Table → ℕ → List ℕ
 shown says progress x t rest = numbered (noteOf says) (gainOf progress) rest ++ savedId x ++ savedTable t
+
+-- The first 83 bytes; and an answer's bytes with another list, all else as it is.
+unfoldable pub fronted : Note → Progress → Id → ℕ → List ℕ
+fronted n progress x rest = numbered n (gainOf progress) rest ++ savedId x
+
+unfoldable pub listed : Table → List ℕ → List ℕ
+listed t a = take 83 a ++ savedTable t ++ drop size a

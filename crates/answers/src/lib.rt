@@ -1,15 +1,16 @@
 // The bytes of an answer: its numbers, where the record's rest begins, the progress made, the id and the ids beside it.
 use client::Progress;
-use client::Says;
 use ids::Id;
 use notes::Gain;
 use notes::Note;
-use table::Table;
 ghost use mathlib.Core.Path.{_≡_};
 ghost use mathlib.Core.List.{_++_};
 ghost use Prim.Native.Nat.{_≤_};
 ghost use lib.ListN.{length, take, drop};
-ghost use Rattle.answers.specs.Answers.{size, tagged, sizes, pair, numbered, shown};
+ghost use Rattle.table.specs.Rows.{noTable, giving};
+ghost use Rattle.state.specs.States as State;
+ghost use Rattle.state.specs.States.{loadedTable};
+ghost use Rattle.answers.specs.Answers.{size, tagged, sizes, pair, numbered, fronted, listed};
 
 // How many bytes an answer takes.
 pub fn size() -> usize
@@ -62,21 +63,36 @@ fn write_numbers(n: Note, g: Gain, rest: usize, out: &mut [u8])
     turns::save_info(out, 48, info);
 }
 
-// The answer at the front of a lent buffer; what is behind it stays.
-pub fn write_answer(
-    says: Says,
-    progress: Progress,
-    id: Id,
-    found: Table,
-    rest: usize,
-    out: &mut [u8],
-)
+// The answer but for its list: the numbers and the id.
+pub fn write_front(n: Note, progress: Progress, id: Id, rest: usize, out: &mut [u8])
     requires { ⌜ size ≤ length (now out) ⌝ }
-    ensures { λ _. ⌜ now (out .exit) ≡ shown says progress id found rest ++ drop size (now (out .entry)) ⌝ }
+    ensures { λ _. ⌜ now (out .exit) ≡ fronted n progress id rest ++ drop 83 (now (out .entry)) ⌝ }
 {
-    let n = notes::note_of(says);
     let g = notes::gain_of(progress);
     write_numbers(n, g, rest, out);
     state::save_id(out, 66, id);
-    state::save_table(out, 83, found);
+}
+
+// No list beside the answer.
+pub fn no_list(out: &mut [u8])
+    requires { ⌜ size ≤ length (now out) ⌝ }
+    ensures { λ _. ⌜ now (out .exit) ≡ listed noTable (now (out .entry)) ⌝ }
+{
+    wire::fill(&mut out[83..], 1096, 0);
+}
+
+// The list of a client's bytes as it is handed out, beside the answer.
+pub fn write_list(bytes: &[u8], out: &mut [u8])
+    requires { ⌜ State.size ≤ length (now bytes) ⌝ }
+    requires { ⌜ size ≤ length (now out) ⌝ }
+    ensures { λ _. ⌜ now (out .exit) ≡ listed (giving (loadedTable 239 (now (bytes .entry)))) (now (out .entry)) ⌝ }
+{
+    let n = state::count(bytes);
+    if 64 < n {
+        no_list(out);
+        return;
+    }
+    wire::paste(out, 83, &bytes[239..1327]);
+    table::sort(&mut out[83..], n);
+    wire::put64(out, 1171, n as u64);
 }

@@ -2,122 +2,87 @@
 -- Assumes nothing.
 use Prim.Native.Nat.{ℕ, _*_, _%_}
 use mathlib.Core.Bool.{Bool, true, false, cond}
-use mathlib.Core.List.{List, [], _++_}
-use mathlib.Core.Path.{_≡_, refl, sym, _∙_, ap, ap₂}
+use mathlib.Core.List.{List, _++_}
+use mathlib.Core.Path.{_≡_, refl, sym, _∙_, ap}
 use lib.Dec.{ltb}
 use lib.ListN.{length, drop}
-use Rattle.ids.specs.Ids.{idOf}
+use Rattle.ids.specs.declared.Id.{Id}
+use Rattle.ids.specs.Ids.{idOf, noId}
+use Rattle.table.specs.declared.Table.{Table}
 use Rattle.wire.specs.declared.Placed.{Placed}
 use Rattle.wire.specs.declared.Placed.the-variants as Placed
 use Rattle.frame.specs.Writing.{Placing, placed}
-use Rattle.paper.specs.Client.{demandFrame}
 use Rattle.paper.specs.Frame.{frameBytes}
 use Rattle.paper.specs.Hearing.{selectFrame}
-use Rattle.demands.specs.Demands.{resetOf, demandOf}
 use Rattle.lore.proofs.Choice.{cond-yes, cond-no}
 use Rattle.select.specs.Selects.{asked}
 use Rattle.walk.specs.declared.Walk.{Walk}
+use Rattle.walk.specs.declared.Place.{Place}
 use Rattle.walk.specs.declared.Ask.{Ask}
-use Rattle.walk.specs.declared.Phase as Walk
-use Rattle.walk.specs.Moves as Moves
-use Rattle.walk.specs.Moves.{nobody}
+use Rattle.walk.proofs.Ways.{begin-none}
+use Rattle.walk.specs.Moves.{placeOf, walkOf, noWalk, begin}
 use Rattle.client.specs.declared.Phase.{Phase}
 use Rattle.client.specs.declared.Phase.the-variants.{Select, Demand, Leave}
 use Rattle.client.specs.declared.Search.{Search}
-use Rattle.client.specs.declared.Search.the-variants.{Probing, Parting, Seeking, Backing, Walking}
+use Rattle.client.specs.declared.Search.the-variants.{Seeking}
 use Rattle.client.specs.declared.Job.{Job}
 use Rattle.client.specs.declared.Reset.{Reset}
 use Rattle.client.specs.declared.Turn.the-variants.{Idle, Ready, Waiting}
 use Rattle.client.specs.declared.Client.{Client}
+use Rattle.client.specs.declared.Front.{Front}
+use Rattle.client.specs.declared.Opening.{Opening}
 use Rattle.client.specs.declared.Refusal.the-variants.{ShortBuffer, OtherImage, OutOfTurn}
-use Rattle.client.specs.declared.Says.{Says}
 use Rattle.client.specs.declared.Says.the-variants.{Granted, Closing}
 use Rattle.client.specs.declared.Started.{Started}
 use Rattle.client.specs.Clients.{otherImage, idle, turned, refuse}
+use Rattle.client.specs.Verdicts.{frontOf, clientOf, startedOf}
 use Rattle.client.proofs.Ways.{at-idle, at-ready, at-waiting}
 use Rattle.asking.specs.Asking.{asks, nextSeed, seeded, searchFrame, frameOf, handing, handed, granted, Asking, withheld, granting, askedFor, request}
 
+-- The client of a front and of a place with a list.
+abbrev here : Front → Place → Table → Client
+here f p t = clientOf f (walkOf p t)
+
 -- Asking.
-module _ (c : Client) (p : Search) (r : Ask) where
-  pub asks-probing : p ≡ Probing → r ≡ record { bits = c .prefix .bytes; count = c .bits } → r ≡ asks c p
-  unfolding asks
-  asks-probing e f = rw e f
+module _ (f : Front) (p : Place) (s : Search) where
+  pub asks-as : (r : Ask) (q : Search) → s ≡ q → ((t : Table) → r ≡ asks (here f p t) q) → (t : Table) → r ≡ asks (here f p t) s
+  asks-as r q e h t = rw e (h t)
 
-  pub asks-parting : p ≡ Parting → r ≡ nobody → r ≡ asks c p
+  pub asks-seeking : (given : Bool) (n : ℕ) → s ≡ Seeking given → n ≡ length (idOf (f .prefix)) → (t : Table) → record { bits = f .prefix .bytes; count = 8 * n } ≡ asks (here f p t) s
   unfolding asks
-  asks-parting e f = rw e f
-
-  pub asks-seeking : (given : Bool) (n : ℕ) → p ≡ Seeking given → n ≡ length (idOf (c .prefix)) → r ≡ record { bits = c .prefix .bytes; count = 8 * n } → r ≡ asks c p
-  unfolding asks
-  asks-seeking given n e en f = rw e (rw en at f)
-
-  pub asks-backing : (given : Bool) → p ≡ Backing given → r ≡ nobody → r ≡ asks c p
-  unfolding asks
-  asks-backing given e f = rw e f
-
-  pub asks-walking : (q : Walk.Phase) → p ≡ Walking q → r ≡ Moves.asks (c .walk) q → r ≡ asks c p
-  unfolding asks
-  asks-walking q e f = rw e f
+  asks-seeking given n e en t = rw (e, en)
 
 -- Handing out.
-module _ (p : Phase) (n : ℕ) where
-  pub handing-select : (s : Search) → p ≡ Select s → Granted n ≡ handing p n
-  unfolding handing
-  handing-select s e = rw e
+module _ (f g : Front) (p : Phase) (n : ℕ) (x : Id) where
+  pub handed-select : (s : Search) (seed : ℕ) → p ≡ Select s → ((w : Walk) → clientOf g w ≡ turned (clientOf f w) (Waiting p)) → seed ≡ nextSeed (f .seed) → (w : Walk)
+      → startedOf (record { says = Granted n; front = frontOf (seeded (clientOf g w) seed); begins = false; from = x }) w ≡ record { says = handing p n; client = handed (clientOf f w) p }
+  unfolding handing handed
+  handed-select s seed ep e es w = rw (ep, es) (ap (λ (c : Client). record { says = Granted n; client = seeded c (nextSeed (f .seed)) }) (rw ep at e w))
 
-  pub handing-demand : (j : Job) → p ≡ Demand j → Granted n ≡ handing p n
-  unfolding handing
-  handing-demand j e = rw e
+  pub handed-demand : (j : Job) → p ≡ Demand j → ((w : Walk) → clientOf g w ≡ turned (clientOf f w) (Waiting p)) → (w : Walk)
+      → startedOf (record { says = Granted n; front = g; begins = false; from = x }) w ≡ record { says = handing p n; client = handed (clientOf f w) p }
+  unfolding handing handed
+  handed-demand j ep e w = rw ep (ap (λ (c : Client). record { says = Granted n; client = c }) (rw ep at e w))
 
-  pub handing-leave : (reset : Reset) → p ≡ Leave reset → Closing n ≡ handing p n
-  unfolding handing
-  handing-leave reset e = rw e
+  pub handed-leave : (reset : Reset) → p ≡ Leave reset → ((w : Walk) → clientOf g noWalk ≡ idle (clientOf f w)) → x ≡ noId → (w : Walk)
+      → startedOf (record { says = Closing n; front = g; begins = true; from = x }) w ≡ record { says = handing p n; client = handed (clientOf f w) p }
+  unfolding handing handed
+  handed-leave reset ep e ex w = rw (ep, ex, begin-none, e w)
 
-module _ (c : Client) (p : Phase) (d : Client) where
-  pub handed-select : (s : Search) (n : Client) (seed : ℕ) → p ≡ Select s → n ≡ turned c (Waiting p) → seed ≡ nextSeed (c .seed) → d ≡ seeded n seed → d ≡ handed c p
-  unfolding handed
-  handed-select s n seed ep en es e = rw ep (e ∙ ap₂ seeded (en ∙ ap (λ (x : Phase). turned c (Waiting x)) ep) es)
-
-  pub handed-demand : (j : Job) → p ≡ Demand j → d ≡ turned c (Waiting p) → d ≡ handed c p
-  unfolding handed
-  handed-demand j ep e = rw ep (e ∙ ap (λ (x : Phase). turned c (Waiting x)) ep)
-
-  pub handed-leave : (reset : Reset) → p ≡ Leave reset → d ≡ idle c → d ≡ handed c p
-  unfolding handed
-  handed-leave reset ep e = rw ep e
-
-module _ (c : Client) (p : Phase) (w : Placed) (r : Started) where
-  pub granted-done : (n : ℕ) (says : Says) (next : Client) → w ≡ Placed.Done n → says ≡ handing p n → next ≡ handed c p → r ≡ record { says = says; client = next } → r ≡ granted c p w
-  unfolding granted
-  granted-done n says next e es en f = rw e (f ∙ ap₂ (λ (s : Says) (d : Client). record { says = s; client = d }) es en)
-
-  pub granted-short : (n : ℕ) → w ≡ Placed.Short n → r ≡ refuse c (ShortBuffer n) → r ≡ granted c p w
-  unfolding granted
-  granted-short n e f = rw e f
+pub granted-as : (f : Front) (p : Phase) (r : Opening) (v q : Placed) → v ≡ q → ((w : Walk) → startedOf r w ≡ granted (clientOf f w) p q) → (w : Walk) → startedOf r w ≡ granted (clientOf f w) p v
+granted-as f p r v q e h w = rw e (h w)
 
 -- Writing.
-module _ (c : Client) (w : Placed) (buffer after : List ℕ) where
-  pub search-written : (s : Search) (a : Ask) (seed : ℕ) → a ≡ asks c s → seed ≡ nextSeed (c .seed)
+module _ (f : Front) (p : Place) (w : Placed) (buffer after : List ℕ) where
+  pub search-written : (s : Search) (a : Ask) (seed : ℕ) → ((t : Table) → a ≡ asks (here f p t) s) → seed ≡ nextSeed (f .seed)
       → record { answer = w; bytes = after } ≡ placed (frameBytes (selectFrame seed (asked (a .bits) (a .count % 256)))) buffer
-      → record { answer = w; bytes = after } ≡ placed (frameBytes (searchFrame c s)) buffer
+      → (t : Table) → record { answer = w; bytes = after } ≡ placed (frameBytes (searchFrame (here f p t) s)) buffer
   unfolding searchFrame
-  search-written s a seed ea es ew = rw (ea, es) at ew
+  search-written s a seed ea es ew t = rw (ea t, es) at ew
 
-  module _ (p : Phase) (image : List ℕ) where
-    pub request-select : (s : Search) → p ≡ Select s → record { answer = w; bytes = after } ≡ placed (frameBytes (searchFrame c s)) buffer
-        → record { answer = w; bytes = after } ≡ placed (frameBytes (frameOf c p image)) buffer
-    unfolding frameOf
-    request-select s ep e = rw ep e
-
-    pub request-demand : (j : Job) → p ≡ Demand j → record { answer = w; bytes = after } ≡ placed (frameBytes (demandFrame (demandOf j (length image)) image)) buffer
-        → record { answer = w; bytes = after } ≡ placed (frameBytes (frameOf c p image)) buffer
-    unfolding frameOf
-    request-demand j ep e = rw ep e
-
-    pub request-leave : (reset : Reset) → p ≡ Leave reset → record { answer = w; bytes = after } ≡ placed (frameBytes (demandFrame (resetOf reset) [])) buffer
-        → record { answer = w; bytes = after } ≡ placed (frameBytes (frameOf c p image)) buffer
-    unfolding frameOf
-    request-leave reset ep e = rw ep e
+  pub request-as : (image : List ℕ) (ph q : Phase) → ph ≡ q → ((t : Table) → record { answer = w; bytes = after } ≡ placed (frameBytes (frameOf (here f p t) q image)) buffer)
+      → (t : Table) → record { answer = w; bytes = after } ≡ placed (frameBytes (frameOf (here f p t) ph image)) buffer
+  request-as image ph q e h t = rw e (h t)
 
 -- What a writer placed, as what asking answers.
 placing : (c : Client) (p : Phase) (bytes buffer : List ℕ) → record { answer = granted c p (placed bytes buffer .answer); bytes = placed bytes buffer .bytes } ≡ granting c p bytes buffer
@@ -136,29 +101,37 @@ placing c p bytes buffer = go (ltb (length buffer) (length bytes))
     go true = refl
     go false = refl
 
-pub asked-made : (c : Client) (p : Phase) (image buffer after : List ℕ) (w : Placed) (r : Started)
-    → record { answer = w; bytes = after } ≡ placed (frameBytes (frameOf c p image)) buffer → r ≡ granted c p w → record { answer = r; bytes = after } ≡ askedFor c p image buffer
+-- The first premise shows the search what was placed.
+pub asked-made : (f : Front) (p : Place) (r : Opening) (ph : Phase) (v : Placed) (image buffer after : List ℕ) → startedOf r noWalk ≡ granted (clientOf f noWalk) ph v
+    → ((t : Table) → record { answer = v; bytes = after } ≡ placed (frameBytes (frameOf (here f p t) ph image)) buffer)
+    → ((w : Walk) → startedOf r w ≡ granted (clientOf f w) ph v) → (t : Table) → record { answer = startedOf r (walkOf p t); bytes = after } ≡ askedFor (here f p t) ph image buffer
 unfolding askedFor
-asked-made c p image buffer after w r ew e =
-    ap (λ (x : Started). record { answer = x; bytes = after }) e
-    ∙ ap (λ (x : Placing). record { answer = granted c p (x .answer); bytes = x .bytes }) ew
-    ∙ placing c p (frameBytes (frameOf c p image)) buffer
+asked-made f p r ph v image buffer after k ew e t =
+    ap (λ (x : Started). record { answer = x; bytes = after }) (e (walkOf p t))
+    ∙ ap (λ (x : Placing). record { answer = granted (here f p t) ph (x .answer); bytes = x .bytes }) (ew t)
+    ∙ placing (here f p t) ph (frameBytes (frameOf (here f p t) ph image)) buffer
 
-module _ (c : Client) (image buffer : List ℕ) (r : Started) where
-  pub request-idle : c .turn ≡ Idle → r ≡ refuse c OutOfTurn → record { answer = r; bytes = buffer } ≡ request c image buffer
+module _ (f : Front) (p : Place) (r : Opening) (image buffer : List ℕ) where
+  pub ask-idle : f .turn ≡ Idle → ((w : Walk) → startedOf r w ≡ refuse (clientOf f w) OutOfTurn) → (t : Table) → record { answer = startedOf r (walkOf p t); bytes = buffer } ≡ request (here f p t) image buffer
   unfolding request
-  request-idle e f = ap (λ (s : Started). record { answer = s; bytes = buffer }) f ∙ at-idle (c .turn) _ _ _ e
+  ask-idle e h t = ap (λ (s : Started). record { answer = s; bytes = buffer }) (h (walkOf p t)) ∙ at-idle (f .turn) _ _ _ e
 
-  pub request-out : (p : Phase) → c .turn ≡ Waiting p → r ≡ refuse c OutOfTurn → record { answer = r; bytes = buffer } ≡ request c image buffer
+  pub ask-out : (ph : Phase) → f .turn ≡ Waiting ph → ((w : Walk) → startedOf r w ≡ refuse (clientOf f w) OutOfTurn)
+      → (t : Table) → record { answer = startedOf r (walkOf p t); bytes = buffer } ≡ request (here f p t) image buffer
   unfolding request
-  request-out p e f = ap (λ (s : Started). record { answer = s; bytes = buffer }) f ∙ at-waiting (c .turn) _ _ _ p e
+  ask-out ph e h t = ap (λ (s : Started). record { answer = s; bytes = buffer }) (h (walkOf p t)) ∙ at-waiting (f .turn) _ _ _ ph e
 
-  module _ (p : Phase) (b : Bool) (e : c .turn ≡ Ready p) (eb : b ≡ otherImage p (length image)) where
-    pub request-other : b ≡ true → r ≡ refuse c OtherImage → record { answer = r; bytes = buffer } ≡ request c image buffer
+  module _ (ph : Phase) (b : Bool) (e : f .turn ≡ Ready ph) (eb : b ≡ otherImage ph (length image)) where
+    pub ask-other : b ≡ true → ((w : Walk) → startedOf r w ≡ refuse (clientOf f w) OtherImage) → (t : Table) → record { answer = startedOf r (walkOf p t); bytes = buffer } ≡ request (here f p t) image buffer
     unfolding request
-    request-other h f = cond-yes _ _ _ _ (sym eb ∙ h) (ap (λ (s : Started). record { answer = s; bytes = buffer }) f) ∙ at-ready (c .turn) _ _ _ p e
+    ask-other k h t = cond-yes _ _ _ _ (sym eb ∙ k) (ap (λ (s : Started). record { answer = s; bytes = buffer }) (h (walkOf p t))) ∙ at-ready (f .turn) _ _ _ ph e
 
-    pub request-made : (after : List ℕ) → b ≡ false → record { answer = r; bytes = after } ≡ askedFor c p image buffer
-        → record { answer = r; bytes = after } ≡ request c image buffer
+    pub ask-made : (after : List ℕ) → b ≡ false → ((t : Table) → record { answer = startedOf r (walkOf p t); bytes = after } ≡ askedFor (here f p t) ph image buffer)
+        → (t : Table) → record { answer = startedOf r (walkOf p t); bytes = after } ≡ request (here f p t) image buffer
     unfolding request
-    request-made after h f = cond-no _ _ _ _ (sym eb ∙ h) f ∙ at-ready (c .turn) _ _ _ p e
+    ask-made after k h t = cond-no _ _ _ _ (sym eb ∙ k) (h t) ∙ at-ready (f .turn) _ _ _ ph e
+
+-- By value: what is decided on the client's front and its walk's place, with the walk.
+pub request-is : (c : Client) (f : Front) (p : Place) (o : Opening) (r : Started) (image buffer after : List ℕ) → f ≡ frontOf c → p ≡ placeOf (c .walk)
+    → ((t : Table) → record { answer = startedOf o (walkOf p t); bytes = after } ≡ request (here f p t) image buffer) → r ≡ startedOf o (c .walk) → record { answer = r; bytes = after } ≡ request c image buffer
+request-is c f p o r image buffer after e g h k = rw k (rw (e, g) at h (c .walk .found))

@@ -1,13 +1,20 @@
-// The client's record, by value: what runs, what is attached, and the moves from one record to the next.
+// The client's record, its front (all of it but the walk), and what a call decides on the front: what is said, and what becomes of the walk.
 use hearing::Heard;
 use ids::Id;
 use image::Compat;
 use image::Info;
+use table::Entry;
 use table::Table;
+use walk::Place;
 use walk::Walk;
 ghost use mathlib.Core.Path.{_≡_};
+ghost use mathlib.Core.Bool.{cond};
+ghost use Rattle.table.specs.Rows.{noTable, giving};
+ghost use Rattle.walk.specs.declared.Walk.{Walk};
+ghost use Rattle.walk.specs.Moves.{noWalk};
 ghost use Rattle.client.specs.Numbers.{numberOf, changesNoState};
 ghost use Rattle.client.specs.Clients.{fresh, running, differs, otherFor, otherImage, idle, turned, begun, refuse, refuses, over, stops, onward, making, cleared, holding, attached};
+ghost use Rattle.client.specs.Verdicts.{frontOf, clientOf, renewed, startedOf, still, changed, given, toldOf};
 
 // What a Select is for; given says whether a prefix was.
 pub enum Search {
@@ -132,6 +139,51 @@ pub struct Told {
     pub found: Table,
 }
 
+// All of a client but its walk. A contract on a front holds of the client with any walk.
+pub struct Front {
+    pub seed: u8,
+    pub attached: bool,
+    pub id: Id,
+    pub turn: Turn,
+    pub prefix: Id,
+    pub bits: u8,
+}
+
+// A start or a request, decided without the walk: whether it begins one anew, and under which prefix. An operation that walks nothing has
+// an empty one.
+pub struct Opening {
+    pub says: Says,
+    pub front: Front,
+    pub begins: bool,
+    pub from: Id,
+}
+
+// What a record does to the walk: nothing; it moves on; it moves on with an entry kept; it ends and its list is given; it ends.
+pub enum Touch {
+    Same,
+    Moves,
+    Keeps,
+    Gives,
+    Clears,
+}
+
+// The same with the place that the walk moves to, and the entry that is kept.
+pub struct Change {
+    pub touch: Touch,
+    pub place: Place,
+    pub entry: Entry,
+}
+
+// A record, decided without the list. The id is the one that the answer speaks of.
+pub struct Verdict {
+    pub says: Says,
+    pub front: Front,
+    pub change: Change,
+    pub rest: usize,
+    pub progress: Progress,
+    pub id: Id,
+}
+
 // The attached id, if there is one.
 pub struct Attached {
     pub any: bool,
@@ -228,24 +280,42 @@ pub fn other_image(phase: Phase, n: usize) -> bool
     }
 }
 
-impl Told {
-    // With progress made.
-    pub fn making(self, progress: Progress) -> Told
-        ensures { λ r. ⌜ r ≡ making self progress ⌝ }
-    {
-        let says = self.says;
-        let client = self.client;
-        let id = self.id;
-        let found = self.found;
-        Told {
-            says,
-            client,
-            rest: self.rest,
-            progress,
-            id,
-            found,
-        }
+// A client of a front and a walk.
+pub fn client_of(f: Front, walk: Walk) -> Client
+    ensures { λ r. ⌜ r ≡ clientOf f walk ⌝ }
+{
+    let id = f.id;
+    let turn = f.turn;
+    let prefix = f.prefix;
+    Client {
+        seed: f.seed,
+        attached: f.attached,
+        id,
+        turn,
+        prefix,
+        bits: f.bits,
+        walk,
     }
+}
+
+// A change of no place and no entry.
+fn still(touch: Touch) -> Change
+    ensures { λ r. ⌜ r ≡ still touch ⌝ }
+{
+    let place = walk::no_place();
+    let id = Id::none();
+    let entry = Entry { id };
+    Change {
+        touch,
+        place,
+        entry,
+    }
+}
+
+fn no_walk() -> Walk
+    ensures { λ r. ⌜ r ≡ noWalk ⌝ }
+{
+    walk::walk_of(walk::no_place(), Table::none())
 }
 
 impl Client {
@@ -253,7 +323,7 @@ impl Client {
         ensures { λ r. ⌜ r ≡ fresh ⌝ }
     {
         let id = Id::none();
-        let walk = walk::no_walk();
+        let walk = no_walk();
         Client {
             seed: 0,
             attached: false,
@@ -275,121 +345,195 @@ impl Client {
         }
     }
 
-    // In a phase of an operation, or in none.
-    pub fn begun(self, turn: Turn, prefix: Id, bits: u8, walk: Walk) -> Client
-        ensures { λ r. ⌜ r ≡ begun self turn prefix bits walk ⌝ }
+    pub fn front(self) -> Front
+        ensures { λ r. ⌜ r ≡ frontOf self ⌝ }
     {
         let id = self.id;
-        Client {
+        let turn = self.turn;
+        let prefix = self.prefix;
+        Front {
+            seed: self.seed,
+            attached: self.attached,
+            id,
+            turn,
+            prefix,
+            bits: self.bits,
+        }
+    }
+}
+
+impl Front {
+    // In a phase of an operation, or in none.
+    pub fn begun(self, turn: Turn, prefix: Id, bits: u8) -> Front
+        ensures { λ r. ⌜ ((w : Walk) → clientOf r w ≡ begun (clientOf self w) turn prefix bits w) ⌝ }
+    {
+        let id = self.id;
+        Front {
             seed: self.seed,
             attached: self.attached,
             id,
             turn,
             prefix,
             bits,
-            walk,
         }
     }
 
     // No operation: what belongs to an ended one is zero.
-    pub fn idle(self) -> Client
-        ensures { λ r. ⌜ r ≡ idle self ⌝ }
+    pub fn idle(self) -> Front
+        ensures { λ r. ⌜ ((w : Walk) → clientOf r noWalk ≡ idle (clientOf self w)) ⌝ }
     {
-        self.begun(Turn::Idle, Id::none(), 0, walk::no_walk())
+        self.begun(Turn::Idle, Id::none(), 0)
     }
 
     // In another turn of the same operation.
-    pub fn turned(self, turn: Turn) -> Client
-        ensures { λ r. ⌜ r ≡ turned self turn ⌝ }
+    pub fn turned(self, turn: Turn) -> Front
+        ensures { λ r. ⌜ ((w : Walk) → clientOf r w ≡ turned (clientOf self w) turn) ⌝ }
     {
         let prefix = self.prefix;
-        let walk = self.walk;
-        self.begun(turn, prefix, self.bits, walk)
+        self.begun(turn, prefix, self.bits)
     }
 
     // With another attached id, or none.
-    pub fn holding(self, any: bool, id: Id) -> Client
-        ensures { λ r. ⌜ r ≡ holding self any id ⌝ }
+    pub fn holding(self, any: bool, id: Id) -> Front
+        ensures { λ r. ⌜ ((w : Walk) → clientOf r w ≡ holding (clientOf self w) any id) ⌝ }
     {
-        let mut c = self;
-        c.attached = any;
-        c.id = id;
-        c
+        let mut f = self;
+        f.attached = any;
+        f.id = id;
+        f
     }
 
     // With no attached id.
-    pub fn cleared(self) -> Client
-        ensures { λ r. ⌜ r ≡ cleared self ⌝ }
+    pub fn cleared(self) -> Front
+        ensures { λ r. ⌜ ((w : Walk) → clientOf r w ≡ cleared (clientOf self w)) ⌝ }
     {
-        let mut c = self;
-        c.attached = false;
-        let id = Id::none();
-        c.id = id;
-        c
+        self.holding(false, Id::none())
     }
 
-    pub fn refuse(self, r: Refusal) -> Started
-        ensures { λ s. ⌜ s ≡ refuse self r ⌝ }
+    pub fn refuse(self, r: Refusal) -> Opening
+        ensures { λ s. ⌜ ((w : Walk) → startedOf s w ≡ refuse (clientOf self w) r) ⌝ }
     {
-        Started {
+        let from = Id::none();
+        Opening {
             says: Says::Refused(r),
-            client: self,
+            front: self,
+            begins: false,
+            from,
         }
     }
 
     // Refused with no state changed: the rest is the whole record.
-    pub fn refuses(self, r: Refusal) -> Told
-        ensures { λ t. ⌜ t ≡ refuses self r ⌝ }
+    pub fn refuses(self, r: Refusal) -> Verdict
+        ensures { λ v. ⌜ ((w : Walk) → toldOf v w ≡ refuses (clientOf self w) r) ⌝ }
     {
-        let found = Table::none();
+        let change = still(Touch::Same);
         let id = Id::none();
-        Told {
+        Verdict {
             says: Says::Refused(r),
-            client: self,
+            front: self,
+            change,
             rest: 0,
             progress: Progress::None,
             id,
-            found,
         }
     }
 
-    // The operation has ended.
-    pub fn over(self, says: Says, id: Id, found: Table, at: usize) -> Told
-        ensures { λ r. ⌜ r ≡ over self says id found at ⌝ }
+    // The operation has ended, and its walk.
+    fn ends(self, says: Says, id: Id, touch: Touch, at: usize) -> Verdict
+        ensures { λ r. ⌜ ((w : Walk) → changed (still touch) w ≡ noWalk → toldOf r w ≡ over (clientOf self w) says id (given (still touch) w) at) ⌝ }
     {
-        let client = self.idle();
-        Told {
+        let front = self.idle();
+        let change = still(touch);
+        Verdict {
             says,
-            client,
+            front,
+            change,
             rest: at,
             progress: Progress::None,
             id,
-            found,
         }
+    }
+
+    // The operation has ended; its list is given or not.
+    pub fn over(self, says: Says, id: Id, gives: bool, at: usize) -> Verdict
+        ensures { λ r. ⌜ ((w : Walk) → toldOf r w ≡ over (clientOf self w) says id (cond gives (giving (w .found)) noTable) at) ⌝ }
+    {
+        if gives {
+            return self.ends(says, id, Touch::Gives, at);
+        }
+        self.ends(says, id, Touch::Clears, at)
     }
 
     // The operation has ended, and nothing stands beside the answer.
-    pub fn stops(self, says: Says, at: usize) -> Told
-        ensures { λ r. ⌜ r ≡ stops self says at ⌝ }
+    pub fn stops(self, says: Says, at: usize) -> Verdict
+        ensures { λ r. ⌜ ((w : Walk) → toldOf r w ≡ stops (clientOf self w) says at) ⌝ }
     {
-        self.over(says, Id::none(), Table::none(), at)
+        self.over(says, Id::none(), false, at)
     }
 
-    // The operation goes on.
-    pub fn onward(self, phase: Phase, walk: Walk, at: usize) -> Told
-        ensures { λ r. ⌜ r ≡ onward self phase walk at ⌝ }
+    // The operation goes on, and no list is given.
+    pub fn onward(self, phase: Phase, change: Change, at: usize) -> Verdict
+        ensures { λ r. ⌜ ((w : Walk) → given change w ≡ noTable → toldOf r w ≡ onward (clientOf self w) phase (changed change w) at) ⌝ }
     {
-        let prefix = self.prefix;
-        let client = self.begun(Turn::Ready(phase), prefix, self.bits, walk);
+        let front = self.turned(Turn::Ready(phase));
         let id = Id::none();
-        let found = Table::none();
-        Told {
+        Verdict {
             says: Says::Onward,
-            client,
+            front,
+            change,
             rest: at,
             progress: Progress::None,
             id,
-            found,
         }
+    }
+
+    // The operation goes on, and its walk stays.
+    pub fn stays(self, phase: Phase, at: usize) -> Verdict
+        ensures { λ r. ⌜ ((w : Walk) → toldOf r w ≡ onward (clientOf self w) phase w at) ⌝ }
+    {
+        self.onward(phase, still(Touch::Same), at)
+    }
+}
+
+impl Verdict {
+    // With progress made.
+    pub fn making(self, progress: Progress) -> Verdict
+        ensures { λ r. ⌜ ((w : Walk) → toldOf r w ≡ making (toldOf self w) progress) ⌝ }
+    {
+        let says = self.says;
+        let front = self.front;
+        let change = self.change;
+        let id = self.id;
+        Verdict {
+            says,
+            front,
+            change,
+            rest: self.rest,
+            progress,
+            id,
+        }
+    }
+}
+
+impl Opening {
+    // The client's walk after a start or a request.
+    fn walk(self, w: Walk) -> Walk
+        ensures { λ r. ⌜ r ≡ renewed (self .begins) (self .from) w ⌝ }
+    {
+        if self.begins {
+            let from = self.from;
+            return walk::walk_of(walk::begin(from), Table::none());
+        }
+        w
+    }
+
+    // The answer by value, of a client with this walk.
+    pub fn started(self, w: Walk) -> Started
+        ensures { λ r. ⌜ r ≡ startedOf self w ⌝ }
+    {
+        let says = self.says;
+        let front = self.front;
+        let client = client_of(front, self.walk(w));
+        Started { says, client }
     }
 }

@@ -31,8 +31,8 @@ pub extern "C" fn fahireky_start_select(
     if lack != 0 {
         return lack;
     }
-    let c = state::load(state);
-    lent::started(starting::start_select(c, prefix, bits), state, answer)
+    let f = state::load_front(state);
+    lent::started(starting::open_select(f, prefix, bits), state, answer)
 }
 
 #[no_mangle]
@@ -43,8 +43,8 @@ pub extern "C" fn fahireky_start_deselect(state: &mut [u8], answer: &mut [u8]) -
     if lack != 0 {
         return lack;
     }
-    let c = state::load(state);
-    lent::started(starting::start_deselect(c), state, answer)
+    let f = state::load_front(state);
+    lent::started(starting::open_deselect(f), state, answer)
 }
 
 #[no_mangle]
@@ -55,8 +55,8 @@ pub extern "C" fn fahireky_start_attach(state: &mut [u8], answer: &mut [u8]) -> 
     if lack != 0 {
         return lack;
     }
-    let c = state::load(state);
-    lent::started(starting::start_attach(c), state, answer)
+    let f = state::load_front(state);
+    lent::started(starting::open_attach(f), state, answer)
 }
 
 #[no_mangle]
@@ -71,8 +71,8 @@ pub extern "C" fn fahireky_start_attach_to(
     if lack != 0 {
         return lack;
     }
-    let c = state::load(state);
-    lent::started(starting::start_attach_to(c, prefix), state, answer)
+    let f = state::load_front(state);
+    lent::started(starting::open_attach_to(f, prefix), state, answer)
 }
 
 #[no_mangle]
@@ -83,8 +83,8 @@ pub extern "C" fn fahireky_start_discover(state: &mut [u8], prefix: &[u8], answe
     if lack != 0 {
         return lack;
     }
-    let c = state::load(state);
-    lent::started(starting::start_discover(c, prefix), state, answer)
+    let f = state::load_front(state);
+    lent::started(starting::open_discover(f, prefix), state, answer)
 }
 
 #[no_mangle]
@@ -95,8 +95,8 @@ pub extern "C" fn fahireky_start_info(state: &mut [u8], answer: &mut [u8]) -> u6
     if lack != 0 {
         return lack;
     }
-    let c = state::load(state);
-    lent::started(starting::start_info(c), state, answer)
+    let f = state::load_front(state);
+    lent::started(starting::open_info(f), state, answer)
 }
 
 #[no_mangle]
@@ -107,8 +107,8 @@ pub extern "C" fn fahireky_start_erase(state: &mut [u8], answer: &mut [u8]) -> u
     if lack != 0 {
         return lack;
     }
-    let c = state::load(state);
-    lent::started(starting::start_erase(c), state, answer)
+    let f = state::load_front(state);
+    lent::started(starting::open_erase(f), state, answer)
 }
 
 #[no_mangle]
@@ -119,8 +119,8 @@ pub extern "C" fn fahireky_start_flash(state: &mut [u8], image: &[u8], answer: &
     if lack != 0 {
         return lack;
     }
-    let c = state::load(state);
-    lent::started(starting::start_flash(c, image), state, answer)
+    let f = state::load_front(state);
+    lent::started(starting::open_flash(f, image), state, answer)
 }
 
 #[no_mangle]
@@ -136,8 +136,8 @@ pub extern "C" fn fahireky_start_reset(
     if lack != 0 {
         return lack;
     }
-    let c = state::load(state);
-    lent::started(starting::start_reset(c, bootloader, in_boot), state, answer)
+    let f = state::load_front(state);
+    lent::started(starting::open_reset(f, bootloader, in_boot), state, answer)
 }
 
 #[no_mangle]
@@ -154,9 +154,9 @@ pub extern "C" fn fahireky_start_set_baud(
     if lack != 0 {
         return lack;
     }
-    let c = state::load(state);
+    let f = state::load_front(state);
     lent::started(
-        starting::start_set_baud(c, baud, bootloader, in_boot),
+        starting::open_set_baud(f, baud, bootloader, in_boot),
         state,
         answer,
     )
@@ -176,9 +176,10 @@ pub extern "C" fn fahireky_request(
     if lack != 0 {
         return lack;
     }
-    let c = state::load(state);
-    let s = asking::request(c, image, buffer);
-    lent::started(s, state, answer)
+    let f = state::load_front(state);
+    let p = state::load_place(state);
+    let o = asking::ask(f, p, image, buffer);
+    lent::started(o, state, answer)
 }
 
 // What was heard after the request.
@@ -195,8 +196,10 @@ pub extern "C" fn fahireky_record(
     if lack != 0 {
         return lack;
     }
-    let c = state::load(state);
-    lent::told(telling::record(c, image, bytes), state, answer)
+    let f = state::load_front(state);
+    let p = state::load_place(state);
+    let n = state::count(state);
+    lent::told(telling::decide(f, p, n, image, bytes), state, answer)
 }
 
 #[no_mangle]
@@ -207,8 +210,8 @@ pub extern "C" fn fahireky_link_failed(state: &mut [u8], answer: &mut [u8]) -> u
     if lack != 0 {
         return lack;
     }
-    let c = state::load(state);
-    lent::told(telling::link_failed(c), state, answer)
+    let f = state::load_front(state);
+    lent::told(telling::fails(f), state, answer)
 }
 
 // The attached id, if there is one.
@@ -220,9 +223,9 @@ pub extern "C" fn fahireky_attached(state: &[u8], answer: &mut [u8]) -> u64
     if lack != 0 {
         return lack;
     }
-    let x = state::load(state).attached();
-    let id = x.id;
-    lent::shows(Says::Over(Outcome::Attached(x.any)), id, answer)
+    let f = state::load_front(state);
+    let id = f.id;
+    lent::shows(Says::Over(Outcome::Attached(f.attached)), id, answer)
 }
 
 // What a Select hears in its record.

@@ -31,8 +31,7 @@ use Rattle.walk.specs.declared.Phase.the-variants.{Asked}
 use Rattle.walk.specs.Moves.{noWalk, begin}
 use Rattle.steps.specs.declared.End.{End}
 use Rattle.steps.specs.declared.End.the-variants as End
-use Rattle.steps.specs.declared.Goes.{Goes}
-use Rattle.steps.specs.declared.Goes.the-variants as Goes
+use Rattle.steps.specs.Steps.{Goes}
 use Rattle.steps.specs.Steps as Steps
 use Rattle.client.specs.declared.Client.{Client}
 use Rattle.client.specs.declared.Job.{Job}
@@ -275,9 +274,9 @@ module _ (c : Client) (h : Fits c) (at : ℕ) (small : at < 2 ^ 64) where
 
   walked-fits : (g : Goes) (w : Walk) → WalkFits w → ToldFits (walked c g w at)
   unfolding walked noteOf outcomeNote
-  walked-fits (Goes.On p) w v = onward-fits c h (Select (Walking p)) tt w v at small
-  walked-fits Goes.Done w v = over-fits (cleared c) (cleared-fits c h) _ (end-fits 0 3 0 false) noId no-id-fits (w .found) (v .found) at small
-  walked-fits (Goes.Stopped end) w v = stops-fits c h _ (stop-says end) at small
+  walked-fits (Steps.On p) w v = onward-fits c h (Select (Walking p)) tt w v at small
+  walked-fits Steps.Done w v = over-fits (cleared c) (cleared-fits c h) _ (end-fits 0 3 0 false) noId no-id-fits (w .found) (v .found) at small
+  walked-fits (Steps.Stopped end) w v = stops-fits c h _ (stop-says end) at small
 
   backed-fits : (given : Bool) → ToldFits (backed c given at)
   unfolding backed noteOf refusalNote

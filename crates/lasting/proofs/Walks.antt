@@ -19,7 +19,7 @@ use Rattle.walk.specs.declared.Phase.{Phase}
 use Rattle.walk.specs.declared.Phase.the-variants.{Asked, Mine, Other, Leaving}
 use Rattle.walk.specs.Moves.{standing, finding, holding, noWalk, mark, lower, raise, turn, climb}
 use Rattle.steps.specs.declared.End.the-variants.{DuplicateUid}
-use Rattle.steps.specs.declared.Next.{Next}
+use Rattle.steps.specs.Steps.{Next}
 use Rattle.steps.specs.Steps.{stopped, descend, onward, leave, silent, kept, confirming, hears, mine, other, settled, done, tell, step}
 use Rattle.state.specs.States.{Array, IdFits, TableFits, WalkFits}
 use Rattle.state.proofs.Laws.{no-id-fits, no-walk-fits}

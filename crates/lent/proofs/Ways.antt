@@ -2,16 +2,19 @@
 -- Assumes nothing.
 use Prim.Native.Nat.{ℕ, _<_, _≤_}
 use mathlib.Core.Bool.{Bool, true, false, cond}
-use mathlib.Core.List.{List, _++_}
+use mathlib.Core.List.{List, _++_, append-assoc}
 use mathlib.Core.Path.{_≡_, refl, sym, _∙_, ap}
 use native.Mathlib.Omega.{arith}
 use lib.Dec.{ltb}
-use lib.ListN.{drop}
+use lib.ListN.{length, take, drop}
+use lib.Seq.{drop-at, length-take-le}
 use borrow.Author.Tests.{lt-ltb, le-ltb, ltb-false}
 use Rattle.ids.specs.declared.Id.{Id}
 use Rattle.ids.specs.Ids.{noId}
 use Rattle.table.specs.declared.Table.{Table}
-use Rattle.table.specs.Rows.{noTable}
+use Rattle.table.specs.Rows.{noTable, giving}
+use Rattle.walk.specs.declared.Walk.{Walk}
+use Rattle.lore.proofs.Fields.{behind}
 use Rattle.hearing.specs.declared.Heard.{Heard}
 use Rattle.steps.specs.Steps.{long}
 use Rattle.client.specs.declared.Outcome.the-variants as Outcome
@@ -19,21 +22,24 @@ use Rattle.client.specs.declared.Refusal.the-variants.{LongId}
 use Rattle.client.specs.declared.Progress.the-variants.{None}
 use Rattle.client.specs.declared.Says.{Says}
 use Rattle.client.specs.declared.Says.the-variants.{Over, Refused}
-use Rattle.client.specs.declared.Started.{Started}
-use Rattle.client.specs.declared.Told.{Told}
+use Rattle.client.specs.declared.Progress.{Progress}
+use Rattle.client.specs.declared.Front.{Front}
+use Rattle.client.specs.declared.Opening.{Opening}
+use Rattle.client.specs.declared.Touch.{Touch}
+use Rattle.client.specs.declared.Touch.the-variants.{Gives}
+use Rattle.client.specs.declared.Change.{Change}
+use Rattle.client.specs.declared.Verdict.{Verdict}
+use Rattle.client.specs.Verdicts.{clientOf, renewed, startedOf, still, changed, given, toldOf}
 use Rattle.client.specs.Numbers.{changesNoState}
 use Rattle.notes.specs.declared.Note.{Note}
 use Rattle.notes.specs.Notes.{noteOf}
 use Rattle.codes.specs.Codes.{coded}
 use Rattle.state.specs.States as State
-use Rattle.state.specs.States.{saved}
+use Rattle.state.specs.States.{savedTable, savedWalk, savedFront, saved, loadedTable, loadedWalk, loaded, withWalk}
 use Rattle.answers.specs.Answers as Answer
-use Rattle.answers.specs.Answers.{shown}
-use Rattle.lent.specs.Hosts.{codeOf, lent, lacks, Exported, toldBy, leaves, shows, saidOf}
-
-pub code-is : (says : Says) (n : Note) (r : ℕ) → n ≡ noteOf says → r ≡ coded (n .number) (n .length) → r ≡ codeOf says
-unfolding codeOf
-code-is says n r en e = rw en at e
+use Rattle.answers.specs.Answers.{fronted, listed, shown}
+use Rattle.answers.proofs.Ways.{put-of}
+use Rattle.lent.specs.Hosts.{codeOf, lent, lacks, toldBy, leaves, shows, saidOf}
 
 -- Too short, and long enough.
 module _ (n m r need : ℕ) where
@@ -89,29 +95,75 @@ pub lent-enough : {A : Type 0} (n m : ℕ) (short : ℕ → A) (enough : A) → 
 unfolding lent
 lent-enough n m short enough hn hm = rw (le-ltb n State.size hn, le-ltb m Answer.size hm)
 
--- What a call leaves.
-module _ (says : Says) (s a s′ a′ : List ℕ) (r : ℕ) (e : r ≡ codeOf says) where
-  module _ (t : Told) (n : Note) (b : Bool) (es : says ≡ t .says) (en : n ≡ noteOf says) (eb : b ≡ changesNoState (n .number)) where
-    changed : b ≡ changesNoState (noteOf (t .says) .number)
-    changed = eb ∙ ap (λ (m : Note). changesNoState (m .number)) (en ∙ ap noteOf es)
+-- The answer of a call, and the code of it.
+module _ (says : Says) (n : Note) (r : ℕ) (en : n ≡ noteOf says) (er : r ≡ coded (n .number) (n .length)) (a a₁ a₂ : List ℕ) (room : Answer.size ≤ length a) (l₁ : length a₁ ≡ length a) (l₂ : length a₂ ≡ length a₁) where
+  code-is : r ≡ codeOf says
+  unfolding codeOf
+  code-is = rw en at er
 
-    module _ (ea : a′ ≡ shown says (t .progress) (t .id) (t .found) (t .rest) ++ drop Answer.size a) where
-      pub told-kept : b ≡ true → record { code = r; state = s; answer = a′ } ≡ leaves t s a
-      unfolding leaves
-      told-kept h = rw (e, ea, es, sym changed ∙ h)
+  answered : (progress : Progress) (x : Id) (rest : ℕ) (t : Table) → a₁ ≡ fronted n progress x rest ++ drop 83 a → a₂ ≡ listed t a₁ → a₂ ≡ shown says progress x t rest ++ drop Answer.size a
+  unfolding listed shown fronted
+  answered progress x rest t e₁ e₂ =
+      behind (omega arith) (put-of 0 83 (fronted n progress x rest) a a₁ (omega arith) l₁ e₁) (put-of 83 1096 (savedTable t) a₁ a₂ (omega arith) l₂ e₂) .holds ∙ rw en
 
-      pub told-saved : b ≡ false → s′ ≡ saved (t .client) ++ drop State.size s → record { code = r; state = s′; answer = a′ } ≡ leaves t s a
-      unfolding leaves
-      told-saved h e₁ = rw (e, e₁, ea, es, sym changed ∙ h)
-
-  pub shows-is : (x : Id) (t : Table) → t ≡ noTable → a′ ≡ shown says None x t 0 ++ drop Answer.size a → record { code = r; bytes = a′ } ≡ shows says x a
+  pub shows-is : (x : Id) → a₁ ≡ fronted n None x 0 ++ drop 83 a → a₂ ≡ listed noTable a₁ → record { code = r; bytes = a₂ } ≡ shows says x a
   unfolding shows
-  shows-is x t et e₂ = rw (e, e₂, et)
+  shows-is x e₁ e₂ = rw (code-is, answered None x 0 noTable e₁ e₂)
 
-pub started-is : (s : Started) (x : Id) (t : Table) (r : Exported) (b a : List ℕ) → x ≡ noId → t ≡ noTable
-    → r ≡ leaves (record { says = s .says; client = s .client; rest = 0; progress = None; id = x; found = t }) b a → r ≡ leaves (toldBy s) b a
-unfolding toldBy
-started-is s x t r b a ex et e = rw (ex, et) at e
+  -- What a call leaves, of the client that is told: its front and its walk.
+  module _ (s : List ℕ) (b : Bool) (eb : b ≡ changesNoState (n .number)) where
+    changes : b ≡ changesNoState (noteOf says .number)
+    changes = eb ∙ ap (λ (m : Note). changesNoState (m .number)) en
+
+    left : (progress : Progress) (x : Id) (rest : ℕ) (t : Table) (f : Front) (w : Walk) (s₂ : List ℕ) → a₁ ≡ fronted n progress x rest ++ drop 83 a → a₂ ≡ listed t a₁
+        → s₂ ≡ cond b s (saved (clientOf f w) ++ drop State.size s)
+        → record { code = r; state = s₂; answer = a₂ } ≡ leaves (record { says = says; client = clientOf f w; rest = rest; progress = progress; id = x; found = t }) s a
+    unfolding leaves
+    left progress x rest t f w s₂ e₁ e₂ e₃ = rw (code-is, answered progress x rest t e₁ e₂, e₃, changes)
+
+-- The state with another walk and another front.
+saved-in : (f : Front) (w : Walk) (s s₁ s₂ : List ℕ) → State.size ≤ length s → s₁ ≡ withWalk w s → s₂ ≡ savedFront f ++ drop 87 s₁ → s₂ ≡ saved (clientOf f w) ++ drop State.size s
+unfolding withWalk saved
+saved-in f w s s₁ s₂ room e₁ e₂ =
+    e₂
+    ∙ ap (λ (l : List ℕ). savedFront f ++ drop 87 l) (e₁ ∙ append-assoc (take 87 s) (savedWalk w) (drop State.size s))
+    ∙ ap (λ (l : List ℕ). savedFront f ++ l) (drop-at (take 87 s) (savedWalk w ++ drop State.size s) 87 (length-take-le 87 s (omega arith)))
+    ∙ sym (append-assoc (savedFront f) (savedWalk w) (drop State.size s))
+
+module _ (n : Note) (r : ℕ) (er : r ≡ coded (n .number) (n .length)) (s a a₁ a₂ : List ℕ) (roomS : State.size ≤ length s) (roomA : Answer.size ≤ length a) (l₁ : length a₁ ≡ length a) (l₂ : length a₂ ≡ length a₁)
+    (b : Bool) (eb : b ≡ changesNoState (n .number)) where
+  module _ (v : Verdict) (en : n ≡ noteOf (v .says)) (e₁ : a₁ ≡ fronted n (v .progress) (v .id) (v .rest) ++ drop 83 a) (e₂ : a₂ ≡ listed (given (v .change) (loaded s .walk)) a₁) where
+    pub told-kept : b ≡ true → record { code = r; state = s; answer = a₂ } ≡ leaves (toldOf v (loaded s .walk)) s a
+    told-kept h = left (v .says) n r en er a a₁ a₂ roomA l₁ l₂ s b eb (v .progress) (v .id) (v .rest) _ (v .front) _ s e₁ e₂ (rw h)
+
+    pub told-saved : (s₁ s₂ : List ℕ) → b ≡ false → s₁ ≡ withWalk (changed (v .change) (loadedWalk 87 s)) s → s₂ ≡ savedFront (v .front) ++ drop 87 s₁
+        → record { code = r; state = s₂; answer = a₂ } ≡ leaves (toldOf v (loaded s .walk)) s a
+    unfolding loaded
+    told-saved s₁ s₂ h e₃ e₄ =
+        left (v .says) n r en er a a₁ a₂ roomA l₁ l₂ s b eb (v .progress) (v .id) (v .rest) _ (v .front) _ s₂ e₁ e₂ (rw h (saved-in (v .front) (changed (v .change) (loadedWalk 87 s)) s s₁ s₂ roomS e₃ e₄))
+
+  module _ (o : Opening) (x : Id) (ex : x ≡ noId) (en : n ≡ noteOf (o .says)) (e₁ : a₁ ≡ fronted n None x 0 ++ drop 83 a) (e₂ : a₂ ≡ listed noTable a₁) where
+    e₁′ : a₁ ≡ fronted n None noId 0 ++ drop 83 a
+    e₁′ = rw ex at e₁
+
+    pub started-kept : b ≡ true → record { code = r; state = s; answer = a₂ } ≡ leaves (toldBy (startedOf o (loaded s .walk))) s a
+    unfolding toldBy
+    started-kept h = left (o .says) n r en er a a₁ a₂ roomA l₁ l₂ s b eb None noId 0 noTable (o .front) _ s e₁′ e₂ (rw h)
+
+    pub started-saved : (s₁ s₂ : List ℕ) → b ≡ false → s₁ ≡ withWalk (renewed (o .begins) (o .from) (loadedWalk 87 s)) s → s₂ ≡ savedFront (o .front) ++ drop 87 s₁
+        → record { code = r; state = s₂; answer = a₂ } ≡ leaves (toldBy (startedOf o (loaded s .walk))) s a
+    unfolding toldBy loaded
+    started-saved s₁ s₂ h e₃ e₄ =
+        left (o .says) n r en er a a₁ a₂ roomA l₁ l₂ s b eb None noId 0 noTable (o .front) _ s₂ e₁′ e₂ (rw h (saved-in (o .front) (renewed (o .begins) (o .from) (loadedWalk 87 s)) s s₁ s₂ roomS e₃ e₄))
+
+-- The list beside the answer.
+module _ (c : Change) (s a r : List ℕ) where
+  pub list-none : (x : Touch) → c .touch ≡ x → given (still x) (loaded s .walk) ≡ noTable → r ≡ listed noTable a → r ≡ listed (given c (loaded s .walk)) a
+  list-none x e k h = h ∙ ap (λ (t : Table). listed t a) (sym k ∙ ap (λ (y : Touch). given (still y) (loaded s .walk)) (sym e))
+
+  pub list-given : c .touch ≡ Gives → r ≡ listed (giving (loadedTable 239 s)) a → r ≡ listed (given c (loaded s .walk)) a
+  unfolding loaded loadedWalk
+  list-given e h = h ∙ rw e
 
 -- What was heard.
 module _ (h : Heard) (b : Bool) (e : b ≡ long h) where

@@ -1,27 +1,24 @@
 // What an exported call makes of the buffers that a host lends, and the code that it returns.
+use client::Change;
+use client::Opening;
 use client::Outcome;
 use client::Progress;
 use client::Refusal;
 use client::Says;
-use client::Started;
-use client::Told;
+use client::Touch;
+use client::Verdict;
 use hearing::Heard;
 use ids::Id;
-use table::Table;
 ghost use mathlib.Core.Path.{_≡_};
 ghost use Prim.Native.Nat.{_≤_};
 ghost use lib.ListN.{length};
+ghost use Rattle.lore.proofs.Words.{Bytes};
+ghost use Rattle.client.specs.Verdicts.{startedOf, given, toldOf};
 ghost use Rattle.state.specs.States as State;
+ghost use Rattle.state.specs.States.{loaded};
 ghost use Rattle.answers.specs.Answers as Answer;
-ghost use Rattle.lent.specs.Hosts.{codeOf, lacks, leaves, toldBy, shows, saidOf};
-
-// The code of an answer.
-fn code_of(says: Says) -> u64
-    ensures { λ r. ⌜ r ≡ codeOf says ⌝ }
-{
-    let n = notes::note_of(says);
-    codes::coded(n.number, n.length)
-}
+ghost use Rattle.answers.specs.Answers.{listed};
+ghost use Rattle.lent.specs.Hosts.{lacks, leaves, toldBy, shows, saidOf};
 
 // The code of a state or an answer, of so many bytes, that is too short; 0 if neither is.
 pub fn lacks(state: usize, answer: usize) -> u64
@@ -38,45 +35,67 @@ pub fn lacks(state: usize, answer: usize) -> u64
     0
 }
 
-// The answer written and the client saved; after a refusal that changes no state, the state is not touched.
-pub fn told(t: Told, state: &mut [u8], answer: &mut [u8]) -> u64
+// The list beside the answer, as a change of the walk gives it.
+fn lists(change: Change, state: &[u8], answer: &mut [u8])
     requires { ⌜ State.size ≤ length (now state) ⌝ }
     requires { ⌜ Answer.size ≤ length (now answer) ⌝ }
-    ensures { λ r. ⌜ record { code = r; state = now (state .exit); answer = now (answer .exit) } ≡ leaves t (now (state .entry)) (now (answer .entry)) ⌝ }
+    ensures { λ _. ⌜ now (answer .exit) ≡ listed (given change (loaded (now (state .entry)) .walk)) (now (answer .entry)) ⌝ }
 {
-    let says = t.says;
-    let client = t.client;
-    let progress = t.progress;
-    let id = t.id;
-    let found = t.found;
-    answers::write_answer(says, progress, id, found, t.rest, answer);
-    let code = code_of(says);
-    if client::changes_no_state(notes::note_of(says).number) {
+    let touch = change.touch;
+    match touch {
+        Touch::Same => answers::no_list(answer),
+        Touch::Moves => answers::no_list(answer),
+        Touch::Keeps => answers::no_list(answer),
+        Touch::Gives => answers::write_list(state, answer),
+        Touch::Clears => answers::no_list(answer),
+    }
+}
+
+// The answer written, and the client's front and the change of its walk saved; after a refusal that changes no state, the state is not
+// touched.
+pub fn told(v: Verdict, state: &mut [u8], answer: &mut [u8]) -> u64
+    requires { ⌜ State.size ≤ length (now state) ⌝ }
+    requires { ⌜ Bytes (now state) ⌝ }
+    requires { ⌜ Answer.size ≤ length (now answer) ⌝ }
+    ensures { λ r. ⌜ record { code = r; state = now (state .exit); answer = now (answer .exit) } ≡ leaves (toldOf v (loaded (now (state .entry)) .walk)) (now (state .entry)) (now (answer .entry)) ⌝ }
+{
+    let says = v.says;
+    let front = v.front;
+    let change = v.change;
+    let progress = v.progress;
+    let id = v.id;
+    let note = notes::note_of(says);
+    answers::write_front(note, progress, id, v.rest, answer);
+    lists(change, state, answer);
+    let code = codes::coded(note.number, note.length);
+    if client::changes_no_state(note.number) {
         return code;
     }
-    state::save(client, state);
+    state::apply(change, state);
+    state::save_front(front, state);
     code
 }
 
-// The same of an answer that has nothing beside it.
-pub fn started(s: Started, state: &mut [u8], answer: &mut [u8]) -> u64
+// The same of a start or a request: nothing stands beside the answer.
+pub fn started(o: Opening, state: &mut [u8], answer: &mut [u8]) -> u64
     requires { ⌜ State.size ≤ length (now state) ⌝ }
+    requires { ⌜ Bytes (now state) ⌝ }
     requires { ⌜ Answer.size ≤ length (now answer) ⌝ }
-    ensures { λ r. ⌜ record { code = r; state = now (state .exit); answer = now (answer .exit) } ≡ leaves (toldBy s) (now (state .entry)) (now (answer .entry)) ⌝ }
+    ensures { λ r. ⌜ record { code = r; state = now (state .exit); answer = now (answer .exit) } ≡ leaves (toldBy (startedOf o (loaded (now (state .entry)) .walk))) (now (state .entry)) (now (answer .entry)) ⌝ }
 {
-    let says = s.says;
-    let client = s.client;
-    let id = Id::none();
-    let found = Table::none();
-    let t = Told {
-        says,
-        client,
-        rest: 0,
-        progress: Progress::None,
-        id,
-        found,
-    };
-    told(t, state, answer)
+    let says = o.says;
+    let front = o.front;
+    let from = o.from;
+    let n = notes::note_of(says);
+    answers::write_front(n, Progress::None, Id::none(), 0, answer);
+    answers::no_list(answer);
+    let code = codes::coded(n.number, n.length);
+    if client::changes_no_state(n.number) {
+        return code;
+    }
+    state::renew(o.begins, from, state);
+    state::save_front(front, state);
+    code
 }
 
 // The answer written alone, with the id beside it.
@@ -84,8 +103,10 @@ pub fn shows(says: Says, id: Id, answer: &mut [u8]) -> u64
     requires { ⌜ Answer.size ≤ length (now answer) ⌝ }
     ensures { λ r. ⌜ record { code = r; bytes = now (answer .exit) } ≡ shows says id (now (answer .entry)) ⌝ }
 {
-    answers::write_answer(says, Progress::None, id, Table::none(), 0, answer);
-    code_of(says)
+    let n = notes::note_of(says);
+    answers::write_front(n, Progress::None, id, 0, answer);
+    answers::no_list(answer);
+    codes::coded(n.number, n.length)
 }
 
 // What a plain select that heard so much ends with.

@@ -5,7 +5,7 @@ use mathlib.Core.List.{List, [], _∷_, _++_, append-assoc}
 use mathlib.Core.Path.{_≡_, refl, sym, _∙_, ap, ap₂}
 use native.Mathlib.Nat.{add-assoc, add-zero, pow-suc}
 use native.Mathlib.Omega.{arith}
-use lib.ListN.{length, getD, take, drop, replicate, length-append, replicate-append-replicate}
+use lib.ListN.{length, getD, take, drop, replicate, length-append, length-drop, take-append-drop, replicate-append-replicate}
 use lib.Seq.{take-at, drop-at, drop-drop, getD-drop, getD-take, length-take-le, take-add, take-take}
 use Rattle.paper.specs.Frame.{le, number, field}
 use Rattle.lore.proofs.Words.{Bytes, le-length, number-le, field-none, field-suc}
@@ -41,6 +41,31 @@ behind {at} {n} {k} {s} {t} {b} {d} {e} room p q = record {
   where
     front : length (take at b ++ s) ≡ at + n
     front = length-append (take at b) s ∙ ap₂ _+_ (length-take-le at b room) (p .sized)
+
+-- What is before and behind it stays, and it stands there.
+module _ {at n : ℕ} {s b d : List ℕ} (room : at ≤ length b) (p : Put at n s b d) where
+  inner : d ≡ take at b ++ (s ++ drop (at + n) b)
+  inner = p .holds ∙ append-assoc (take at b) s (drop (at + n) b)
+
+  pub before : take at d ≡ take at b
+  before = ap (take at) inner ∙ take-at (take at b) (s ++ drop (at + n) b) at (length-take-le at b room)
+
+  pub found : take n (drop at d) ≡ s
+  found = ap (λ (x : List ℕ). take n (drop at x)) inner ∙ ap (take n) (drop-at (take at b) (s ++ drop (at + n) b) at (length-take-le at b room)) ∙ take-at s (drop (at + n) b) n (p .sized)
+
+  pub after : drop (at + n) d ≡ drop (at + n) b
+  after = ap (drop (at + n)) (p .holds) ∙ drop-at (take at b ++ s) (drop (at + n) b) (at + n) (length-append (take at b) s ∙ ap₂ _+_ (length-take-le at b room) (p .sized))
+
+  pub put-length : at + n ≤ length b → length d ≡ length b
+  put-length h =
+      omega (arith, ap length (p .holds) ∙ length-append (take at b ++ s) (drop (at + n) b), length-append (take at b) s, length-take-le at b room, length-drop (at + n) b, p .sized)
+
+-- What stands at a place, put there, changes nothing.
+pub own : (at n : ℕ) (b : List ℕ) → at + n ≤ length b → Put at n (take n (drop at b)) b b
+own at n b h = record {
+  sized = length-take-le n (drop at b) (omega (arith, length-drop at b));
+  holds = sym (take-append-drop (at + n) b) ∙ ap (λ (s : List ℕ). s ++ drop (at + n) b) (take-add at n b);
+}
 
 -- Lists with their widths: one behind another, how long they are, each of its width, each found at its place.
 abbrev pub joined : List ℕ → List (ℕ × List ℕ) → List ℕ

@@ -19,9 +19,7 @@ use Rattle.ids.specs.Ids.{noId, idFrom}
 use Rattle.ids.proofs.Laws.{id-of-from}
 use Rattle.table.specs.Rows.{noTable, puts}
 use Rattle.walk.specs.declared.Phase.the-variants.{Asked}
-use Rattle.steps.specs.declared.Goes.{Goes}
-use Rattle.steps.specs.declared.Goes.the-variants.{Done, Stopped}
-use Rattle.steps.specs.declared.Next as Code
+use Rattle.steps.specs.Steps.{Goes, Done, Stopped}
 use Rattle.walk.specs.Moves as Moves
 use Rattle.steps.specs.Steps as Steps
 use Rattle.records.specs.Picture.{tableOf, endOf, nextOf, walkOf, phaseOf}
@@ -79,7 +77,7 @@ finds wire S L pre h le pods =
     (follows (limit pre) wire pre le ∙ ap (λ r. (nextOf (r .0), r .1)) (m .0), m .1)
 
 -- A walk that ended with the table of ids that begin with the prefix, are in order, and of which none begins another.
-pub record Lists (pre : Prefix) (n : Code.Next) : Type 0 where
+pub record Lists (pre : Prefix) (n : Steps.Next) : Type 0 where
   pub ids : List Id
   pub listed : Listed pre ids
   pub walk : n ≡ nextOf (ended (done ids))

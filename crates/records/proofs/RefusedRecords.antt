@@ -23,8 +23,7 @@ use Rattle.table.specs.declared.Table.{Table}
 use Rattle.walk.specs.declared.Walk.{Walk}
 use Rattle.steps.specs.declared.End.{End}
 use Rattle.steps.specs.declared.End.the-variants as End
-use Rattle.steps.specs.declared.Goes.{Goes}
-use Rattle.steps.specs.declared.Goes.the-variants as Goes
+use Rattle.steps.specs.Steps.{Goes}
 use Rattle.steps.specs.Steps as Steps
 use Rattle.client.specs.declared.Client.{Client}
 use Rattle.client.specs.declared.Job.{Job}
@@ -202,9 +201,9 @@ module _ (c : Client) (n : ℕ) where
 
     walked-tells : (g : Goes) (w : Walk) → Tells c n (walked c g w at)
     unfolding walked over onward idle cleared
-    walked-tells (Goes.On p) w = unrefused-tells _ refl refl
-    walked-tells Goes.Done w = unrefused-tells _ refl refl
-    walked-tells (Goes.Stopped end) w = stopped-tells end
+    walked-tells (Steps.On p) w = unrefused-tells _ refl refl
+    walked-tells Steps.Done w = unrefused-tells _ refl refl
+    walked-tells (Steps.Stopped end) w = stopped-tells end
 
     probed-tells : (h : Heard) (x : Id) → Tells c n (probed c h x at)
     unfolding probed over idle keeps parts numberOf

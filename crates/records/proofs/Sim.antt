@@ -30,8 +30,7 @@ use Rattle.table.specs.Rows.{keep}
 use Rattle.walk.specs.declared.Walk.{Walk}
 use Rattle.walk.specs.declared.Phase.the-variants.{Asked, Other}
 use Rattle.steps.specs.declared.End.the-variants.{DuplicateUid, LongId, TableFull}
-use Rattle.steps.specs.declared.Goes.the-variants.{Done}
-use Rattle.steps.specs.declared.Next.{Next}
+use Rattle.steps.specs.Steps.{Done, Next}
 use Rattle.walk.specs.Moves as Moves
 use Rattle.steps.specs.Steps as Code
 use Rattle.records.specs.Picture.{padded, levels, rowOf, tableOf, candidateOf, phaseOf, standingAt, walkOf, nextOf}

@@ -7,7 +7,6 @@ use Rattle.theory.specs.Machine.{State, Next, going, ended, step}
 use Rattle.theory.proofs.Fits.{Fits, FitsNext, step-fits}
 use Rattle.walk.specs.declared.Walk.{Walk}
 use Rattle.walk.specs.declared.Phase.{Phase}
-use Rattle.steps.specs.declared.Next as Code
 use Rattle.steps.specs.Steps as Steps
 use Rattle.records.specs.Picture.{walkOf, phaseOf, nextOf}
 use Rattle.records.specs.Drive.{told, onGoes}
@@ -20,7 +19,7 @@ pub record Sound (w : Walk) (p : Phase) : Type 0 where
   pub walk : w ≡ walkOf state
   pub phase : p ≡ phaseOf (state .phase)
 
-abbrev pub SoundNext : Code.Next → Type 0
+abbrev pub SoundNext : Steps.Next → Type 0
 SoundNext n = onGoes (n .goes) (λ p. Sound (n .walk) p) (Unit {0})
 
 pub sound-next : (n : Next) → FitsNext n → SoundNext (nextOf n)

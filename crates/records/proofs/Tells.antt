@@ -31,7 +31,7 @@ use Rattle.hearing.specs.declared.Heard.the-variants.{One, TooLong}
 use Rattle.hearing.specs.declared.Hearing.{Hearing}
 use Rattle.hearing.specs.Heard.{heardAs, oneHeard, shownHeard}
 use Rattle.table.specs.Rows.{noTable}
-use Rattle.steps.specs.declared.Next.{Next}
+use Rattle.steps.specs.Steps.{Next}
 use Rattle.steps.specs.Steps as Steps
 use Rattle.client.specs.declared.Client.{Client}
 use Rattle.client.specs.declared.Outcome.the-variants as Outcome

@@ -10,9 +10,7 @@ use Rattle.hearing.specs.Heard.{shownHeard}
 use Rattle.walk.specs.declared.Walk.{Walk}
 use Rattle.walk.specs.declared.Phase.{Phase}
 use Rattle.walk.specs.declared.Phase.the-variants.{Asked}
-use Rattle.steps.specs.declared.Goes.{Goes}
-use Rattle.steps.specs.declared.Goes.the-variants.{On, Done, Stopped}
-use Rattle.steps.specs.declared.Next.{Next}
+use Rattle.steps.specs.Steps.{Goes, On, Done, Stopped, Next}
 use Rattle.walk.specs.declared.Ask.{Ask}
 use Rattle.select.specs.Selects.{asked}
 use Rattle.walk.specs.Moves.{asks}

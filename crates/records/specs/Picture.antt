@@ -19,8 +19,7 @@ use Rattle.walk.specs.declared.Phase as Code
 use Rattle.walk.specs.declared.Phase.the-variants.{Asked, Mine, Other, Leaving}
 use Rattle.steps.specs.declared.End.{End}
 use Rattle.steps.specs.declared.End.the-variants.{DuplicateUid, LongId, TableFull, Unaddressed}
-use Rattle.steps.specs.declared.Goes.the-variants.{Done}
-use Rattle.steps.specs.declared.Next as Code₂
+use Rattle.steps.specs.Steps.{Done}
 use Rattle.walk.specs.Moves as Moves
 use Rattle.steps.specs.Steps as Steps
 
@@ -68,7 +67,7 @@ walkOf s = standingAt (s .pre) (s .marks) (s .ids) (candidateOf (s .phase))
 abbrev pub endOf : ℕ → End
 endOf c = cond (eqb c 12) DuplicateUid (cond (eqb c 14) LongId (cond (eqb c 15) TableFull Unaddressed))
 
-abbrev pub nextOf : Next → Code₂.Next
+abbrev pub nextOf : Next → Steps.Next
 nextOf (going s) = Steps.going (phaseOf (s .phase)) (walkOf s)
 nextOf (ended (done ids)) = record { goes = Done; walk = Moves.finding Moves.noWalk (tableOf ids) }
 nextOf (ended (stopped c)) = Steps.stopped (endOf c)

@@ -3,27 +3,29 @@
 use Prim.Native.Nat.{ℕ, zero, suc, _+_, _≤_}
 use mathlib.Core.Bool.{false}
 use mathlib.Core.List.{List, [], _∷_, _++_, append-nil}
-use mathlib.Core.Path.{_≡_, refl, sym, _∙_, ap}
+use mathlib.Core.Path.{_≡_, refl, sym, _∙_, ap, ap₂}
 use native.Mathlib.Omega.{arith}
 use lib.ListN.{length, take, drop, replicate, length-drop, length-replicate}
-use lib.Seq.{take-at, length-take-le}
-use Rattle.paper.specs.Frame.{le}
-use Rattle.lore.proofs.Fields.{spread, joined-length, joined-zeros, field-at, byte-at, byte-below, field-below, bytes-take, bytes-drop}
-use Rattle.lore.proofs.Words.{Bytes, le-length}
+use lib.Seq.{take-at, length-take-le, take-add, take-take, drop-drop, drop-cons}
+use Rattle.paper.specs.Frame.{le, number, field}
+use Rattle.lore.proofs.Fields.{Put, before, found, after, own, spread, joined-length, joined-zeros, field-at, byte-at, byte-below, field-below, bytes-take, bytes-drop}
+use Rattle.lore.proofs.Words.{Bytes, le-length, le-number}
 use Rattle.ids.specs.declared.Id.{Id}
 use Rattle.ids.specs.Ids.{noId}
 use Rattle.table.specs.declared.Table.{Table}
 use Rattle.table.specs.Rows.{noTable}
 use Rattle.walk.specs.declared.Walk.{Walk}
-use Rattle.walk.specs.Moves.{noWalk}
+use Rattle.walk.specs.declared.Place.{Place}
+use Rattle.walk.specs.Moves.{walkOf, noWalk}
 use Rattle.client.specs.declared.Client.{Client}
 use Rattle.client.specs.Clients.{fresh}
+use Rattle.client.specs.Verdicts.{frontOf}
 use Rattle.flat.specs.Turns.{flatOf, turnOf, selecting}
 use Rattle.flat.proofs.Laws.{turn-of-flat, selecting-fits, turn-fits}
 use Rattle.turns.specs.Flats.{flag, savedFlat, loadedFlat}
 use Rattle.turns.proofs.Laws.{flag-back, flat-length, flat-fits, flat-back, flat-zero}
-use Rattle.state.specs.States.{size, savedId, savedTable, savedWalk, savedFront, saved, loadedId, loadedTable, loadedWalk, loaded, Array, IdFits, TableFits, WalkFits, Fits}
-use Rattle.state.proofs.Ways.{id-length, table-length, walk-length, front-length}
+use Rattle.state.specs.States.{size, savedId, savedTable, savedWalk, savedHead, savedFront, saved, withWalk, withTable, withPlace, loadedId, loadedTable, loadedWalk, loaded, Array, IdFits, TableFits, WalkFits, Fits}
+use Rattle.state.proofs.Ways.{id-length, table-length, walk-length, head-length, front-length}
 
 -- How long.
 module _ (c : Client) (h : Fits c) where
@@ -32,14 +34,12 @@ module _ (c : Client) (h : Fits c) where
       walk-length (c .walk) (h .walk .path .0) (h .walk .marks .0) (table-length (c .walk .found) (h .walk .found .ids .0) (h .walk .found .lens .0))
       (id-length (c .walk .candidate) (h .walk .candidate .bytes .0))
 
-  front-sized : length (savedFront c) ≡ 69
-  front-sized = front-length c (id-length (c .id) (h .id .bytes .0))
+  front-sized : length (savedFront (frontOf c)) ≡ 87
+  front-sized = front-length (frontOf c) (head-length (frontOf c) (id-length (c .id) (h .id .bytes .0))) (id-length (c .prefix) (h .prefix .bytes .0))
 
   pub saved-length : length (saved c) ≡ size
   unfolding saved
-  saved-length =
-      joined-length ((17, savedId (c .prefix)) ∷ (1, c .bits ∷ []) ∷ (1265, savedWalk (c .walk)) ∷ []) (savedFront c) 69 front-sized
-      (id-length (c .prefix) (h .prefix .bytes .0), (refl, (walk-sized, tt)))
+  saved-length = joined-length ((1265, savedWalk (c .walk)) ∷ []) (savedFront (frontOf c)) 87 front-sized (walk-sized, tt)
 
 -- What was saved is found again.
 module _ (at : ℕ) (b : List ℕ) where
@@ -70,12 +70,11 @@ module _ (at : ℕ) (b : List ℕ) where
       )
 
 client-back : (c : Client) (b : List ℕ) → Fits c → take size (drop 0 b) ≡ saved c → loaded b ≡ c
-unfolding saved savedFront loaded
+unfolding saved savedHead savedFront loaded
 client-back c b h e =
-    let s = spread 0 b ((17, savedId (c .prefix)) ∷ (1, c .bits ∷ []) ∷ (1265, savedWalk (c .walk)) ∷ []) (savedFront c) 69 (front-sized c h)
-    (id-length (c .prefix) (h .prefix .bytes .0), (refl, (walk-sized c h, tt))) e in
-    let f = spread 0 b ((1, flag (c .attached) ∷ []) ∷ (17, savedId (c .id)) ∷ (50, savedFlat (flatOf (c .turn))) ∷ []) (c .seed ∷ []) 1 refl
-    (refl, (id-length (c .id) (h .id .bytes .0), (flat-length (flatOf (c .turn)), tt))) (s .0) in
+    let s = spread 0 b ((1265, savedWalk (c .walk)) ∷ []) (savedFront (frontOf c)) 87 (front-sized c h) (walk-sized c h, tt) e in
+    let f = spread 0 b ((1, flag (c .attached) ∷ []) ∷ (17, savedId (c .id)) ∷ (50, savedFlat (flatOf (c .turn))) ∷ (17, savedId (c .prefix)) ∷ (1, c .bits ∷ []) ∷ []) (c .seed ∷ []) 1 refl
+    (refl, (id-length (c .id) (h .id .bytes .0), (flat-length (flatOf (c .turn)), (id-length (c .prefix) (h .prefix .bytes .0), (refl, tt))))) (s .0) in
     let turn : turnOf (loadedFlat 19 b) ≡ c .turn = ap turnOf (flat-back 19 b (flatOf (c .turn)) (h .turn) (f .1 .1 .1 .0)) ∙ turn-of-flat (c .turn) in
     rw (
       byte-at 0 1 (c .seed ∷ []) b (omega arith) (f .0),
@@ -83,9 +82,9 @@ client-back c b h e =
       flag-back (c .attached),
       id-back 2 b (c .id) (h .id) (f .1 .1 .0),
       turn,
-      id-back 69 b (c .prefix) (h .prefix) (s .1 .0),
-      byte-at 86 1 (c .bits ∷ []) b (omega arith) (s .1 .1 .0),
-      walk-back 87 b (c .walk) (h .walk) (s .1 .1 .1 .0),
+      id-back 69 b (c .prefix) (h .prefix) (f .1 .1 .1 .1 .0),
+      byte-at 86 1 (c .bits ∷ []) b (omega arith) (f .1 .1 .1 .1 .1 .0),
+      walk-back 87 b (c .walk) (h .walk) (s .1 .0),
     )
 
 pub loaded-saved : (c : Client) → Fits c → (more : List ℕ) → loaded (saved c ++ more) ≡ c
@@ -134,7 +133,7 @@ id-zero : savedId noId ≡ replicate 17 0
 unfolding savedId noId
 id-zero = joined-zeros ((1, 0 ∷ []) ∷ []) 16 (refl, tt)
 
-table-zero : savedTable noTable ≡ replicate 1096 0
+pub table-zero : savedTable noTable ≡ replicate 1096 0
 unfolding savedTable noTable le
 table-zero = joined-zeros ((64, replicate 64 0) ∷ (8, le 8 0) ∷ []) 1024 (refl, (refl, tt))
 
@@ -142,15 +141,15 @@ walk-zero : savedWalk noWalk ≡ replicate 1265 0
 unfolding savedWalk noWalk le
 walk-zero = joined-zeros ((8, le 8 0) ∷ (128, replicate 128 0) ∷ (1096, savedTable noTable) ∷ (17, savedId noId) ∷ []) 16 (refl, (refl, (table-zero, (id-zero, tt))))
 
-front-zero : savedFront fresh ≡ replicate 69 0
-unfolding savedFront fresh flatOf
-front-zero = joined-zeros ((1, 0 ∷ []) ∷ (17, savedId noId) ∷ (50, savedFlat (selecting 0 0 false 0 false)) ∷ []) 1 (refl, (id-zero, (flat-zero, tt)))
+front-zero : savedFront (frontOf fresh) ≡ replicate 87 0
+unfolding savedHead savedFront fresh flatOf
+front-zero =
+    joined-zeros ((1, 0 ∷ []) ∷ (17, savedId noId) ∷ (50, savedFlat (selecting 0 0 false 0 false)) ∷ (17, savedId noId) ∷ (1, 0 ∷ []) ∷ []) 1
+    (refl, (id-zero, (flat-zero, (id-zero, (refl, tt)))))
 
 pub fresh-is-zero : saved fresh ≡ replicate size 0
 unfolding saved fresh
-fresh-is-zero =
-    ap (λ (s : List ℕ). s ++ savedId noId ++ (0 ∷ []) ++ savedWalk noWalk) front-zero
-    ∙ joined-zeros ((17, savedId noId) ∷ (1, 0 ∷ []) ∷ (1265, savedWalk noWalk) ∷ []) 69 (id-zero, (refl, (walk-zero, tt)))
+fresh-is-zero = ap (λ (s : List ℕ). s ++ savedWalk noWalk) front-zero ∙ joined-zeros ((1265, savedWalk noWalk) ∷ []) 87 (walk-zero, tt)
 
 zero-array : (n : ℕ) → Array n (replicate n 0)
 zero-array n = (length-replicate n 0, zero-bytes n)
@@ -180,3 +179,49 @@ fresh-fits = record {
 
 pub zero-is-fresh : loaded (replicate size 0) ≡ fresh
 zero-is-fresh = ap loaded (sym (append-nil (saved fresh) ∙ fresh-is-zero)) ∙ loaded-saved fresh fresh-fits []
+
+-- Bytes that were loaded are saved as they were.
+parts : (at n m : ℕ) (b : List ℕ) → take (n + m) (drop at b) ≡ take n (drop at b) ++ take m (drop (at + n) b)
+parts at n m b = take-add n m (drop at b) ∙ ap (λ (s : List ℕ). take n (drop at b) ++ take m s) (drop-drop n at b)
+
+module _ (b : List ℕ) (hb : Bytes b) where
+  field-same : (at : ℕ) → at + 8 ≤ length b → le 8 (field at 8 b) ≡ take 8 (drop at b)
+  field-same at h =
+      let x = take 8 (drop at b) in
+      ap (λ (n : ℕ). le n (number x)) (sym (length-take-le 8 (drop at b) (omega (arith, length-drop at b)))) ∙ le-number x (bytes-take 8 (drop at b) (bytes-drop at b hb))
+
+  id-same : (at : ℕ) → at + 17 ≤ length b → savedId (loadedId at b) ≡ take 17 (drop at b)
+  unfolding savedId loadedId
+  id-same at h = sym (parts at 16 1 b ∙ ap (λ (s : List ℕ). take 16 (drop at b) ++ s) (ap (take 1) (drop-cons b (at + 16) 0 (omega arith))))
+
+  pub table-same : (at : ℕ) → at + 1096 ≤ length b → savedTable (loadedTable at b) ≡ take 1096 (drop at b)
+  unfolding savedTable loadedTable
+  table-same at h = ap₂ (λ (x y : List ℕ). x ++ y) (sym (parts at 1024 64 b)) (field-same (at + 1088) (omega arith)) ∙ sym (parts at 1088 8 b)
+
+  walk-same : size ≤ length b → savedWalk (loadedWalk 87 b) ≡ take 1265 (drop 87 b)
+  unfolding savedWalk loadedWalk
+  walk-same h =
+      rw (field-same 103 (omega arith), table-same 239 (omega arith), id-same 1335 (omega arith))
+      (sym (parts 87 1248 17 b ∙ ap (λ (s : List ℕ). s ++ take 17 (drop 1335 b)) (parts 87 152 1096 b ∙ ap (λ (s : List ℕ). s ++ take 1096 (drop 239 b)) (parts 87 24 128 b ∙ ap (λ (s : List ℕ). s ++ take 128 (drop 111 b)) (parts 87 16 8 b)))))
+
+  pub walk-stays : size ≤ length b → b ≡ withWalk (loadedWalk 87 b) b
+  unfolding withWalk
+  walk-stays h = own 87 1265 b h .holds ∙ ap (λ (s : List ℕ). take 87 b ++ s ++ drop size b) (sym (walk-same h))
+
+-- Another list, then another place.
+module _ (s s₁ : List ℕ) (p : Place) (t : Table) (room : size ≤ length s) (h : length (savedTable t) ≡ 1096) (e : s₁ ≡ withTable t s) where
+  put : Put 239 1096 (savedTable t) s s₁
+  unfolding withTable
+  put = record { sized = h; holds = e }
+
+  r : 239 ≤ length s
+  r = omega arith
+
+  pub placed-in : withPlace p s₁ ≡ withWalk (walkOf p t) s
+  unfolding withPlace withWalk savedWalk
+  placed-in =
+      rw (
+        sym (take-take 87 239 s₁ (omega arith)) ∙ ap (take 87) (before r put) ∙ take-take 87 239 s (omega arith),
+        found r put,
+        sym (drop-drop 17 1335 s₁) ∙ ap (drop 17) (after r put) ∙ drop-drop 17 1335 s,
+      )

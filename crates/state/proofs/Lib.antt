@@ -1,3 +1,4 @@
-pub mod Laws
 pub mod Ways
+pub mod Laws
+pub mod InPlace
 pub mod Instances

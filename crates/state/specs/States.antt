@@ -9,7 +9,11 @@ use Rattle.lore.proofs.Words.{Bytes}
 use Rattle.ids.specs.declared.Id.{Id}
 use Rattle.table.specs.declared.Table.{Table}
 use Rattle.walk.specs.declared.Walk.{Walk}
+use Rattle.walk.specs.declared.Place.{Place}
+use Rattle.walk.specs.Moves.{placeOf}
 use Rattle.client.specs.declared.Client.{Client}
+use Rattle.client.specs.declared.Front.{Front}
+use Rattle.client.specs.Verdicts.{frontOf}
 use Rattle.flat.specs.Turns.{flatOf, turnOf, FlatFits}
 use Rattle.turns.specs.Flats.{flag, flagged, savedFlat, loadedFlat}
 
@@ -17,21 +21,28 @@ use Rattle.turns.specs.Flats.{flag, flagged, savedFlat, loadedFlat}
 abbrev pub size : ℕ
 size = 1352
 
--- The bytes of an id are 17, of a table 1096, of a walk 1265, of a client before its prefix 69.
+-- The bytes of an id are 17, of a table 1096, of a walk 1265, of a front 87, of which 69 come before the prefix.
 unfoldable pub savedId : Id → List ℕ
 savedId x = x .bytes ++ (x .len ∷ [])
 
 unfoldable pub savedTable : Table → List ℕ
 savedTable t = t .ids ++ t .lens ++ le 8 (t .count)
 
-unfoldable pub savedWalk : Walk → List ℕ
-savedWalk w = w .path ++ le 8 (w .depth) ++ w .marks ++ savedTable (w .found) ++ savedId (w .candidate)
+-- A place, around the bytes of a list.
+abbrev pub savedPlace : Place → List ℕ → List ℕ
+savedPlace p list = p .path ++ le 8 (p .depth) ++ p .marks ++ list ++ savedId (p .candidate)
 
-unfoldable pub savedFront : Client → List ℕ
-savedFront c = (c .seed ∷ []) ++ (flag (c .attached) ∷ []) ++ savedId (c .id) ++ savedFlat (flatOf (c .turn))
+unfoldable pub savedWalk : Walk → List ℕ
+savedWalk w = savedPlace (placeOf w) (savedTable (w .found))
+
+unfoldable pub savedHead : Front → List ℕ
+savedHead f = (f .seed ∷ []) ++ (flag (f .attached) ∷ []) ++ savedId (f .id) ++ savedFlat (flatOf (f .turn))
+
+unfoldable pub savedFront : Front → List ℕ
+savedFront f = savedHead f ++ savedId (f .prefix) ++ (f .bits ∷ [])
 
 unfoldable pub saved : Client → List ℕ
-saved c = savedFront c ++ savedId (c .prefix) ++ (c .bits ∷ []) ++ savedWalk (c .walk)
+saved c = savedFront (frontOf c) ++ savedWalk (c .walk)
 
 -- What stands in bytes from a place on.
 unfoldable pub loadedId : ℕ → List ℕ → Id
@@ -59,6 +70,16 @@ loaded b = record {
   bits = byte 86 b;
   walk = loadedWalk 87 b;
 }
+
+-- A client's bytes with another walk; with another list, all else as it is; with another place of the walk, the list as it is.
+unfoldable pub withWalk : Walk → List ℕ → List ℕ
+withWalk w s = take 87 s ++ savedWalk w ++ drop size s
+
+unfoldable pub withTable : Table → List ℕ → List ℕ
+withTable t s = take 239 s ++ savedTable t ++ drop 1335 s
+
+unfoldable pub withPlace : Place → List ℕ → List ℕ
+withPlace p s = take 87 s ++ savedPlace p (take 1096 (drop 239 s)) ++ drop size s
 
 -- What the types of a client's fields give.
 abbrev pub Array : ℕ → List ℕ → Type 0

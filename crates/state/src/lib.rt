@@ -1,13 +1,20 @@
-// The client in a buffer of a fixed number of bytes: saved, and loaded again. Any bytes are some client, and all zero is a fresh one.
-use client::Client;
+// The client in a buffer of a fixed number of bytes: its front and its walk's place loaded and saved, its list touched in place.
+// Any bytes are some client, and all zero is a fresh one.
+use client::Change;
+use client::Front;
+use client::Touch;
 use ids::Id;
-use table::Table;
-use walk::Walk;
+use table::Entry;
+use walk::Place;
 ghost use mathlib.Core.Path.{_≡_};
 ghost use mathlib.Core.List.{_++_};
 ghost use Prim.Native.Nat.{_+_, _≤_};
 ghost use lib.ListN.{length, take, drop};
-ghost use Rattle.state.specs.States.{size, savedId, savedTable, savedWalk, savedFront, saved, loadedId, loadedTable, loadedWalk, loaded};
+ghost use Rattle.lore.proofs.Words.{Bytes};
+ghost use Rattle.table.specs.Rows.{noTable, keeping};
+ghost use Rattle.walk.specs.Moves.{placeOf};
+ghost use Rattle.client.specs.Verdicts.{frontOf, renewed, changed};
+ghost use Rattle.state.specs.States.{size, savedId, savedHead, savedFront, loadedId, loadedTable, loadedWalk, loaded, withPlace, withTable, withWalk};
 
 // How many bytes a client takes.
 pub fn size() -> usize
@@ -27,54 +34,47 @@ fn load_id(bytes: &[u8], at: usize) -> Id
     }
 }
 
-fn load_table(bytes: &[u8], at: usize) -> Table
-    requires { ⌜ at + 1096 ≤ length (now bytes) ⌝ }
-    ensures { λ r. ⌜ r ≡ loadedTable at (now (bytes .entry)) ⌝ }
-{
-    let ids = arrays::take_1024(bytes, at);
-    let lens = arrays::take_64(bytes, at + 1024);
-    Table {
-        ids,
-        lens,
-        count: wire::get64(bytes, at + 1088) as usize,
-    }
-}
-
-fn load_walk(bytes: &[u8], at: usize) -> Walk
-    requires { ⌜ at + 1265 ≤ length (now bytes) ⌝ }
-    ensures { λ r. ⌜ r ≡ loadedWalk at (now (bytes .entry)) ⌝ }
-{
-    let path = arrays::take_16(bytes, at);
-    let marks = arrays::take_128(bytes, at + 24);
-    let found = load_table(bytes, at + 152);
-    let candidate = load_id(bytes, at + 1248);
-    Walk {
-        path,
-        depth: wire::get64(bytes, at + 16) as usize,
-        marks,
-        found,
-        candidate,
-    }
-}
-
-// The client that some bytes hold.
-pub fn load(bytes: &[u8]) -> Client
+// The front of the client that some bytes hold. What was lent is bytes.
+pub fn load_front(bytes: &[u8]) -> Front
     requires { ⌜ size ≤ length (now bytes) ⌝ }
-    ensures { λ r. ⌜ r ≡ loaded (now (bytes .entry)) ⌝ }
+    ensures { λ r. ⌜ r ≡ frontOf (loaded (now (bytes .entry))) ⌝ }
+    ensures { λ _. ⌜ Bytes (now (bytes .entry)) ⌝ }
 {
     let id = load_id(bytes, 2);
     let turn = flat::turn_of(turns::load_flat(bytes, 19));
     let prefix = load_id(bytes, 69);
-    let walk = load_walk(bytes, 87);
-    Client {
+    Front {
         seed: bytes[0],
         attached: bytes[1] == 1,
         id,
         turn,
         prefix,
         bits: bytes[86],
-        walk,
     }
+}
+
+// The place of its walk.
+pub fn load_place(bytes: &[u8]) -> Place
+    requires { ⌜ size ≤ length (now bytes) ⌝ }
+    ensures { λ r. ⌜ r ≡ placeOf (loaded (now (bytes .entry)) .walk) ⌝ }
+{
+    let path = arrays::take_16(bytes, 87);
+    let marks = arrays::take_128(bytes, 111);
+    let candidate = load_id(bytes, 1335);
+    Place {
+        path,
+        depth: wire::get64(bytes, 103) as usize,
+        marks,
+        candidate,
+    }
+}
+
+// How many ids its list holds.
+pub fn count(bytes: &[u8]) -> usize
+    requires { ⌜ size ≤ length (now bytes) ⌝ }
+    ensures { λ r. ⌜ r ≡ loaded (now (bytes .entry)) .walk .found .count ⌝ }
+{
+    wire::get64(bytes, 1327) as usize
 }
 
 pub fn save_id(bytes: &mut [u8], at: usize, x: Id)
@@ -87,58 +87,99 @@ pub fn save_id(bytes: &mut [u8], at: usize, x: Id)
     wire::put8(bytes, at + 16, x.len);
 }
 
-pub fn save_table(bytes: &mut [u8], at: usize, t: Table)
-    requires { ⌜ at + 1096 ≤ length (now bytes) ⌝ }
-    ensures { λ _. ⌜ now (bytes .exit) ≡ take at (now (bytes .entry)) ++ savedTable t ++ drop (at + 1096) (now (bytes .entry)) ⌝ }
-    ensures { λ _. ⌜ length (savedTable t) ≡ 1096 ⌝ }
-{
-    let ids = t.ids;
-    let lens = t.lens;
-    arrays::put_1024(bytes, at, ids);
-    arrays::put_64(bytes, at + 1024, lens);
-    wire::put64(bytes, at + 1088, t.count as u64);
-}
-
-fn save_walk(bytes: &mut [u8], at: usize, w: Walk)
-    requires { ⌜ at + 1265 ≤ length (now bytes) ⌝ }
-    ensures { λ _. ⌜ now (bytes .exit) ≡ take at (now (bytes .entry)) ++ savedWalk w ++ drop (at + 1265) (now (bytes .entry)) ⌝ }
-    ensures { λ _. ⌜ length (savedWalk w) ≡ 1265 ⌝ }
-{
-    let path = w.path;
-    let marks = w.marks;
-    let found = w.found;
-    let candidate = w.candidate;
-    arrays::put_16(bytes, at, path);
-    wire::put64(bytes, at + 16, w.depth as u64);
-    arrays::put_128(bytes, at + 24, marks);
-    save_table(bytes, at + 152, found);
-    save_id(bytes, at + 1248, candidate);
-}
-
 // What comes before the prefix.
-fn save_front(bytes: &mut [u8], c: Client)
-    requires { ⌜ 69 ≤ length (now bytes) ⌝ }
-    ensures { λ _. ⌜ now (bytes .exit) ≡ savedFront c ++ drop 69 (now (bytes .entry)) ⌝ }
-    ensures { λ _. ⌜ length (savedFront c) ≡ 69 ⌝ }
+fn save_head(f: Front, bytes: &mut [u8])
+    requires { ⌜ size ≤ length (now bytes) ⌝ }
+    ensures { λ _. ⌜ now (bytes .exit) ≡ savedHead f ++ drop 69 (now (bytes .entry)) ⌝ }
+    ensures { λ _. ⌜ length (savedHead f) ≡ 69 ⌝ }
 {
-    let id = c.id;
-    let turn = c.turn;
-    let f = flat::flat_of(turn);
-    wire::put8(bytes, 0, c.seed);
-    wire::put8(bytes, 1, turns::flag(c.attached));
+    let id = f.id;
+    let turn = f.turn;
+    let x = flat::flat_of(turn);
+    wire::put8(bytes, 0, f.seed);
+    wire::put8(bytes, 1, turns::flag(f.attached));
     save_id(bytes, 2, id);
-    turns::save_flat(bytes, 19, f);
+    turns::save_flat(bytes, 19, x);
 }
 
-// The client's bytes at the front of the buffer; what is behind them stays.
-pub fn save(c: Client, bytes: &mut [u8])
+// A client's front at the front of the buffer.
+pub fn save_front(f: Front, bytes: &mut [u8])
     requires { ⌜ size ≤ length (now bytes) ⌝ }
-    ensures { λ _. ⌜ now (bytes .exit) ≡ saved c ++ drop size (now (bytes .entry)) ⌝ }
+    ensures { λ _. ⌜ now (bytes .exit) ≡ savedFront f ++ drop 87 (now (bytes .entry)) ⌝ }
+    ensures { λ _. ⌜ length (savedFront f) ≡ 87 ⌝ }
 {
-    let prefix = c.prefix;
-    let walk = c.walk;
-    save_front(bytes, c);
+    let prefix = f.prefix;
+    save_head(f, bytes);
     save_id(bytes, 69, prefix);
-    wire::put8(bytes, 86, c.bits);
-    save_walk(bytes, 87, walk);
+    wire::put8(bytes, 86, f.bits);
+}
+
+// The walk's place, with the list as it is.
+fn save_place(p: Place, bytes: &mut [u8])
+    requires { ⌜ size ≤ length (now bytes) ⌝ }
+    ensures { λ _. ⌜ now (bytes .exit) ≡ withPlace p (now (bytes .entry)) ⌝ }
+{
+    let path = p.path;
+    let marks = p.marks;
+    let candidate = p.candidate;
+    arrays::put_16(bytes, 87, path);
+    wire::put64(bytes, 103, p.depth as u64);
+    arrays::put_128(bytes, 111, marks);
+    save_id(bytes, 1335, candidate);
+}
+
+// An entry more in the list, while there is room.
+fn keep(entry: Entry, bytes: &mut [u8])
+    requires { ⌜ size ≤ length (now bytes) ⌝ }
+    requires { ⌜ Bytes (now bytes) ⌝ }
+    ensures { λ _. ⌜ now (bytes .exit) ≡ withTable (keeping (loadedTable 239 (now (bytes .entry))) entry) (now (bytes .entry)) ⌝ }
+{
+    let n = count(bytes);
+    if 64 <= n {
+        return;
+    }
+    table::set_row(&mut bytes[239..], n, entry);
+    wire::put64(bytes, 1327, n as u64 + 1);
+}
+
+// No ids.
+fn clear(bytes: &mut [u8])
+    requires { ⌜ size ≤ length (now bytes) ⌝ }
+    ensures { λ _. ⌜ now (bytes .exit) ≡ withTable noTable (now (bytes .entry)) ⌝ }
+{
+    wire::fill(&mut bytes[239..], 1096, 0);
+}
+
+// The walk after a start or a request.
+pub fn renew(begins: bool, from: Id, bytes: &mut [u8])
+    requires { ⌜ size ≤ length (now bytes) ⌝ }
+    requires { ⌜ Bytes (now bytes) ⌝ }
+    ensures { λ _. ⌜ now (bytes .exit) ≡ withWalk (renewed begins from (loadedWalk 87 (now (bytes .entry)))) (now (bytes .entry)) ⌝ }
+{
+    if !begins {
+        return;
+    }
+    clear(bytes);
+    save_place(walk::begin(from), bytes);
+}
+
+// The walk after a record.
+pub fn apply(change: Change, bytes: &mut [u8])
+    requires { ⌜ size ≤ length (now bytes) ⌝ }
+    requires { ⌜ Bytes (now bytes) ⌝ }
+    ensures { λ _. ⌜ now (bytes .exit) ≡ withWalk (changed change (loadedWalk 87 (now (bytes .entry)))) (now (bytes .entry)) ⌝ }
+{
+    let touch = change.touch;
+    let place = change.place;
+    let entry = change.entry;
+    match touch {
+        Touch::Same => {}
+        Touch::Moves => save_place(place, bytes),
+        Touch::Keeps => {
+            keep(entry, bytes);
+            save_place(place, bytes);
+        }
+        Touch::Gives => renew(true, Id::none(), bytes),
+        Touch::Clears => renew(true, Id::none(), bytes),
+    }
 }

@@ -17,8 +17,16 @@ use Rattle.walk.specs.declared.Phase.the-variants.{Asked, Mine, Other, Leaving}
 use Rattle.walk.specs.Moves.{onPhase, finding, holding, noWalk, mark, lower, turn, climb}
 use Rattle.steps.specs.declared.End.{End}
 use Rattle.steps.specs.declared.End.the-variants.{DuplicateUid, LongId, TableFull, Unaddressed}
-use Rattle.steps.specs.declared.Goes.the-variants.{On, Done, Stopped}
-use Rattle.steps.specs.declared.Next.{Next}
+
+-- What becomes of a walk: it goes on to what its next Select is for, is done, or ends before its time; and its record then.
+pub data Goes : Type 0 where
+  On : Phase → Goes
+  Done : Goes
+  Stopped : End → Goes
+
+pub record Next : Type 0 where
+  pub goes : Goes
+  pub walk : Walk
 
 abbrev pub going : Phase → Walk → Next
 going p w = record { goes = On p; walk = w }

@@ -1,102 +1,62 @@
--- A list as blocks of 16: a block pasted in is that block set, a block read is that block.
+-- Sixteen bytes pasted into a list: what stands before them and after them stays, and they are read back.
 -- Assumes nothing.
-use Prim.Native.Nat.{ℕ, zero, suc, _+_, _*_, _<_}
-use mathlib.Core.List.{List, [], _∷_, _++_, append-assoc}
-use mathlib.Core.Logic.{_≢_}
-use mathlib.Core.Path.{_≡_, refl, sym, _∙_, ap, ap₂}
+use Prim.Native.Nat.{ℕ, _+_, _-_, _*_, _<_, _≤_}
+use mathlib.Core.List.{List, _++_, append-assoc}
+use mathlib.Core.Path.{_≡_, sym, _∙_, ap, ap₂}
 use native.Mathlib.Omega.{arith}
-use lib.ListN.{length, take, drop, getD, set, length-take, length-drop, length-append, take-append-drop}
-use lib.Seq.{take-at, drop-at, length-take-le, take-add, drop-drop, set-getD, set-set, set-comm, getD-set-same, getD-set-other}
+use lib.ListN.{length, take, drop, length-take, length-drop, length-append, take-append-drop}
+use lib.Seq.{take-at, drop-at, length-take-le, take-add, drop-drop, take-append-le, drop-append-le}
 use Rattle.table.specs.Rows.{pasted}
 
-unfoldable blocks : ℕ → List ℕ → List (List ℕ)
-blocks zero l = []
-blocks (suc n) l = take 16 l ∷ blocks n (drop 16 l)
-
-unfoldable flat : List (List ℕ) → List ℕ
-flat [] = []
-flat (b ∷ bs) = b ++ flat bs
-
-flat-blocks : (n : ℕ) (l : List ℕ) → length l ≡ n * 16 → flat (blocks n l) ≡ l
-unfolding flat blocks
-flat-blocks zero [] h = refl
-flat-blocks zero (x ∷ l) h = absurd (omega arith)
-flat-blocks (suc n) l h = ap (λ (r : List ℕ). take 16 l ++ r) (flat-blocks n (drop 16 l) (omega (arith, length-drop 16 l))) ∙ take-append-drop 16 l
-
-blocks-inj : (n : ℕ) (l m : List ℕ) → length l ≡ n * 16 → length m ≡ n * 16 → blocks n l ≡ blocks n m → l ≡ m
-blocks-inj n l m hl hm e = sym (flat-blocks n l hl) ∙ ap flat e ∙ flat-blocks n m hm
-
-blocks-length : (n : ℕ) (l : List ℕ) → length (blocks n l) ≡ n
-unfolding blocks
-blocks-length zero l = refl
-blocks-length (suc n) l = ap suc (blocks-length n (drop 16 l))
-
-block-at : (n i : ℕ) (l : List ℕ) → i < n → getD (blocks n l) i [] ≡ take 16 (drop (i * 16) l)
-unfolding blocks
-block-at zero i l h = absurd (omega arith)
-block-at (suc n) zero l h = refl
-block-at (suc n) (suc i) l h =
-    let e : 16 + i * 16 ≡ suc i * 16 = omega arith in
-    block-at n i (drop 16 l) (omega arith) ∙ ap (take 16) (drop-drop (i * 16) 16 l ∙ ap (λ (k : ℕ). drop k l) e)
-
--- A paste one block further is a paste into the rest.
-paste-rest : (l b : List ℕ) (i : ℕ) → pasted l (suc i * 16) b ≡ take 16 l ++ pasted (drop 16 l) (i * 16) b
-paste-rest l b i =
-    let e : suc i * 16 ≡ 16 + i * 16 = omega arith in
-    let f : suc i * 16 + 16 ≡ 16 + (i * 16 + 16) = omega arith in
-    ap₂ (λ (x y : List ℕ). x ++ b ++ y) (ap (λ (k : ℕ). take k l) e ∙ take-add 16 (i * 16) l) (ap (λ (k : ℕ). drop k l) f ∙ sym (drop-drop (i * 16 + 16) 16 l))
-    ∙ simp append-assoc
-
-block-set : (n i : ℕ) (l b : List ℕ) → i < n → length l ≡ n * 16 → length b ≡ 16 → blocks n (pasted l (i * 16) b) ≡ set (blocks n l) i b
-unfolding blocks
-block-set zero i l b h hl hb = absurd (omega arith)
-block-set (suc n) zero l b h hl hb = ap₂ (λ (x : List ℕ) (y : List ℕ). x ∷ blocks n y) (take-at b (drop 16 l) 16 hb) (drop-at b (drop 16 l) 16 hb)
-block-set (suc n) (suc i) l b h hl hb =
-    let t : length (take 16 l) ≡ 16 = length-take-le 16 l (omega arith) in
-    ap (λ (x : List ℕ). take 16 x ∷ blocks n (drop 16 x)) (paste-rest l b i)
-    ∙ ap₂ (λ (x : List ℕ) (y : List ℕ). x ∷ blocks n y) (take-at (take 16 l) (pasted (drop 16 l) (i * 16) b) 16 t) (drop-at (take 16 l) (pasted (drop 16 l) (i * 16) b) 16 t)
-    ∙ ap (λ (x : List (List ℕ)). take 16 l ∷ x) (block-set n i (drop 16 l) b (omega arith) (omega (arith, length-drop 16 l)) hb)
+pub length-paste : (l b : List ℕ) (at : ℕ) → at + 16 ≤ length l → length b ≡ 16 → length (pasted l at b) ≡ length l
+length-paste l b at h hb = simp (length-append, length-take, length-drop) (omega arith)
 
 pub length-pasted : (l b : List ℕ) (i n : ℕ) → i < n → length l ≡ n * 16 → length b ≡ 16 → length (pasted l (i * 16) b) ≡ n * 16
-length-pasted l b i n h hl hb =
-    omega (arith, length-append (take (i * 16) l ++ b) (drop (i * 16 + 16) l), length-append (take (i * 16) l) b, length-take (i * 16) l, length-drop (i * 16 + 16) l)
+length-pasted l b i n h hl hb = length-paste l b (i * 16) (omega arith) hb ∙ hl
 
-module _ (n : ℕ) (l : List ℕ) (hl : length l ≡ n * 16) where
-  pub paste-own : (i : ℕ) → i < n → pasted l (i * 16) (take 16 (drop (i * 16) l)) ≡ l
-  paste-own i h =
-      let b : length (take 16 (drop (i * 16) l)) ≡ 16 = length-take-le 16 (drop (i * 16) l) (omega (arith, length-drop (i * 16) l)) in
-      blocks-inj n _ l (length-pasted l (take 16 (drop (i * 16) l)) i n h hl b) hl
-      (block-set n i l (take 16 (drop (i * 16) l)) h hl b ∙ ap (set (blocks n l) i) (sym (block-at n i l h)) ∙ set-getD (blocks n l) i [])
+-- A part that ends before a place.
+pub part-before : (l : List ℕ) (j n k : ℕ) → j + n ≤ k → k ≤ length l → take n (drop j (take k l)) ≡ take n (drop j l)
+part-before l j n k h g =
+    let z : length (take k l) ≡ k = length-take-le k l g in
+    sym (ap (λ (r : List ℕ). take n (drop j r)) (sym (take-append-drop k l))
+    ∙ ap (take n) (drop-append-le j (take k l) (drop k l) (omega arith))
+    ∙ take-append-le n (drop j (take k l)) (drop k l) (omega (arith, length-drop j (take k l))))
 
-  module _ (a : List ℕ) (ha : length a ≡ 16) (i : ℕ) (hi : i < n) where
-    m : List ℕ
-    m = pasted l (i * 16) a
+pub paste-own : (l : List ℕ) (at : ℕ) → pasted l at (take 16 (drop at l)) ≡ l
+paste-own l at = rw (← take-add at 16 l) (take-append-drop (at + 16) l)
 
-    hm : length m ≡ n * 16
-    unfolding m
-    hm = length-pasted l a i n hi hl ha
+-- A paste inside the first of two lists, and one between them.
+pub paste-in : (p q b : List ℕ) (at : ℕ) → at + 16 ≤ length p → pasted (p ++ q) at b ≡ pasted p at b ++ q
+paste-in p q b at h = rw (take-append-le at p q (omega arith), drop-append-le (at + 16) p q h) (simp append-assoc)
 
-    pub block-same : take 16 (drop (i * 16) (pasted l (i * 16) a)) ≡ a
-    unfolding m
-    block-same = sym (block-at n i m hi) ∙ ap (λ (r : List (List ℕ)). getD r i []) (block-set n i l a hi hl ha) ∙ getD-set-same (blocks n l) i a [] (rw (blocks-length n l) hi)
+paste-seam : (p q b : List ℕ) (n : ℕ) → length p ≡ n → pasted (p ++ q) n b ≡ p ++ (b ++ drop 16 q)
+paste-seam p q b n e = rw (take-at p q n e, ← drop-drop 16 n (p ++ q), drop-at p q n e, append-assoc)
 
-    pub block-other : (j : ℕ) → j < n → j ≢ i → take 16 (drop (j * 16) (pasted l (i * 16) a)) ≡ take 16 (drop (j * 16) l)
-    unfolding m
-    block-other j hj d =
-        sym (block-at n j m hj) ∙ ap (λ (r : List (List ℕ)). getD r j []) (block-set n i l a hi hl ha) ∙ getD-set-other (blocks n l) i j a [] d ∙ block-at n j l hj
+module _ (l a : List ℕ) (at : ℕ) (room : at + 16 ≤ length l) (ha : length a ≡ 16) where
+  front : length (take at l) ≡ at
+  front = length-take-le at l (omega arith)
 
-    module _ (b : List ℕ) (hb : length b ≡ 16) where
-      pub paste-same : pasted (pasted l (i * 16) a) (i * 16) b ≡ pasted l (i * 16) b
-      unfolding m
-      paste-same =
-          blocks-inj n _ _ (length-pasted m b i n hi hm hb) (length-pasted l b i n hi hl hb)
-          (block-set n i m b hi hm hb ∙ ap (λ (r : List (List ℕ)). set r i b) (block-set n i l a hi hl ha) ∙ set-set (blocks n l) i a b ∙ sym (block-set n i l b hi hl hb))
+  take-pasted : take at (pasted l at a) ≡ take at l
+  take-pasted = rw (append-assoc, take-at (take at l) (a ++ drop (at + 16) l) at front)
 
-      pub paste-comm : (j : ℕ) → j < n → i ≢ j → pasted (pasted l (i * 16) a) (j * 16) b ≡ pasted (pasted l (j * 16) b) (i * 16) a
-      unfolding m
-      paste-comm j hj d =
-          let k : List ℕ = pasted l (j * 16) b in
-          let hk : length k ≡ n * 16 = length-pasted l b j n hj hl hb in
-          blocks-inj n _ _ (length-pasted m b j n hj hm hb) (length-pasted k a i n hi hk ha)
-          (block-set n j m b hj hm hb ∙ ap (λ (r : List (List ℕ)). set r j b) (block-set n i l a hi hl ha) ∙ set-comm (blocks n l) i j a b d
-          ∙ sym (block-set n i k a hi hk ha ∙ ap (λ (r : List (List ℕ)). set r i a) (block-set n j l b hj hl hb)))
+  drop-pasted : drop (at + 16) (pasted l at a) ≡ drop (at + 16) l
+  drop-pasted = drop-at (take at l ++ a) (drop (at + 16) l) (at + 16) (omega (arith, length-append (take at l) a, front))
+
+  pub block-same : take 16 (drop at (pasted l at a)) ≡ a
+  block-same = rw (append-assoc, drop-at (take at l) (a ++ drop (at + 16) l) at front) (take-at a (drop (at + 16) l) 16 ha)
+
+  pub block-after : (j : ℕ) → at + 16 ≤ j → drop j (pasted l at a) ≡ drop j l
+  block-after j h =
+      let z : j ≡ at + 16 + (j - (at + 16)) = omega arith in
+      rw z (rw (← drop-drop (j - (at + 16)) (at + 16) (pasted l at a), drop-pasted) (drop-drop (j - (at + 16)) (at + 16) l))
+
+  pub paste-same : (b : List ℕ) → pasted (pasted l at a) at b ≡ pasted l at b
+  paste-same b = ap₂ (λ (x y : List ℕ). x ++ b ++ y) take-pasted drop-pasted
+
+  pub paste-comm : (b : List ℕ) (j : ℕ) → at + 16 ≤ j → j + 16 ≤ length l → pasted (pasted l at a) j b ≡ pasted (pasted l j b) at a
+  paste-comm b j h g = rw (take-append-drop j l) at (go (take j l) (drop j l) (length-take-le j l (omega arith)))
+    where
+      go : (p q : List ℕ) → length p ≡ j → pasted (pasted (p ++ q) at a) j b ≡ pasted (pasted (p ++ q) j b) at a
+      go p q e =
+          ap (λ (r : List ℕ). pasted r j b) (paste-in p q a at (omega arith)) ∙ paste-seam (pasted p at a) q b j (length-paste p a at (omega arith) ha ∙ e)
+          ∙ sym (ap (λ (r : List ℕ). pasted r at a) (paste-seam p q b j e) ∙ paste-in p (b ++ drop 16 q) a at (omega arith))

@@ -1,4 +1,3 @@
-pub mod Paste
 pub mod Ways
 pub mod Blocks
 pub mod Rows

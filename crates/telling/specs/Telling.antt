@@ -14,9 +14,8 @@ use Rattle.walk.specs.declared.Walk.{Walk}
 use Rattle.walk.specs.declared.Phase as Walk
 use Rattle.steps.specs.declared.End.{End}
 use Rattle.steps.specs.declared.End.the-variants as End
-use Rattle.steps.specs.declared.Goes.{Goes}
-use Rattle.steps.specs.declared.Goes.the-variants.{On, Done, Stopped}
 use Rattle.steps.specs.Steps as Steps
+use Rattle.steps.specs.Steps.{Goes, On, Done, Stopped}
 use Rattle.answering.specs.Answering.{tells}
 use Rattle.client.specs.declared.Search.{Search}
 use Rattle.client.specs.declared.Search.the-variants.{Backing, Walking}

@@ -14,112 +14,112 @@ use Rattle.path.specs.Paths.{cut}
 use Rattle.table.specs.declared.Table.{Table}
 use Rattle.table.specs.Rows.{noTable}
 use Rattle.walk.specs.declared.Walk.{Walk}
+use Rattle.walk.specs.declared.Place.{Place}
 use Rattle.walk.specs.declared.Phase.{Phase}
 use Rattle.walk.specs.declared.Phase.the-variants.{Asked, Mine, Other, Leaving}
 use Rattle.walk.specs.declared.Ask.{Ask}
-use Rattle.walk.specs.Moves.{noWalk, begin, mark, lower, raise, turn, climb, nobody, child, nextBit, asks}
+use Rattle.walk.specs.Moves.{walkOf, noWalk, begin, markAt, mark, lower, raise, turn, climb, nobody, child, nextBit, asks}
 
-pub no-walk-is : (t : Table) (x : Id) → t ≡ noTable → x ≡ noId → record { path = replicate 16 0; depth = 0; marks = replicate 128 0; found = t; candidate = x } ≡ noWalk
+pub no-place-is : (x : Id) → x ≡ noId → walkOf (record { path = replicate 16 0; depth = 0; marks = replicate 128 0; candidate = x }) noTable ≡ noWalk
 unfolding noWalk
-no-walk-is t x e f = rw (e, f)
+no-place-is x f = rw f
 
-pub begin-is : (w : Walk) (x : Id) (n : ℕ) → w ≡ noWalk → n ≡ length (idOf x)
-    → record { path = x .bytes; depth = 8 * n; marks = w .marks; found = w .found; candidate = w .candidate } ≡ begin x
+pub begin-is : (p : Place) (x : Id) (n : ℕ) → walkOf p noTable ≡ noWalk → n ≡ length (idOf x)
+    → walkOf (record { path = x .bytes; depth = 8 * n; marks = p .marks; candidate = p .candidate }) noTable ≡ begin x
 unfolding begin
-begin-is w x n e f = rw (e, f)
+begin-is p x n e f = rw f (ap (λ (w : Walk). record { path = x .bytes; depth = 8 * length (idOf x); marks = w .marks; found = w .found; candidate = w .candidate }) e)
 
-module _ (w : Walk) where
-  -- the mark of the last level
-  marks-at : (d : ℕ) → 0 < d → getD (0 ∷ w .marks) d 0 ≡ getD (w .marks) (d - 1) 0
-  marks-at zero h = absurd (omega arith)
-  marks-at (suc d) h = let e : suc d - 1 ≡ d = omega arith in rw e
+-- A walk under no prefix is none.
+pub begin-none : begin noId ≡ noWalk
+unfolding begin noWalk noId
+begin-none = refl
 
-  pub mark-top : w .depth ≡ 0 → 0 ≡ mark w
-  unfolding mark
-  mark-top e = rw e
+-- The mark of the last level.
+module _ (marks : List ℕ) where
+  pub mark-top : (d : ℕ) → d ≡ 0 → 0 ≡ markAt marks d
+  mark-top d e = rw e
 
-  pub mark-in : (w .depth ≡ 0 → ⊥) → getD (w .marks) (w .depth - 1) 0 ≡ mark w
-  unfolding mark
-  mark-in h = sym (marks-at (w .depth) (omega arith))
+  pub mark-in : (d : ℕ) → (d ≡ 0 → ⊥) → getD marks (d - 1) 0 ≡ markAt marks d
+  mark-in zero h = absurd (h refl)
+  mark-in (suc d) h = let e : suc d - 1 ≡ d = omega arith in rw e
 
   -- A mark that is not 0 stands on a level.
-  pub deep : (m k : ℕ) → m ≡ mark w → m ≡ k → 0 < k → 0 < w .depth
+  pub deep : (d m k : ℕ) → m ≡ markAt marks d → m ≡ k → 0 < k → 0 < d
+  deep zero m k e f h = absurd (omega arith)
+  deep (suc d) m k e f h = omega arith
+
+-- The climb: where it ends from a path of d levels is where it ends from the place s.
+abbrev pub at : List ℕ → ℕ → List ℕ → Id → Table → Walk
+at path d marks x t = record { path = path; depth = d; marks = marks; found = t; candidate = x }
+
+module _ (path marks : List ℕ) (d m : ℕ) (x : Id) (em : m ≡ markAt marks d) where
+  pub climb-on : (s : Place) (q : List ℕ) → ((t : Table) → climb d (at path d marks x t) ≡ climb (s .depth) (walkOf s t)) → m ≡ 2 → q ≡ cut path (d - 1)
+      → (t : Table) → climb (d - 1) (at q (d - 1) (set marks (d - 1) 0) x t) ≡ climb (s .depth) (walkOf s t)
+  unfolding climb raise mark
+  climb-on s q go f e t =
+      let h : 0 < d = deep marks d m 2 em f (omega arith) in
+      let z : d ≡ suc (d - 1) = omega arith in
+      rw e (
+      ap (λ (b : Bool). cond b (climb (d - 1) (raise (at path d marks x t))) (at path d marks x t)) (sym (eq-eqb (markAt marks d) 2 (sym em ∙ f)))
+      ∙ ap (λ (n : ℕ). climb n (at path d marks x t)) (sym z)
+      ∙ go t
+      )
+
+  pub climb-less : m ≡ 2 → d - 1 < d
+  climb-less f = let h : 0 < d = deep marks d m 2 em f (omega arith) in omega arith
+
+  stay : (n : ℕ) (t : Table) → (m ≡ 2 → ⊥) → climb n (at path d marks x t) ≡ at path d marks x t
+  unfolding climb mark
+  stay zero t f = refl
+  stay (suc n) t f = rw (← em, ne-eqb m 2 f)
+
+  pub climb-end : (s : Place) → ((t : Table) → climb d (at path d marks x t) ≡ climb (s .depth) (walkOf s t)) → (m ≡ 2 → ⊥) → (t : Table) → at path d marks x t ≡ climb (s .depth) (walkOf s t)
+  climb-end s go f t = sym (stay d t f) ∙ go t
+
+module _ (p : Place) where
+  pub mark-is : (m : ℕ) → m ≡ markAt (p .marks) (p .depth) → (t : Table) → m ≡ mark (walkOf p t)
   unfolding mark
-  deep m k e f h = go (w .depth) refl
-    where
-      go : (d : ℕ) → w .depth ≡ d → 0 < w .depth
-      go zero g = let z : m ≡ 0 = e ∙ rw g in absurd (omega arith)
-      go (suc d) g = omega arith
+  mark-is m e t = e
 
-  pub lower-is : record { path = w .path; depth = w .depth + 1; marks = set (w .marks) (w .depth) 1; found = w .found; candidate = w .candidate } ≡ lower w
+  pub lower-is : (t : Table) → walkOf (record { path = p .path; depth = p .depth + 1; marks = set (p .marks) (p .depth) 1; candidate = p .candidate }) t ≡ lower (walkOf p t)
   unfolding lower
-  lower-is = refl
+  lower-is t = refl
 
-  pub raise-is : (q : List ℕ) → q ≡ cut (w .path) (w .depth - 1) → record { path = q; depth = w .depth - 1; marks = set (w .marks) (w .depth - 1) 0; found = w .found; candidate = w .candidate } ≡ raise w
-  unfolding raise
-  raise-is q e = rw e
-
-  pub turn-is : (q : List ℕ) → q ≡ setBit (w .path) (w .depth - 1) → record { path = q; depth = w .depth; marks = set (w .marks) (w .depth - 1) 2; found = w .found; candidate = w .candidate } ≡ turn w
+  pub turn-is : (q : List ℕ) → q ≡ setBit (p .path) (p .depth - 1) → (t : Table) → walkOf (record { path = q; depth = p .depth; marks = set (p .marks) (p .depth - 1) 2; candidate = p .candidate }) t ≡ turn (walkOf p t)
   unfolding turn
-  turn-is q e = rw e
-
-  stay : (n m : ℕ) → m ≡ mark w → (m ≡ 2 → ⊥) → climb n w ≡ w
-  unfolding climb
-  stay zero m e f = refl
-  stay (suc n) m e f = rw (← e, ne-eqb m 2 f)
-
-  pub raise-deep : (v : Walk) → v ≡ raise w → w .depth ≤ 128 → v .depth ≤ 128
-  unfolding raise
-  raise-deep v e h = rw e (omega arith)
-
-  pub raise-less : (v : Walk) → v ≡ raise w → 0 < w .depth → v .depth < w .depth
-  unfolding raise
-  raise-less v e h = rw e (omega arith)
-
-  pub climb-on : (v w₀ : Walk) (m : ℕ) → climb (w .depth) w ≡ climb (w₀ .depth) w₀ → m ≡ mark w → m ≡ 2 → v ≡ raise w → climb (v .depth) v ≡ climb (w₀ .depth) w₀
-  unfolding climb raise
-  climb-on v w₀ m q e f ev =
-      let h : 0 < w .depth = deep m 2 e f (omega arith) in
-      let z : w .depth ≡ suc (w .depth - 1) = omega arith in
-      ap (λ (u : Walk). climb (u .depth) u) ev
-      ∙ ap (λ (b : Bool). cond b (climb (w .depth - 1) (raise w)) w) (sym (eq-eqb (mark w) 2 (sym e ∙ f)))
-      ∙ ap (λ (n : ℕ). climb n w) (sym z)
-      ∙ q
-
-  pub climb-end : (w₀ : Walk) (m : ℕ) → climb (w .depth) w ≡ climb (w₀ .depth) w₀ → m ≡ mark w → (m ≡ 2 → ⊥) → w ≡ climb (w₀ .depth) w₀
-  climb-end w₀ m q e f = sym (stay (w .depth) m e f) ∙ q
+  turn-is q e t = rw e
 
   module _ (b : Bool) where
-    pub child-zero : not b ≡ true → _≡_ {A = Ask} (record { bits = w .path; count = w .depth + 1 }) (child w b)
+    pub child-zero : not b ≡ true → (t : Table) → _≡_ {A = Ask} (record { bits = p .path; count = p .depth + 1 }) (child (walkOf p t) b)
     unfolding child
-    child-zero t = rw (not-true b t)
+    child-zero e t = rw (not-true b e)
 
-    pub child-over : length (w .path) ≡ 16 → not b ≡ false → 128 ≤ w .depth → _≡_ {A = Ask} (record { bits = w .path; count = w .depth + 1 }) (child w b)
+    pub child-over : length (p .path) ≡ 16 → not b ≡ false → 128 ≤ p .depth → (t : Table) → _≡_ {A = Ask} (record { bits = p .path; count = p .depth + 1 }) (child (walkOf p t) b)
     unfolding child setBit
-    child-over l t h = rw (not-false b t) (ap (λ (q : List ℕ). record { bits = q; count = w .depth + 1 }) (sym (set-out (w .path) _ _ (omega arith))))
+    child-over l e h t = rw (not-false b e) (ap (λ (q : List ℕ). record { bits = q; count = p .depth + 1 }) (sym (set-out (p .path) _ _ (omega arith))))
 
-    pub child-one : (q : List ℕ) → not b ≡ false → q ≡ setBit (w .path) (w .depth) → _≡_ {A = Ask} (record { bits = q; count = w .depth + 1 }) (child w b)
+    pub child-one : (q : List ℕ) → not b ≡ false → q ≡ setBit (p .path) (p .depth) → (t : Table) → _≡_ {A = Ask} (record { bits = q; count = p .depth + 1 }) (child (walkOf p t) b)
     unfolding child
-    child-one q t e = rw (e, not-false b t)
+    child-one q e f t = rw (f, not-false b e)
 
-  module _ (p : Phase) where
-    pub asks-deep : (r : Ask) → 128 < w .depth → r ≡ nobody → r ≡ asks w p
+  module _ (s : Phase) where
+    pub asks-deep : (r : Ask) → 128 < p .depth → r ≡ nobody → (t : Table) → r ≡ asks (walkOf p t) s
     unfolding asks
-    asks-deep r h e = e ∙ rw (lt-leb (w .depth) 128 h)
+    asks-deep r h e t = e ∙ rw (lt-leb (p .depth) 128 h)
 
-    module _ (d : w .depth ≤ 128) where
-      pub asks-path : p ≡ Asked → _≡_ {A = Ask} (record { bits = w .path; count = w .depth }) (asks w p)
+    module _ (d : p .depth ≤ 128) where
+      pub asks-path : s ≡ Asked → (t : Table) → _≡_ {A = Ask} (record { bits = p .path; count = p .depth }) (asks (walkOf p t) s)
       unfolding asks
-      asks-path e = rw (le-leb (w .depth) 128 d, e)
+      asks-path e t = rw (le-leb (p .depth) 128 d, e)
 
-      pub asks-mine : (b : Bool) (r : Ask) → p ≡ Mine → b ≡ nextBit w → r ≡ child w b → r ≡ asks w p
+      pub asks-mine : (b : Bool) (r : Ask) → s ≡ Mine → b ≡ nextBit (walkOf p noTable) → ((t : Table) → r ≡ child (walkOf p t) b) → (t : Table) → r ≡ asks (walkOf p t) s
       unfolding asks
-      asks-mine b r ep eb e = e ∙ rw (le-leb (w .depth) 128 d, ep, eb)
+      asks-mine b r ep eb e t = e t ∙ rw (le-leb (p .depth) 128 d, ep, eb)
 
-      pub asks-other : (good b : Bool) (r : Ask) → p ≡ Other good → b ≡ nextBit w → r ≡ child w (not b) → r ≡ asks w p
+      pub asks-other : (good b : Bool) (r : Ask) → s ≡ Other good → b ≡ nextBit (walkOf p noTable) → ((t : Table) → r ≡ child (walkOf p t) (not b)) → (t : Table) → r ≡ asks (walkOf p t) s
       unfolding asks
-      asks-other good b r ep eb e = e ∙ rw (le-leb (w .depth) 128 d, ep, eb)
+      asks-other good b r ep eb e t = e t ∙ rw (le-leb (p .depth) 128 d, ep, eb)
 
-      pub asks-nobody : (r : Ask) → p ≡ Leaving → r ≡ nobody → r ≡ asks w p
+      pub asks-nobody : (r : Ask) → s ≡ Leaving → r ≡ nobody → (t : Table) → r ≡ asks (walkOf p t) s
       unfolding asks
-      asks-nobody r ep e = e ∙ rw (le-leb (w .depth) 128 d, ep)
+      asks-nobody r ep e t = e ∙ rw (le-leb (p .depth) 128 d, ep)

@@ -12,6 +12,7 @@ use Rattle.path.specs.Paths.{cut}
 use Rattle.table.specs.declared.Table.{Table}
 use Rattle.table.specs.Rows.{noTable}
 use Rattle.walk.specs.declared.Walk.{Walk}
+use Rattle.walk.specs.declared.Place.{Place}
 use Rattle.walk.specs.declared.Phase.{Phase}
 use Rattle.walk.specs.declared.Phase.the-variants.{Asked, Mine, Other, Leaving}
 use Rattle.walk.specs.declared.Ask.{Ask}
@@ -22,6 +23,13 @@ onPhase Asked asked mine other leaving = asked
 onPhase Mine asked mine other leaving = mine
 onPhase (Other good) asked mine other leaving = other good
 onPhase Leaving asked mine other leaving = leaving
+
+-- All of a walk but its list, and a walk of the two.
+abbrev pub placeOf : Walk → Place
+placeOf w = record { path = w .path; depth = w .depth; marks = w .marks; candidate = w .candidate }
+
+abbrev pub walkOf : Place → Table → Walk
+walkOf p t = record { path = p .path; depth = p .depth; marks = p .marks; found = t; candidate = p .candidate }
 
 -- A record with some fields anew, all else as it was.
 abbrev pub standing : Walk → List ℕ → ℕ → List ℕ → Walk
@@ -41,8 +49,11 @@ unfoldable pub begin : Id → Walk
 begin x = standing noWalk (x .bytes) (8 * length (idOf x)) (noWalk .marks)
 
 -- The mark of the last level: 0 in the given prefix, 1 in a zero child, 2 in a one child.
+abbrev pub markAt : List ℕ → ℕ → ℕ
+markAt marks d = getD (0 ∷ marks) d 0
+
 unfoldable pub mark : Walk → ℕ
-mark w = getD (0 ∷ w .marks) (w .depth) 0
+mark w = markAt (w .marks) (w .depth)
 
 -- Into the zero child; out of a one child; from a zero child to its sibling.
 unfoldable pub lower : Walk → Walk

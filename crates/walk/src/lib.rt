@@ -1,15 +1,26 @@
-// The walk's record on its fixed arrays: the moves on it, and what the next Select asks for.
+// The walk's record on its fixed arrays, its place (all of it but the list): the moves, and what the next Select asks for.
 use ids::Id;
 use table::Table;
 ghost use mathlib.Core.Path.{_≡_};
 ghost use Prim.Native.Nat.{_≤_, _<_};
-ghost use Rattle.walk.specs.Moves.{noWalk, begin, mark, lower, raise, turn, climb, finding, holding, nobody, child, asks};
+ghost use lib.ListN.{length};
+ghost use Rattle.table.specs.declared.Table.{Table};
+ghost use Rattle.table.specs.Rows.{noTable};
+ghost use Rattle.walk.specs.Moves.{placeOf, walkOf, noWalk, begin, markAt, mark, lower, turn, climb, holding, nobody, child, asks};
 
 pub struct Walk {
     pub path: [u8; 16],
     pub depth: usize,
     pub marks: [u8; 128],
     pub found: Table,
+    pub candidate: Id,
+}
+
+// All of a walk but its list. A contract on a place holds of the walk there with any list.
+pub struct Place {
+    pub path: [u8; 16],
+    pub depth: usize,
+    pub marks: [u8; 128],
     pub candidate: Id,
 }
 
@@ -27,27 +38,41 @@ pub struct Ask {
     pub count: usize,
 }
 
-pub fn no_walk() -> Walk
-    ensures { λ r. ⌜ r ≡ noWalk ⌝ }
+// A walk at a place, with a list.
+pub fn walk_of(p: Place, found: Table) -> Walk
+    ensures { λ r. ⌜ r ≡ walkOf p found ⌝ }
 {
-    let path = [0u8; 16];
-    let marks = [0u8; 128];
-    let found = Table::none();
-    let candidate = Id::none();
+    let path = p.path;
+    let marks = p.marks;
+    let candidate = p.candidate;
     Walk {
         path,
-        depth: 0,
+        depth: p.depth,
         marks,
         found,
         candidate,
     }
 }
 
-// A walk of a prefix of whole bytes, at its first Select.
-pub fn begin(prefix: Id) -> Walk
-    ensures { λ r. ⌜ r ≡ begin prefix ⌝ }
+pub fn no_place() -> Place
+    ensures { λ r. ⌜ walkOf r noTable ≡ noWalk ⌝ }
 {
-    let mut w = no_walk();
+    let path = [0u8; 16];
+    let marks = [0u8; 128];
+    let candidate = Id::none();
+    Place {
+        path,
+        depth: 0,
+        marks,
+        candidate,
+    }
+}
+
+// The place of a prefix of whole bytes, at its first Select.
+pub fn begin(prefix: Id) -> Place
+    ensures { λ r. ⌜ walkOf r noTable ≡ begin prefix ⌝ }
+{
+    let mut w = no_place();
     let p = prefix.bytes;
     let n = prefix.size();
     w.path = p;
@@ -63,19 +88,43 @@ pub fn nobody() -> Ask
 }
 
 impl Walk {
-    // The mark of the last level: 0 in the given prefix, 1 in a zero child, 2 in a one child.
+    pub fn place(self) -> Place
+        ensures { λ r. ⌜ r ≡ placeOf self ⌝ }
+    {
+        let path = self.path;
+        let marks = self.marks;
+        let candidate = self.candidate;
+        Place {
+            path,
+            depth: self.depth,
+            marks,
+            candidate,
+        }
+    }
+}
+
+// The mark of the last of d levels: 0 in the given prefix, 1 in a zero child, 2 in a one child.
+fn mark_at(marks: &[u8], d: usize) -> u8
+    requires { ⌜ length (now marks) ≡ 128 ⌝ }
+    requires { ⌜ d ≤ 128 ⌝ }
+    ensures { λ r. ⌜ r ≡ markAt (now (marks .entry)) d ⌝ }
+{
+    if d == 0 { 0 } else { marks[d - 1] }
+}
+
+impl Place {
     pub fn mark(self) -> u8
         requires { ⌜ self .depth ≤ 128 ⌝ }
-        ensures { λ r. ⌜ r ≡ mark self ⌝ }
+        ensures { λ r. ⌜ ((t : Table) → r ≡ mark (walkOf self t)) ⌝ }
     {
-        let d = self.depth;
-        if d == 0 { 0 } else { self.marks[d - 1] }
+        let marks = self.marks;
+        mark_at(&marks, self.depth)
     }
 
     // Into the zero child.
-    pub fn lower(self) -> Walk
+    pub fn lower(self) -> Place
         requires { ⌜ self .depth < 128 ⌝ }
-        ensures { λ r. ⌜ r ≡ lower self ⌝ }
+        ensures { λ r. ⌜ ((t : Table) → walkOf r t ≡ lower (walkOf self t)) ⌝ }
     {
         let mut w = self;
         let d = w.depth;
@@ -84,27 +133,11 @@ impl Walk {
         w
     }
 
-    // Out of a one child.
-    pub fn raise(self) -> Walk
-        requires { ⌜ 0 < self .depth ⌝ }
-        requires { ⌜ self .depth ≤ 128 ⌝ }
-        ensures { λ r. ⌜ r ≡ raise self ⌝ }
-    {
-        let mut w = self;
-        let d = w.depth - 1;
-        let p = w.path;
-        let q = path::cut(p, d);
-        w.path = q;
-        w.marks[d] = 0;
-        w.depth = d;
-        w
-    }
-
     // From the zero child to the one child.
-    pub fn turn(self) -> Walk
+    pub fn turn(self) -> Place
         requires { ⌜ 0 < self .depth ⌝ }
         requires { ⌜ self .depth ≤ 128 ⌝ }
-        ensures { λ r. ⌜ r ≡ turn self ⌝ }
+        ensures { λ r. ⌜ ((t : Table) → walkOf r t ≡ turn (walkOf self t)) ⌝ }
     {
         let mut w = self;
         let d = w.depth - 1;
@@ -115,39 +148,42 @@ impl Walk {
         w
     }
 
-    pub fn finding(self, t: Table) -> Walk
-        ensures { λ r. ⌜ r ≡ finding self t ⌝ }
-    {
-        let mut w = self;
-        w.found = t;
-        w
-    }
-
-    pub fn holding(self, id: Id) -> Walk
-        ensures { λ r. ⌜ r ≡ holding self id ⌝ }
+    pub fn holding(self, id: Id) -> Place
+        ensures { λ r. ⌜ ((t : Table) → walkOf r t ≡ holding (walkOf self t) id) ⌝ }
     {
         let mut w = self;
         w.candidate = id;
         w
     }
 
-    // Up to the nearest zero child, or to the given prefix.
-    pub fn climb(self) -> Walk
+    // Out of every one child: up to the nearest zero child, or to the given prefix.
+    pub fn climb(self) -> Place
         requires { ⌜ self .depth ≤ 128 ⌝ }
-        ensures { λ r. ⌜ r ≡ climb (self .depth) self ⌝ }
+        ensures { λ r. ⌜ ((t : Table) → walkOf r t ≡ climb (self .depth) (walkOf self t)) ⌝ }
         ensures { λ r. ⌜ r .depth ≤ 128 ⌝ }
     {
-        let mut w = self;
-        while w.mark() == 2 {
-            w = w.raise();
+        let mut path = self.path;
+        let mut marks = self.marks;
+        let mut d = self.depth;
+        while mark_at(&marks, d) == 2 {
+            d -= 1;
+            let cut = path::cut(path, d);
+            path = cut;
+            marks[d] = 0;
         }
-        w
+        let candidate = self.candidate;
+        Place {
+            path,
+            depth: d,
+            marks,
+            candidate,
+        }
     }
 
     // The path and one bit more.
     pub fn child(self, bit: bool) -> Ask
         requires { ⌜ self .depth ≤ 128 ⌝ }
-        ensures { λ r. ⌜ r ≡ child self bit ⌝ }
+        ensures { λ r. ⌜ ((t : Table) → r ≡ child (walkOf self t) bit) ⌝ }
     {
         let d = self.depth;
         let count = d + 1;
@@ -164,7 +200,7 @@ impl Walk {
 
     // What the next Select asks for, of any walk in any phase.
     pub fn asks(self, p: Phase) -> Ask
-        ensures { λ r. ⌜ r ≡ asks self p ⌝ }
+        ensures { λ r. ⌜ ((t : Table) → r ≡ asks (walkOf self t) p) ⌝ }
     {
         let d = self.depth;
         if 128 < d {

@@ -8,8 +8,8 @@ use Rattle.answering.proofs.goes.Tie as tie
 enum-known-then : tie.Need-enum-known-then
 enum-known-then c = search needs
 
-onward-requires : tie.Need-onward-requires
-onward-requires c κs = search needs
+stays-requires : tie.Need-stays-requires
+stays-requires c κs = search needs
 
 making-requires : tie.Need-making-requires
 making-requires c κs = search needs
@@ -43,7 +43,7 @@ goes-spec =
     tie.close
     (tie.spec
     enum-known-then
-    onward-requires
+    stays-requires
     making-requires
     enum-known-then-2
     stops-requires

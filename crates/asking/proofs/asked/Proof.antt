@@ -1,5 +1,6 @@
 -- `asking::asked` meets its contract.
 -- Assumes nothing.
+use Rattle.walk.specs.Moves.{noWalk}
 use Rattle.asking.proofs.Ways.{asked-made}
 use borrow.Author.Needs.{needs}
 use Rattle.asking.proofs.asked.Statement.{statement}
@@ -15,7 +16,7 @@ same-length : tie.Need-same-length
 same-length c = search needs
 
 returns : tie.Need-returns
-returns c = search (asked-made, needs)
+returns c = search (asked-made, c .granted .ensures noWalk, needs)
 
 pub asked-spec : {M : Type 1} → statement M
 asked-spec = tie.close (tie.spec write-request-requires granted-requires same-length returns)

@@ -1,6 +1,7 @@
 -- `asking::asks` meets its contract.
 -- Assumes nothing.
-use Rattle.asking.proofs.Ways.{asks-probing, asks-parting, asks-seeking, asks-backing, asks-walking}
+use Rattle.asking.specs.Asking.{asks}
+use Rattle.asking.proofs.Ways.{asks-as, asks-seeking}
 use borrow.Author.Needs.{needs}
 use Rattle.asking.proofs.asks.Statement.{statement}
 use Rattle.asking.proofs.asks.Tie as tie
@@ -39,37 +40,25 @@ asks-requires : tie.Need-asks-requires
 asks-requires c κs = search needs
 
 returns : tie.Need-returns
-returns c = search (asks-probing, needs)
+unfolding asks
+returns c = search (asks-as, needs)
 
 returns-2 : tie.Need-returns-2
-returns-2 c = search (asks-parting, needs)
+unfolding asks
+returns-2 c = search (asks-as, needs)
 
 returns-3 : tie.Need-returns-3
 returns-3 c = search (asks-seeking, needs)
 
 returns-4 : tie.Need-returns-4
-returns-4 c = search (asks-backing, needs)
+unfolding asks
+returns-4 c = search (asks-as, needs)
 
 returns-5 : tie.Need-returns-5
-returns-5 c = search (asks-walking, needs)
+unfolding asks
+returns-5 c = search (asks-as, needs)
 
 pub asks-spec : {M : Type 1} → statement M
 asks-spec =
-    tie.close
-    (tie.spec
-    enum-told
-    cast-t8
-    enum-told-2
-    nobody-requires
-    enum-told-3
-    size-requires
-    mul-t10
-    enum-told-4
-    nobody-requires-2
-    enum-known-search
-    asks-requires
-    returns
-    returns-2
-    returns-3
-    returns-4
-    returns-5)
+    tie.close (tie.spec enum-told cast-t8 enum-told-2 nobody-requires enum-told-3 size-requires mul-t10 enum-told-4
+    nobody-requires-2 enum-known-search asks-requires returns returns-2 returns-3 returns-4 returns-5)

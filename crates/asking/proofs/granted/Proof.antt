@@ -1,39 +1,31 @@
 -- `asking::granted` meets its contract.
 -- Assumes nothing.
-use Rattle.asking.proofs.Ways.{granted-done, granted-short}
+use Rattle.asking.specs.Asking.{granted}
+use Rattle.asking.proofs.Ways.{granted-as}
 use borrow.Author.Needs.{needs}
 use Rattle.asking.proofs.granted.Statement.{statement}
 use Rattle.asking.proofs.granted.Tie as tie
 
-enum-known-w : tie.Need-enum-known-w
-enum-known-w c = search needs
-
-handing-requires : tie.Need-handing-requires
-handing-requires c κs = search needs
+enum-known-placed : tie.Need-enum-known-placed
+enum-known-placed c = search needs
 
 handed-requires : tie.Need-handed-requires
 handed-requires c κs = search needs
 
-enum-known-w-2 : tie.Need-enum-known-w-2
-enum-known-w-2 c = search needs
+enum-known-placed-2 : tie.Need-enum-known-placed-2
+enum-known-placed-2 c = search needs
 
 refuse-requires : tie.Need-refuse-requires
 refuse-requires c κs = search needs
 
 returns : tie.Need-returns
-returns c = search (granted-done, needs)
+unfolding granted
+returns c = search (granted-as, needs)
 
 returns-2 : tie.Need-returns-2
-returns-2 c = search (granted-short, needs)
+unfolding granted
+returns-2 c = search (granted-as, needs)
 
 pub granted-spec : {M : Type 1} → statement M
 granted-spec =
-    tie.close
-    (tie.spec
-    enum-known-w
-    handing-requires
-    handed-requires
-    enum-known-w-2
-    refuse-requires
-    returns
-    returns-2)
+    tie.close (tie.spec enum-known-placed handed-requires enum-known-placed-2 refuse-requires returns returns-2)

@@ -5,6 +5,9 @@ use borrow.Author.Needs.{needs}
 use Rattle.asking.proofs.handed.Statement.{statement}
 use Rattle.asking.proofs.handed.Tie as tie
 
+none-requires : tie.Need-none-requires
+none-requires c κs = search needs
+
 enum-told : tie.Need-enum-told
 enum-told c = search needs
 
@@ -37,15 +40,5 @@ returns-3 c = search (handed-leave, needs)
 
 pub handed-spec : {M : Type 1} → statement M
 handed-spec =
-    tie.close
-    (tie.spec
-    enum-told
-    turned-requires
-    next-seed-requires
-    enum-told-2
-    turned-requires-2
-    enum-told-3
-    idle-requires
-    returns
-    returns-2
-    returns-3)
+    tie.close (tie.spec none-requires enum-told turned-requires next-seed-requires enum-told-2 turned-requires-2
+    enum-told-3 idle-requires returns returns-2 returns-3)

@@ -1,6 +1,7 @@
 -- `asking::write_request` meets its contract.
 -- Assumes nothing.
-use Rattle.asking.proofs.Ways.{request-select, request-demand, request-leave}
+use Rattle.asking.specs.Asking.{frameOf}
+use Rattle.asking.proofs.Ways.{request-as}
 use borrow.Author.Needs.{needs}
 use Rattle.asking.proofs.write_request.Statement.{statement}
 use Rattle.asking.proofs.write_request.Tie as tie
@@ -27,33 +28,24 @@ same-length : tie.Need-same-length
 same-length c = search needs
 
 returns : tie.Need-returns
-returns c = search (request-select, needs)
+unfolding frameOf
+returns c = search (request-as, needs)
 
 same-length-2 : tie.Need-same-length-2
 same-length-2 c = search needs
 
 returns-2 : tie.Need-returns-2
-returns-2 c = search (request-demand, needs)
+unfolding frameOf
+returns-2 c = search (request-as, needs)
 
 same-length-3 : tie.Need-same-length-3
 same-length-3 c = search needs
 
 returns-3 : tie.Need-returns-3
-returns-3 c = search (request-leave, needs)
+unfolding frameOf
+returns-3 c = search (request-as, needs)
 
 pub write-request-spec : {M : Type 1} → statement M
 write-request-spec =
-    tie.close
-    (tie.spec
-    enum-known-phase
-    write-search-requires
-    enum-known-phase-2
-    write-demand-requires
-    enum-known-phase-3
-    write-reset-requires
-    same-length
-    returns
-    same-length-2
-    returns-2
-    same-length-3
-    returns-3)
+    tie.close (tie.spec enum-known-phase write-search-requires enum-known-phase-2 write-demand-requires
+    enum-known-phase-3 write-reset-requires same-length returns same-length-2 returns-2 same-length-3 returns-3)

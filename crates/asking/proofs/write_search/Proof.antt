@@ -25,11 +25,4 @@ returns c = search (search-written, needs)
 
 pub write-search-spec : {M : Type 1} → statement M
 write-search-spec =
-    tie.close
-    (tie.spec
-    asks-requires
-    next-seed-requires
-    cast-write-select
-    write-select-requires
-    same-length
-    returns)
+    tie.close (tie.spec asks-requires next-seed-requires cast-write-select write-select-requires same-length returns)

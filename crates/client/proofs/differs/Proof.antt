@@ -6,29 +6,23 @@ use borrow.Author.Needs.{needs}
 use Rattle.client.proofs.differs.Statement.{statement}
 use Rattle.client.proofs.differs.Tie as tie
 
--- src/lib.rt:184:26
 enum-told : tie.Need-enum-told
 enum-told c = search needs
 
--- src/lib.rt:185:27
 enum-told-2 : tie.Need-enum-told-2
 enum-told-2 c = search needs
 
--- src/lib.rt:186:23
 enum-known-why : tie.Need-enum-known-why
 enum-known-why c = search needs
 
--- src/lib.rt:180:1
 returns : tie.Need-returns
 unfolding differs
 returns c = search needs
 
--- src/lib.rt:180:1
 returns-2 : tie.Need-returns-2
 unfolding differs
 returns-2 c = search needs
 
--- src/lib.rt:180:1
 returns-3 : tie.Need-returns-3
 returns-3 c = search (differs-load, needs)
 

@@ -6,191 +6,149 @@ use borrow.Author.Needs.{needs}
 use Rattle.client.proofs.number.Statement.{statement}
 use Rattle.client.proofs.number.Tie as tie
 
--- src/lib.rt:144:24
 enum-told : tie.Need-enum-told
 enum-told c = search needs
 
--- src/lib.rt:145:31
 enum-told-2 : tie.Need-enum-told-2
 enum-told-2 c = search needs
 
--- src/lib.rt:146:44
 enum-told-3 : tie.Need-enum-told-3
 enum-told-3 c = search needs
 
--- src/lib.rt:147:39
 enum-told-4 : tie.Need-enum-told-4
 enum-told-4 c = search needs
 
--- src/lib.rt:148:29
 enum-told-5 : tie.Need-enum-told-5
 enum-told-5 c = search needs
 
--- src/lib.rt:149:40
 enum-told-6 : tie.Need-enum-told-6
 enum-told-6 c = search needs
 
--- src/lib.rt:150:30
 enum-told-7 : tie.Need-enum-told-7
 enum-told-7 c = search needs
 
--- src/lib.rt:151:36
 enum-told-8 : tie.Need-enum-told-8
 enum-told-8 c = search needs
 
--- src/lib.rt:152:31
 enum-told-9 : tie.Need-enum-told-9
 enum-told-9 c = search needs
 
--- src/lib.rt:153:34
 enum-told-10 : tie.Need-enum-told-10
 enum-told-10 c = search needs
 
--- src/lib.rt:154:36
 enum-told-11 : tie.Need-enum-told-11
 enum-told-11 c = search needs
 
--- src/lib.rt:155:34
 enum-told-12 : tie.Need-enum-told-12
 enum-told-12 c = search needs
 
--- src/lib.rt:156:31
 enum-told-13 : tie.Need-enum-told-13
 enum-told-13 c = search needs
 
--- src/lib.rt:157:28
 enum-told-14 : tie.Need-enum-told-14
 enum-told-14 c = search needs
 
--- src/lib.rt:158:31
 enum-told-15 : tie.Need-enum-told-15
 enum-told-15 c = search needs
 
--- src/lib.rt:159:36
 enum-told-16 : tie.Need-enum-told-16
 enum-told-16 c = search needs
 
--- src/lib.rt:160:34
 enum-told-17 : tie.Need-enum-told-17
 enum-told-17 c = search needs
 
--- src/lib.rt:161:33
 enum-told-18 : tie.Need-enum-told-18
 enum-told-18 c = search needs
 
--- src/lib.rt:162:33
 enum-told-19 : tie.Need-enum-told-19
 enum-told-19 c = search needs
 
--- src/lib.rt:163:32
 enum-told-20 : tie.Need-enum-told-20
 enum-told-20 c = search needs
 
--- src/lib.rt:164:31
 enum-told-21 : tie.Need-enum-told-21
 enum-told-21 c = search needs
 
--- src/lib.rt:140:1
 returns : tie.Need-returns
 unfolding numberOf
 returns c = search (number-is, needs)
 
--- src/lib.rt:140:1
 returns-2 : tie.Need-returns-2
 unfolding numberOf
 returns-2 c = search (number-is, needs)
 
--- src/lib.rt:140:1
 returns-3 : tie.Need-returns-3
 unfolding numberOf
 returns-3 c = search (number-is, needs)
 
--- src/lib.rt:140:1
 returns-4 : tie.Need-returns-4
 unfolding numberOf
 returns-4 c = search (number-is, needs)
 
--- src/lib.rt:140:1
 returns-5 : tie.Need-returns-5
 unfolding numberOf
 returns-5 c = search (number-is, needs)
 
--- src/lib.rt:140:1
 returns-6 : tie.Need-returns-6
 unfolding numberOf
 returns-6 c = search (number-is, needs)
 
--- src/lib.rt:140:1
 returns-7 : tie.Need-returns-7
 unfolding numberOf
 returns-7 c = search (number-is, needs)
 
--- src/lib.rt:140:1
 returns-8 : tie.Need-returns-8
 unfolding numberOf
 returns-8 c = search (number-is, needs)
 
--- src/lib.rt:140:1
 returns-9 : tie.Need-returns-9
 unfolding numberOf
 returns-9 c = search (number-is, needs)
 
--- src/lib.rt:140:1
 returns-10 : tie.Need-returns-10
 unfolding numberOf
 returns-10 c = search (number-is, needs)
 
--- src/lib.rt:140:1
 returns-11 : tie.Need-returns-11
 unfolding numberOf
 returns-11 c = search (number-is, needs)
 
--- src/lib.rt:140:1
 returns-12 : tie.Need-returns-12
 unfolding numberOf
 returns-12 c = search (number-is, needs)
 
--- src/lib.rt:140:1
 returns-13 : tie.Need-returns-13
 unfolding numberOf
 returns-13 c = search (number-is, needs)
 
--- src/lib.rt:140:1
 returns-14 : tie.Need-returns-14
 unfolding numberOf
 returns-14 c = search (number-is, needs)
 
--- src/lib.rt:140:1
 returns-15 : tie.Need-returns-15
 unfolding numberOf
 returns-15 c = search (number-is, needs)
 
--- src/lib.rt:140:1
 returns-16 : tie.Need-returns-16
 unfolding numberOf
 returns-16 c = search (number-is, needs)
 
--- src/lib.rt:140:1
 returns-17 : tie.Need-returns-17
 unfolding numberOf
 returns-17 c = search (number-is, needs)
 
--- src/lib.rt:140:1
 returns-18 : tie.Need-returns-18
 unfolding numberOf
 returns-18 c = search (number-is, needs)
 
--- src/lib.rt:140:1
 returns-19 : tie.Need-returns-19
 unfolding numberOf
 returns-19 c = search (number-is, needs)
 
--- src/lib.rt:140:1
 returns-20 : tie.Need-returns-20
 unfolding numberOf
 returns-20 c = search (number-is, needs)
 
--- src/lib.rt:140:1
 returns-21 : tie.Need-returns-21
 unfolding numberOf
 returns-21 c = search (number-is, needs)

@@ -6,51 +6,39 @@ use borrow.Author.Needs.{needs}
 use Rattle.client.proofs.other_for.Statement.{statement}
 use Rattle.client.proofs.other_for.Tie as tie
 
--- src/lib.rt:194:24
 enum-known-job : tie.Need-enum-known-job
 enum-known-job c = search needs
 
--- src/lib.rt:194:32
 differs-requires : tie.Need-differs-requires
 differs-requires c κs = search needs
 
--- src/lib.rt:195:22
 enum-known-job-2 : tie.Need-enum-known-job-2
 enum-known-job-2 c = search needs
 
--- src/lib.rt:195:36
 differs-requires-2 : tie.Need-differs-requires-2
 differs-requires-2 c κs = search needs
 
--- src/lib.rt:196:22
 enum-known-job-3 : tie.Need-enum-known-job-3
 enum-known-job-3 c = search needs
 
--- src/lib.rt:197:24
 enum-known-job-4 : tie.Need-enum-known-job-4
 enum-known-job-4 c = search needs
 
--- src/lib.rt:198:30
 enum-told : tie.Need-enum-told
 enum-told c = search needs
 
--- src/lib.rt:190:1
 returns : tie.Need-returns
 returns c = search (other-informing, needs)
 
--- src/lib.rt:190:1
 returns-2 : tie.Need-returns-2
 returns-2 c = search (other-erasing, needs)
 
--- src/lib.rt:190:1
 returns-3 : tie.Need-returns-3
 returns-3 c = search (other-writing, needs)
 
--- src/lib.rt:190:1
 returns-4 : tie.Need-returns-4
 returns-4 c = search (other-verifying, needs)
 
--- src/lib.rt:190:1
 returns-5 : tie.Need-returns-5
 unfolding otherFor
 returns-5 c = search needs

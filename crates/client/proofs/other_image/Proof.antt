@@ -6,32 +6,25 @@ use borrow.Author.Needs.{needs}
 use Rattle.client.proofs.other_image.Statement.{statement}
 use Rattle.client.proofs.other_image.Tie as tie
 
--- src/lib.rt:207:29
 enum-told : tie.Need-enum-told
 enum-told c = search needs
 
--- src/lib.rt:208:23
 enum-known-phase : tie.Need-enum-known-phase
 enum-known-phase c = search needs
 
--- src/lib.rt:208:31
 other-for-requires : tie.Need-other-for-requires
 other-for-requires c κs = search needs
 
--- src/lib.rt:209:28
 enum-told-2 : tie.Need-enum-told-2
 enum-told-2 c = search needs
 
--- src/lib.rt:203:1
 returns : tie.Need-returns
 unfolding otherImage
 returns c = search needs
 
--- src/lib.rt:203:1
 returns-2 : tie.Need-returns-2
 returns-2 c = search (other-demand, needs)
 
--- src/lib.rt:203:1
 returns-3 : tie.Need-returns-3
 unfolding otherImage
 returns-3 c = search needs

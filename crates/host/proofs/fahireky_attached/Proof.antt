@@ -12,11 +12,8 @@ lacks-requires c κs = search needs
 returns : tie.Need-returns
 returns c = search (views-short, needs)
 
-load-requires : tie.Need-load-requires
-load-requires c κs = search (state-room, needs)
-
-attached-requires : tie.Need-attached-requires
-attached-requires c κs = search needs
+load-front-requires : tie.Need-load-front-requires
+load-front-requires c κs = search (state-room, needs)
 
 shows-requires : tie.Need-shows-requires
 shows-requires c κs = search (answer-room, needs)
@@ -33,8 +30,7 @@ fahireky-attached-spec =
     (tie.spec
     lacks-requires
     returns
-    load-requires
-    attached-requires
+    load-front-requires
     shows-requires
     same-length
     returns-2)

@@ -1,6 +1,6 @@
 -- `host::fahireky_link_failed` meets its contract.
 -- Assumes nothing.
-use Rattle.host.proofs.Ways.{tells-short, tells-is}
+use Rattle.host.proofs.Ways.{tells-short, fails-is}
 use Rattle.lent.proofs.Ways.{state-room, answer-room}
 use borrow.Author.Needs.{needs}
 use Rattle.host.proofs.fahireky_link_failed.Statement.{statement}
@@ -12,14 +12,14 @@ lacks-requires c κs = search needs
 returns : tie.Need-returns
 returns c = search (tells-short, needs)
 
-load-requires : tie.Need-load-requires
-load-requires c κs = search (state-room, needs)
+load-front-requires : tie.Need-load-front-requires
+load-front-requires c κs = search (state-room, needs)
 
-link-failed-requires : tie.Need-link-failed-requires
-link-failed-requires c κs = search needs
+fails-requires : tie.Need-fails-requires
+fails-requires c κs = search needs
 
 told-requires : tie.Need-told-requires
-told-requires c κs = (search (state-room, needs), search (answer-room, needs))
+told-requires c κs = (search (state-room, needs), (search needs, search (answer-room, needs)))
 
 same-length : tie.Need-same-length
 same-length c = search needs
@@ -28,7 +28,7 @@ same-length-2 : tie.Need-same-length-2
 same-length-2 c = search needs
 
 returns-2 : tie.Need-returns-2
-returns-2 c = search (tells-is, needs)
+returns-2 c = search (fails-is, needs)
 
 pub fahireky-link-failed-spec : {M : Type 1} → statement M
 fahireky-link-failed-spec =
@@ -36,8 +36,8 @@ fahireky-link-failed-spec =
     (tie.spec
     lacks-requires
     returns
-    load-requires
-    link-failed-requires
+    load-front-requires
+    fails-requires
     told-requires
     same-length
     same-length-2

@@ -1,6 +1,6 @@
 -- `host::fahireky_record` meets its contract.
 -- Assumes nothing.
-use Rattle.host.proofs.Ways.{tells-short, tells-is}
+use Rattle.host.proofs.Ways.{tells-short, records-is}
 use Rattle.lent.proofs.Ways.{state-room, answer-room}
 use borrow.Author.Needs.{needs}
 use Rattle.host.proofs.fahireky_record.Statement.{statement}
@@ -12,14 +12,20 @@ lacks-requires c κs = search needs
 returns : tie.Need-returns
 returns c = search (tells-short, needs)
 
-load-requires : tie.Need-load-requires
-load-requires c κs = search (state-room, needs)
+load-front-requires : tie.Need-load-front-requires
+load-front-requires c κs = search (state-room, needs)
 
-record-requires : tie.Need-record-requires
-record-requires c κs = search needs
+load-place-requires : tie.Need-load-place-requires
+load-place-requires c κs = search (state-room, needs)
+
+count-requires : tie.Need-count-requires
+count-requires c κs = search (state-room, needs)
+
+decide-requires : tie.Need-decide-requires
+decide-requires c κs = search needs
 
 told-requires : tie.Need-told-requires
-told-requires c κs = (search (state-room, needs), search (answer-room, needs))
+told-requires c κs = (search (state-room, needs), (search needs, search (answer-room, needs)))
 
 same-length : tie.Need-same-length
 same-length c = search needs
@@ -28,7 +34,7 @@ same-length-2 : tie.Need-same-length-2
 same-length-2 c = search needs
 
 returns-2 : tie.Need-returns-2
-returns-2 c = search (tells-is, needs)
+returns-2 c = search (records-is, needs)
 
 pub fahireky-record-spec : {M : Type 1} → statement M
 fahireky-record-spec =
@@ -36,8 +42,10 @@ fahireky-record-spec =
     (tie.spec
     lacks-requires
     returns
-    load-requires
-    record-requires
+    load-front-requires
+    load-place-requires
+    count-requires
+    decide-requires
     told-requires
     same-length
     same-length-2

@@ -12,14 +12,17 @@ lacks-requires c κs = search needs
 returns : tie.Need-returns
 returns c = search (requests-short, needs)
 
-load-requires : tie.Need-load-requires
-load-requires c κs = search (state-room, needs)
+load-front-requires : tie.Need-load-front-requires
+load-front-requires c κs = search (state-room, needs)
 
-request-requires : tie.Need-request-requires
-request-requires c κs = search needs
+load-place-requires : tie.Need-load-place-requires
+load-place-requires c κs = search (state-room, needs)
+
+ask-requires : tie.Need-ask-requires
+ask-requires c κs = search needs
 
 started-requires : tie.Need-started-requires
-started-requires c κs = (search (state-room, needs), search (answer-room, needs))
+started-requires c κs = (search (state-room, needs), (search needs, search (answer-room, needs)))
 
 same-length : tie.Need-same-length
 same-length c = search needs
@@ -39,8 +42,9 @@ fahireky-request-spec =
     (tie.spec
     lacks-requires
     returns
-    load-requires
-    request-requires
+    load-front-requires
+    load-place-requires
+    ask-requires
     started-requires
     same-length
     same-length-2

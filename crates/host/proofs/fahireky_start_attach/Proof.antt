@@ -12,14 +12,14 @@ lacks-requires c κs = search needs
 returns : tie.Need-returns
 returns c = search (starts-short, needs)
 
-load-requires : tie.Need-load-requires
-load-requires c κs = search (state-room, needs)
+load-front-requires : tie.Need-load-front-requires
+load-front-requires c κs = search (state-room, needs)
 
-start-attach-requires : tie.Need-start-attach-requires
-start-attach-requires c κs = search needs
+open-attach-requires : tie.Need-open-attach-requires
+open-attach-requires c κs = search needs
 
 started-requires : tie.Need-started-requires
-started-requires c κs = (search (state-room, needs), search (answer-room, needs))
+started-requires c κs = (search (state-room, needs), (search needs, search (answer-room, needs)))
 
 same-length : tie.Need-same-length
 same-length c = search needs
@@ -36,8 +36,8 @@ fahireky-start-attach-spec =
     (tie.spec
     lacks-requires
     returns
-    load-requires
-    start-attach-requires
+    load-front-requires
+    open-attach-requires
     started-requires
     same-length
     same-length-2

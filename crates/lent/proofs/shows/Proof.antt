@@ -5,14 +5,17 @@ use borrow.Author.Needs.{needs}
 use Rattle.lent.proofs.shows.Statement.{statement}
 use Rattle.lent.proofs.shows.Tie as tie
 
-none-requires : tie.Need-none-requires
-none-requires c κs = search needs
+note-of-requires : tie.Need-note-of-requires
+note-of-requires c κs = search needs
 
-write-answer-requires : tie.Need-write-answer-requires
-write-answer-requires c κs = search needs
+write-front-requires : tie.Need-write-front-requires
+write-front-requires c κs = search needs
 
-code-of-requires : tie.Need-code-of-requires
-code-of-requires c κs = search needs
+no-list-requires : tie.Need-no-list-requires
+no-list-requires c κs = search needs
+
+coded-requires : tie.Need-coded-requires
+coded-requires c κs = search needs
 
 same-length : tie.Need-same-length
 same-length c = search needs
@@ -22,4 +25,11 @@ returns c = search (shows-is, needs)
 
 pub shows-spec : {M : Type 1} → statement M
 shows-spec =
-    tie.close (tie.spec none-requires write-answer-requires code-of-requires same-length returns)
+    tie.close
+    (tie.spec
+    note-of-requires
+    write-front-requires
+    no-list-requires
+    coded-requires
+    same-length
+    returns)

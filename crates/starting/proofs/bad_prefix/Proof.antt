@@ -21,5 +21,4 @@ returns-2 : tie.Need-returns-2
 returns-2 c = search (bad-bad, needs)
 
 pub bad-prefix-spec : {M : Type 1} → statement M
-bad-prefix-spec =
-    tie.close (tie.spec running-requires refuse-requires returns refuse-requires-2 returns-2)
+bad-prefix-spec = tie.close (tie.spec running-requires refuse-requires returns refuse-requires-2 returns-2)

@@ -8,8 +8,8 @@ use Rattle.starting.proofs.demands.Tie as tie
 none-requires : tie.Need-none-requires
 none-requires c κs = search needs
 
-no-walk-requires : tie.Need-no-walk-requires
-no-walk-requires c κs = search needs
+none-requires-2 : tie.Need-none-requires-2
+none-requires-2 c κs = search needs
 
 starts-requires : tie.Need-starts-requires
 starts-requires c κs = search needs
@@ -18,4 +18,4 @@ returns : tie.Need-returns
 returns c = search (demands-starts, needs)
 
 pub demands-spec : {M : Type 1} → statement M
-demands-spec = tie.close (tie.spec none-requires no-walk-requires starts-requires returns)
+demands-spec = tie.close (tie.spec none-requires none-requires-2 starts-requires returns)

@@ -1,29 +1,22 @@
 -- `starting::start_attach_to` meets its contract.
 -- Assumes nothing.
-use Rattle.starting.proofs.Ways.{attach-over, attach-starts}
+use Rattle.starting.specs.Starting.{startAttachTo}
+use Rattle.starting.proofs.Ways.{by-value₁}
 use borrow.Author.Needs.{needs}
 use Rattle.starting.proofs.start_attach_to.Statement.{statement}
 use Rattle.starting.proofs.start_attach_to.Tie as tie
 
-bad-prefix-requires : tie.Need-bad-prefix-requires
-bad-prefix-requires c κs = search needs
+front-requires : tie.Need-front-requires
+front-requires c κs = search needs
+
+open-attach-to-requires : tie.Need-open-attach-to-requires
+open-attach-to-requires c κs = search needs
+
+started-requires : tie.Need-started-requires
+started-requires c κs = search needs
 
 returns : tie.Need-returns
-returns c = search (attach-over, needs)
-
-of-requires : tie.Need-of-requires
-of-requires c κs = search needs
-
-no-walk-requires : tie.Need-no-walk-requires
-no-walk-requires c κs = search needs
-
-starts-requires : tie.Need-starts-requires
-starts-requires c κs = search needs
-
-returns-2 : tie.Need-returns-2
-returns-2 c = search (attach-starts, needs)
+returns c = search (by-value₁ startAttachTo, needs)
 
 pub start-attach-to-spec : {M : Type 1} → statement M
-start-attach-to-spec =
-    tie.close
-    (tie.spec bad-prefix-requires returns of-requires no-walk-requires starts-requires returns-2)
+start-attach-to-spec = tie.close (tie.spec front-requires open-attach-to-requires started-requires returns)

@@ -1,21 +1,22 @@
 -- `starting::start_deselect` meets its contract.
 -- Assumes nothing.
-use Rattle.starting.proofs.Ways.{deselect-starts}
+use Rattle.starting.specs.Starting.{startDeselect}
+use Rattle.starting.proofs.Ways.{by-value}
 use borrow.Author.Needs.{needs}
 use Rattle.starting.proofs.start_deselect.Statement.{statement}
 use Rattle.starting.proofs.start_deselect.Tie as tie
 
-none-requires : tie.Need-none-requires
-none-requires c κs = search needs
+front-requires : tie.Need-front-requires
+front-requires c κs = search needs
 
-no-walk-requires : tie.Need-no-walk-requires
-no-walk-requires c κs = search needs
+open-deselect-requires : tie.Need-open-deselect-requires
+open-deselect-requires c κs = search needs
 
-starts-requires : tie.Need-starts-requires
-starts-requires c κs = search needs
+started-requires : tie.Need-started-requires
+started-requires c κs = search needs
 
 returns : tie.Need-returns
-returns c = search (deselect-starts, needs)
+returns c = search (by-value startDeselect, needs)
 
 pub start-deselect-spec : {M : Type 1} → statement M
-start-deselect-spec = tie.close (tie.spec none-requires no-walk-requires starts-requires returns)
+start-deselect-spec = tie.close (tie.spec front-requires open-deselect-requires started-requires returns)

@@ -1,39 +1,22 @@
 -- `starting::start_discover` meets its contract.
 -- Assumes nothing.
-use Rattle.starting.proofs.Ways.{discover-over, discover-starts}
+use Rattle.starting.specs.Starting.{startDiscover}
+use Rattle.starting.proofs.Ways.{by-value₁}
 use borrow.Author.Needs.{needs}
 use Rattle.starting.proofs.start_discover.Statement.{statement}
 use Rattle.starting.proofs.start_discover.Tie as tie
 
-bad-prefix-requires : tie.Need-bad-prefix-requires
-bad-prefix-requires c κs = search needs
+front-requires : tie.Need-front-requires
+front-requires c κs = search needs
+
+open-discover-requires : tie.Need-open-discover-requires
+open-discover-requires c κs = search needs
+
+started-requires : tie.Need-started-requires
+started-requires c κs = search needs
 
 returns : tie.Need-returns
-returns c = search (discover-over, needs)
-
-of-requires : tie.Need-of-requires
-of-requires c κs = search needs
-
-begin-requires : tie.Need-begin-requires
-begin-requires c κs = search needs
-
-none-requires : tie.Need-none-requires
-none-requires c κs = search needs
-
-starts-requires : tie.Need-starts-requires
-starts-requires c κs = search needs
-
-returns-2 : tie.Need-returns-2
-returns-2 c = search (discover-starts, needs)
+returns c = search (by-value₁ startDiscover, needs)
 
 pub start-discover-spec : {M : Type 1} → statement M
-start-discover-spec =
-    tie.close
-    (tie.spec
-    bad-prefix-requires
-    returns
-    of-requires
-    begin-requires
-    none-requires
-    starts-requires
-    returns-2)
+start-discover-spec = tie.close (tie.spec front-requires open-discover-requires started-requires returns)

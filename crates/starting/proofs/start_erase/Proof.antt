@@ -1,16 +1,22 @@
 -- `starting::start_erase` meets its contract.
 -- Assumes nothing.
 use Rattle.starting.specs.Starting.{startErase}
+use Rattle.starting.proofs.Ways.{by-value}
 use borrow.Author.Needs.{needs}
 use Rattle.starting.proofs.start_erase.Statement.{statement}
 use Rattle.starting.proofs.start_erase.Tie as tie
 
-demands-requires : tie.Need-demands-requires
-demands-requires c κs = search needs
+front-requires : tie.Need-front-requires
+front-requires c κs = search needs
+
+open-erase-requires : tie.Need-open-erase-requires
+open-erase-requires c κs = search needs
+
+started-requires : tie.Need-started-requires
+started-requires c κs = search needs
 
 returns : tie.Need-returns
-unfolding startErase
-returns c = search needs
+returns c = search (by-value startErase, needs)
 
 pub start-erase-spec : {M : Type 1} → statement M
-start-erase-spec = tie.close (tie.spec demands-requires returns)
+start-erase-spec = tie.close (tie.spec front-requires open-erase-requires started-requires returns)

@@ -1,16 +1,22 @@
 -- `starting::start_flash` meets its contract.
 -- Assumes nothing.
 use Rattle.starting.specs.Starting.{startFlash}
+use Rattle.starting.proofs.Ways.{by-value₁}
 use borrow.Author.Needs.{needs}
 use Rattle.starting.proofs.start_flash.Statement.{statement}
 use Rattle.starting.proofs.start_flash.Tie as tie
 
-demands-requires : tie.Need-demands-requires
-demands-requires c κs = search needs
+front-requires : tie.Need-front-requires
+front-requires c κs = search needs
+
+open-flash-requires : tie.Need-open-flash-requires
+open-flash-requires c κs = search needs
+
+started-requires : tie.Need-started-requires
+started-requires c κs = search needs
 
 returns : tie.Need-returns
-unfolding startFlash
-returns c = search needs
+returns c = search (by-value₁ startFlash, needs)
 
 pub start-flash-spec : {M : Type 1} → statement M
-start-flash-spec = tie.close (tie.spec demands-requires returns)
+start-flash-spec = tie.close (tie.spec front-requires open-flash-requires started-requires returns)

@@ -1,16 +1,22 @@
 -- `starting::start_reset` meets its contract.
 -- Assumes nothing.
 use Rattle.starting.specs.Starting.{startReset}
+use Rattle.starting.proofs.Ways.{by-value₂}
 use borrow.Author.Needs.{needs}
 use Rattle.starting.proofs.start_reset.Statement.{statement}
 use Rattle.starting.proofs.start_reset.Tie as tie
 
-resets-requires : tie.Need-resets-requires
-resets-requires c κs = search needs
+front-requires : tie.Need-front-requires
+front-requires c κs = search needs
+
+open-reset-requires : tie.Need-open-reset-requires
+open-reset-requires c κs = search needs
+
+started-requires : tie.Need-started-requires
+started-requires c κs = search needs
 
 returns : tie.Need-returns
-unfolding startReset
-returns c = search needs
+returns c = search (by-value₂ startReset, needs)
 
 pub start-reset-spec : {M : Type 1} → statement M
-start-reset-spec = tie.close (tie.spec resets-requires returns)
+start-reset-spec = tie.close (tie.spec front-requires open-reset-requires started-requires returns)

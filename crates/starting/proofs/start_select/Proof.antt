@@ -1,51 +1,22 @@
 -- `starting::start_select` meets its contract.
 -- Assumes nothing.
-use Rattle.starting.proofs.Ways.{select-over, select-few, select-starts}
+use Rattle.starting.specs.Starting.{startSelect}
+use Rattle.starting.proofs.Ways.{by-value₂}
 use borrow.Author.Needs.{needs}
 use Rattle.starting.proofs.start_select.Statement.{statement}
 use Rattle.starting.proofs.start_select.Tie as tie
 
-bad-prefix-requires : tie.Need-bad-prefix-requires
-bad-prefix-requires c κs = search needs
+front-requires : tie.Need-front-requires
+front-requires c κs = search needs
+
+open-select-requires : tie.Need-open-select-requires
+open-select-requires c κs = search needs
+
+started-requires : tie.Need-started-requires
+started-requires c κs = search needs
 
 returns : tie.Need-returns
-returns c = search (select-over, needs)
-
-mul-if2 : tie.Need-mul-if2
-mul-if2 c = search needs
-
-bad-prefix-requires-2 : tie.Need-bad-prefix-requires-2
-bad-prefix-requires-2 c κs = search needs
-
-returns-2 : tie.Need-returns-2
-returns-2 c = search (select-few, needs)
-
-of-requires : tie.Need-of-requires
-of-requires c κs = search needs
-
-cast-starts : tie.Need-cast-starts
-cast-starts c = search needs
-
-no-walk-requires : tie.Need-no-walk-requires
-no-walk-requires c κs = search needs
-
-starts-requires : tie.Need-starts-requires
-starts-requires c κs = search needs
-
-returns-3 : tie.Need-returns-3
-returns-3 c = search (select-starts, needs)
+returns c = search (by-value₂ startSelect, needs)
 
 pub start-select-spec : {M : Type 1} → statement M
-start-select-spec =
-    tie.close
-    (tie.spec
-    bad-prefix-requires
-    returns
-    mul-if2
-    bad-prefix-requires-2
-    returns-2
-    of-requires
-    cast-starts
-    no-walk-requires
-    starts-requires
-    returns-3)
+start-select-spec = tie.close (tie.spec front-requires open-select-requires started-requires returns)

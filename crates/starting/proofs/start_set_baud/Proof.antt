@@ -1,16 +1,22 @@
 -- `starting::start_set_baud` meets its contract.
 -- Assumes nothing.
 use Rattle.starting.specs.Starting.{startSetBaud}
+use Rattle.starting.proofs.Ways.{by-value₃}
 use borrow.Author.Needs.{needs}
 use Rattle.starting.proofs.start_set_baud.Statement.{statement}
 use Rattle.starting.proofs.start_set_baud.Tie as tie
 
-resets-requires : tie.Need-resets-requires
-resets-requires c κs = search needs
+front-requires : tie.Need-front-requires
+front-requires c κs = search needs
+
+open-set-baud-requires : tie.Need-open-set-baud-requires
+open-set-baud-requires c κs = search needs
+
+started-requires : tie.Need-started-requires
+started-requires c κs = search needs
 
 returns : tie.Need-returns
-unfolding startSetBaud
-returns c = search needs
+returns c = search (by-value₃ startSetBaud, needs)
 
 pub start-set-baud-spec : {M : Type 1} → statement M
-start-set-baud-spec = tie.close (tie.spec resets-requires returns)
+start-set-baud-spec = tie.close (tie.spec front-requires open-set-baud-requires started-requires returns)

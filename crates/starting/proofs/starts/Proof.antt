@@ -21,5 +21,4 @@ returns-2 : tie.Need-returns-2
 returns-2 c = search (starts-now, needs)
 
 pub starts-spec : {M : Type 1} → statement M
-starts-spec =
-    tie.close (tie.spec running-requires refuse-requires returns begun-requires returns-2)
+starts-spec = tie.close (tie.spec running-requires refuse-requires returns begun-requires returns-2)

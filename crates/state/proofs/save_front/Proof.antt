@@ -5,39 +5,21 @@ use borrow.Author.Needs.{needs}
 use Rattle.state.proofs.save_front.Statement.{statement}
 use Rattle.state.proofs.save_front.Tie as tie
 
-flat-of-requires : tie.Need-flat-of-requires
-flat-of-requires c κs = search needs
-
-put8-requires : tie.Need-put8-requires
-put8-requires c κs = search needs
-
-flag-requires : tie.Need-flag-requires
-flag-requires c κs = search needs
-
-put8-requires-2 : tie.Need-put8-requires-2
-put8-requires-2 c κs = search needs
+save-head-requires : tie.Need-save-head-requires
+save-head-requires c κs = search needs
 
 save-id-requires : tie.Need-save-id-requires
 save-id-requires c κs = search needs
 
-save-flat-requires : tie.Need-save-flat-requires
-save-flat-requires c κs = search needs
+put8-requires : tie.Need-put8-requires
+put8-requires c κs = search needs
 
 same-length : tie.Need-same-length
 same-length c = search needs
 
 returns : tie.Need-returns
-returns c = search (put-front, front-length, needs)
+returns c = (search (put-front, needs), search (front-length, needs))
 
 pub save-front-spec : {M : Type 1} → statement M
 save-front-spec =
-    tie.close
-    (tie.spec
-    flat-of-requires
-    put8-requires
-    flag-requires
-    put8-requires-2
-    save-id-requires
-    save-flat-requires
-    same-length
-    returns)
+    tie.close (tie.spec save-head-requires save-id-requires put8-requires same-length returns)

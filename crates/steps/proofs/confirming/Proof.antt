@@ -14,8 +14,8 @@ mul-if1 c = search needs
 holding-requires : tie.Need-holding-requires
 holding-requires c κs = search needs
 
-going-requires : tie.Need-going-requires
-going-requires c κs = search needs
+on-requires : tie.Need-on-requires
+on-requires c κs = search needs
 
 returns : tie.Need-returns
 returns c = search (confirming-on, needs)
@@ -29,11 +29,4 @@ returns-2 c = search (confirming-all, needs)
 pub confirming-spec : {M : Type 1} → statement M
 confirming-spec =
     tie.close
-    (tie.spec
-    size-requires
-    mul-if1
-    holding-requires
-    going-requires
-    returns
-    kept-requires
-    returns-2)
+    (tie.spec size-requires mul-if1 holding-requires on-requires returns kept-requires returns-2)

@@ -14,12 +14,11 @@ returns c = search (descend-no, needs)
 lower-requires : tie.Need-lower-requires
 lower-requires c κs = search needs
 
-going-requires : tie.Need-going-requires
-going-requires c κs = search needs
+on-requires : tie.Need-on-requires
+on-requires c κs = search needs
 
 returns-2 : tie.Need-returns-2
 returns-2 c = search (descend-on, needs)
 
 pub descend-spec : {M : Type 1} → statement M
-descend-spec =
-    tie.close (tie.spec stopped-requires returns lower-requires going-requires returns-2)
+descend-spec = tie.close (tie.spec stopped-requires returns lower-requires on-requires returns-2)

@@ -1,6 +1,7 @@
 -- `steps::hears` meets its contract.
 -- Assumes nothing.
-use Rattle.steps.proofs.Ways.{hears-nothing, hears-one, hears-other, hears-long, hears-unaddressed, hears-garble}
+use Rattle.steps.proofs.Ways.{hears-one, hears-at, hears-other}
+use Rattle.steps.specs.Steps.{hears}
 use borrow.Author.Needs.{needs}
 use Rattle.steps.proofs.hears.Statement.{statement}
 use Rattle.steps.proofs.hears.Tie as tie
@@ -45,19 +46,23 @@ descend-requires-2 : tie.Need-descend-requires-2
 descend-requires-2 c κs = search needs
 
 returns-2 : tie.Need-returns-2
-returns-2 c = search (hears-nothing, needs)
+unfolding hears
+returns-2 c = search (hears-at, needs)
 
 returns-3 : tie.Need-returns-3
 returns-3 c = search (hears-other, needs)
 
 returns-4 : tie.Need-returns-4
-returns-4 c = search (hears-long, needs)
+unfolding hears
+returns-4 c = search (hears-at, needs)
 
 returns-5 : tie.Need-returns-5
-returns-5 c = search (hears-unaddressed, needs)
+unfolding hears
+returns-5 c = search (hears-at, needs)
 
 returns-6 : tie.Need-returns-6
-returns-6 c = search (hears-garble, needs)
+unfolding hears
+returns-6 c = search (hears-at, needs)
 
 pub hears-spec : {M : Type 1} → statement M
 hears-spec =

@@ -1,7 +1,6 @@
 -- `steps::leave` meets its contract.
 -- Assumes nothing.
-use Rattle.steps.proofs.Ways.{leave-on, leave-up}
-use Rattle.walk.proofs.Ways.{deep}
+use Rattle.steps.proofs.Ways.{deep-at, leave-on, leave-up}
 use borrow.Author.Needs.{needs}
 use Rattle.steps.proofs.leave.Statement.{statement}
 use Rattle.steps.proofs.leave.Tie as tie
@@ -13,28 +12,13 @@ mark-requires : tie.Need-mark-requires
 mark-requires c κs = search needs
 
 turn-requires : tie.Need-turn-requires
-turn-requires c κs = search (deep, needs)
-
-going-requires : tie.Need-going-requires
-going-requires c κs = search needs
+turn-requires c κs = search (deep-at, needs)
 
 returns : tie.Need-returns
 returns c = search (leave-on, needs)
-
-going-requires-2 : tie.Need-going-requires-2
-going-requires-2 c κs = search needs
 
 returns-2 : tie.Need-returns-2
 returns-2 c = search (leave-up, needs)
 
 pub leave-spec : {M : Type 1} → statement M
-leave-spec =
-    tie.close
-    (tie.spec
-    climb-requires
-    mark-requires
-    turn-requires
-    going-requires
-    returns
-    going-requires-2
-    returns-2)
+leave-spec = tie.close (tie.spec climb-requires mark-requires turn-requires returns returns-2)

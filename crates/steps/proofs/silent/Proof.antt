@@ -1,7 +1,6 @@
 -- `steps::silent` meets its contract.
 -- Assumes nothing.
-use Rattle.steps.proofs.Ways.{silent-zero, silent-else}
-use Rattle.walk.proofs.Ways.{deep}
+use Rattle.steps.proofs.Ways.{deep-at, silent-zero, silent-else}
 use borrow.Author.Needs.{needs}
 use Rattle.steps.proofs.silent.Statement.{statement}
 use Rattle.steps.proofs.silent.Tie as tie
@@ -10,7 +9,7 @@ mark-requires : tie.Need-mark-requires
 mark-requires c κs = search needs
 
 turn-requires : tie.Need-turn-requires
-turn-requires c κs = search (deep, needs)
+turn-requires c κs = search (deep-at, needs)
 
 descend-requires : tie.Need-descend-requires
 descend-requires c κs = search needs
@@ -21,10 +20,20 @@ returns c = search (silent-zero, needs)
 leave-requires : tie.Need-leave-requires
 leave-requires c κs = search needs
 
+on-requires : tie.Need-on-requires
+on-requires c κs = search needs
+
 returns-2 : tie.Need-returns-2
 returns-2 c = search (silent-else, needs)
 
 pub silent-spec : {M : Type 1} → statement M
 silent-spec =
     tie.close
-    (tie.spec mark-requires turn-requires descend-requires returns leave-requires returns-2)
+    (tie.spec
+    mark-requires
+    turn-requires
+    descend-requires
+    returns
+    leave-requires
+    on-requires
+    returns-2)

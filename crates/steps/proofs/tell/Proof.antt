@@ -1,6 +1,7 @@
 -- `steps::tell` meets its contract.
 -- Assumes nothing.
-use Rattle.steps.proofs.Ways.{tell-asked, tell-mine, tell-other, tell-leaving}
+use Rattle.steps.proofs.Ways.{tell-at, tell-mine, tell-leaving}
+use Rattle.steps.specs.Steps.{tell}
 use borrow.Author.Needs.{needs}
 use Rattle.steps.proofs.tell.Statement.{statement}
 use Rattle.steps.proofs.tell.Tie as tie
@@ -17,8 +18,8 @@ enum-told-2 c = search needs
 mine-requires : tie.Need-mine-requires
 mine-requires c κs = search needs
 
-enum-known-p : tie.Need-enum-known-p
-enum-known-p c = search needs
+enum-known-phase : tie.Need-enum-known-phase
+enum-known-phase c = search needs
 
 other-requires : tie.Need-other-requires
 other-requires c κs = search needs
@@ -26,17 +27,19 @@ other-requires c κs = search needs
 enum-told-3 : tie.Need-enum-told-3
 enum-told-3 c = search needs
 
-done-requires : tie.Need-done-requires
-done-requires c κs = search needs
+ended-requires : tie.Need-ended-requires
+ended-requires c κs = search needs
 
 returns : tie.Need-returns
-returns c = search (tell-asked, needs)
+unfolding tell
+returns c = search (tell-at, needs)
 
 returns-2 : tie.Need-returns-2
 returns-2 c = search (tell-mine, needs)
 
 returns-3 : tie.Need-returns-3
-returns-3 c = search (tell-other, needs)
+unfolding tell
+returns-3 c = search (tell-at, needs)
 
 returns-4 : tie.Need-returns-4
 returns-4 c = search (tell-leaving, needs)
@@ -49,10 +52,10 @@ tell-spec =
     hears-requires
     enum-told-2
     mine-requires
-    enum-known-p
+    enum-known-phase
     other-requires
     enum-told-3
-    done-requires
+    ended-requires
     returns
     returns-2
     returns-3

@@ -1,6 +1,7 @@
 -- `telling::answered` meets its contract.
 -- Assumes nothing.
-use Rattle.telling.proofs.Ways.{answered-select, answered-demand, answered-leave}
+use Rattle.telling.proofs.Ways.{answered-select, answered-at}
+use Rattle.telling.specs.Telling.{answeredTo}
 use borrow.Author.Needs.{needs}
 use Rattle.telling.proofs.answered.Statement.{statement}
 use Rattle.telling.proofs.answered.Tie as tie
@@ -30,10 +31,12 @@ returns : tie.Need-returns
 returns c = search (answered-select, needs)
 
 returns-2 : tie.Need-returns-2
-returns-2 c = search (answered-demand, needs)
+unfolding answeredTo
+returns-2 c = search (answered-at, needs)
 
 returns-3 : tie.Need-returns-3
-returns-3 c = search (answered-leave, needs)
+unfolding answeredTo
+returns-3 c = search (answered-at, needs)
 
 pub answered-spec : {M : Type 1} → statement M
 answered-spec =

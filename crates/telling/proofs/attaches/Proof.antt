@@ -8,9 +8,6 @@ use Rattle.telling.proofs.attaches.Tie as tie
 holding-requires : tie.Need-holding-requires
 holding-requires c κs = search needs
 
-none-requires : tie.Need-none-requires
-none-requires c κs = search needs
-
 over-requires : tie.Need-over-requires
 over-requires c κs = search needs
 
@@ -18,4 +15,4 @@ returns : tie.Need-returns
 returns c = search (attaches-is, needs)
 
 pub attaches-spec : {M : Type 1} → statement M
-attaches-spec = tie.close (tie.spec holding-requires none-requires over-requires returns)
+attaches-spec = tie.close (tie.spec holding-requires over-requires returns)

@@ -8,9 +8,6 @@ use Rattle.telling.proofs.backed.Tie as tie
 cleared-requires : tie.Need-cleared-requires
 cleared-requires c κs = search needs
 
-none-requires : tie.Need-none-requires
-none-requires c κs = search needs
-
 over-requires : tie.Need-over-requires
 over-requires c κs = search needs
 
@@ -24,6 +21,4 @@ returns-2 : tie.Need-returns-2
 returns-2 c = search (backed-none, needs)
 
 pub backed-spec : {M : Type 1} → statement M
-backed-spec =
-    tie.close
-    (tie.spec cleared-requires none-requires over-requires returns stops-requires returns-2)
+backed-spec = tie.close (tie.spec cleared-requires over-requires returns stops-requires returns-2)

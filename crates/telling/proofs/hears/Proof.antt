@@ -1,6 +1,7 @@
 -- `telling::hears` meets its contract.
 -- Assumes nothing.
-use Rattle.telling.proofs.Ways.{hears-probing, hears-parting, hears-seeking, hears-backing, hears-walking}
+use Rattle.telling.proofs.Ways.{hears-at, hears-parting, hears-walking}
+use Rattle.telling.specs.Telling.{hears}
 use borrow.Author.Needs.{needs}
 use Rattle.telling.proofs.hears.Statement.{statement}
 use Rattle.telling.proofs.hears.Tie as tie
@@ -42,19 +43,22 @@ walked-requires : tie.Need-walked-requires
 walked-requires c κs = search needs
 
 returns : tie.Need-returns
-returns c = search (hears-probing, needs)
+unfolding hears
+returns c = search (hears-at, needs)
 
 returns-2 : tie.Need-returns-2
 returns-2 c = search (hears-parting, needs)
 
 returns-3 : tie.Need-returns-3
-returns-3 c = search (hears-seeking, needs)
+unfolding hears
+returns-3 c = search (hears-at, needs)
 
 returns-4 : tie.Need-returns-4
-returns-4 c = search (hears-backing, needs)
+unfolding hears
+returns-4 c = search (hears-at, needs)
 
 returns-5 : tie.Need-returns-5
-returns-5 c = search (hears-walking, needs)
+returns-5 c = search (hears-walking (c .before .step .result), needs)
 
 pub hears-spec : {M : Type 1} → statement M
 hears-spec =

@@ -1,6 +1,7 @@
 -- `telling::met` meets its contract.
 -- Assumes nothing.
-use Rattle.telling.proofs.Ways.{met-nothing-given, met-nothing, met-one, met-long, met-unaddressed-given, met-unaddressed, met-garble}
+use Rattle.telling.proofs.Ways.{met-by, met-at, met-unaddressed}
+use Rattle.telling.specs.Telling.{met}
 use borrow.Author.Needs.{needs}
 use Rattle.telling.proofs.met.Statement.{statement}
 use Rattle.telling.proofs.met.Tie as tie
@@ -8,14 +9,12 @@ use Rattle.telling.proofs.met.Tie as tie
 enum-told : tie.Need-enum-told
 enum-told c = search needs
 
-none-requires : tie.Need-none-requires
-none-requires c κs = search needs
-
 over-requires : tie.Need-over-requires
 over-requires c κs = search needs
 
 returns : tie.Need-returns
-returns c = search (met-nothing-given, needs)
+unfolding met
+returns c = search (met-by, needs)
 
 stops-requires : tie.Need-stops-requires
 stops-requires c κs = search needs
@@ -39,10 +38,11 @@ stops-requires-3 : tie.Need-stops-requires-3
 stops-requires-3 c κs = search needs
 
 returns-2 : tie.Need-returns-2
-returns-2 c = search (met-unaddressed-given, needs)
+unfolding met
+returns-2 c = search (met-by, needs)
 
-none-requires-2 : tie.Need-none-requires-2
-none-requires-2 c κs = search needs
+none-requires : tie.Need-none-requires
+none-requires c κs = search needs
 
 attaches-requires-2 : tie.Need-attaches-requires-2
 attaches-requires-2 c κs = search needs
@@ -50,30 +50,33 @@ attaches-requires-2 c κs = search needs
 enum-told-5 : tie.Need-enum-told-5
 enum-told-5 c = search needs
 
-onward-requires : tie.Need-onward-requires
-onward-requires c κs = search needs
+stays-requires : tie.Need-stays-requires
+stays-requires c κs = search needs
 
 returns-3 : tie.Need-returns-3
-returns-3 c = search (met-nothing, needs)
+unfolding met
+returns-3 c = search (met-by, needs)
 
 returns-4 : tie.Need-returns-4
-returns-4 c = search (met-one, needs)
+unfolding met
+returns-4 c = search (met-at, needs)
 
 returns-5 : tie.Need-returns-5
-returns-5 c = search (met-long, needs)
+unfolding met
+returns-5 c = search (met-at, needs)
 
 returns-6 : tie.Need-returns-6
 returns-6 c = search (met-unaddressed, needs)
 
 returns-7 : tie.Need-returns-7
-returns-7 c = search (met-garble, needs)
+unfolding met
+returns-7 c = search (met-at, needs)
 
 pub met-spec : {M : Type 1} → statement M
 met-spec =
     tie.close
     (tie.spec
     enum-told
-    none-requires
     over-requires
     returns
     stops-requires
@@ -84,10 +87,10 @@ met-spec =
     enum-told-4
     stops-requires-3
     returns-2
-    none-requires-2
+    none-requires
     attaches-requires-2
     enum-told-5
-    onward-requires
+    stays-requires
     returns-3
     returns-4
     returns-5

@@ -14,9 +14,6 @@ stops-requires c κs = search needs
 returns : tie.Need-returns
 returns c = search (probed-long, needs)
 
-none-requires : tie.Need-none-requires
-none-requires c κs = search needs
-
 over-requires : tie.Need-over-requires
 over-requires c κs = search needs
 
@@ -24,5 +21,4 @@ returns-2 : tie.Need-returns-2
 returns-2 c = search (probed-heard, needs)
 
 pub probed-spec : {M : Type 1} → statement M
-probed-spec =
-    tie.close (tie.spec long-requires stops-requires returns none-requires over-requires returns-2)
+probed-spec = tie.close (tie.spec long-requires stops-requires returns over-requires returns-2)

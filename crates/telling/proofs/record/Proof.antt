@@ -1,59 +1,25 @@
 -- `telling::record` meets its contract.
 -- Assumes nothing.
-use Rattle.telling.proofs.Ways.{record-other, record-idle, record-ready, record-heard}
+use Rattle.telling.proofs.Ways.{record-is}
 use borrow.Author.Needs.{needs}
 use Rattle.telling.proofs.record.Statement.{statement}
 use Rattle.telling.proofs.record.Tie as tie
 
-enum-told : tie.Need-enum-told
-enum-told c = search needs
+front-requires : tie.Need-front-requires
+front-requires c κs = search needs
 
-refuses-requires : tie.Need-refuses-requires
-refuses-requires c κs = search needs
+place-requires : tie.Need-place-requires
+place-requires c κs = search needs
 
-enum-told-2 : tie.Need-enum-told-2
-enum-told-2 c = search needs
+decide-requires : tie.Need-decide-requires
+decide-requires c κs = search needs
 
-refuses-requires-2 : tie.Need-refuses-requires-2
-refuses-requires-2 c κs = search needs
-
-enum-known-t : tie.Need-enum-known-t
-enum-known-t c = search needs
-
-other-image-requires : tie.Need-other-image-requires
-other-image-requires c κs = search needs
-
-refuses-requires-3 : tie.Need-refuses-requires-3
-refuses-requires-3 c κs = search needs
+told-requires : tie.Need-told-requires
+told-requires c κs = search needs
 
 returns : tie.Need-returns
-returns c = search (record-other, needs)
-
-answered-requires : tie.Need-answered-requires
-answered-requires c κs = search needs
-
-returns-2 : tie.Need-returns-2
-returns-2 c = search (record-idle, needs)
-
-returns-3 : tie.Need-returns-3
-returns-3 c = search (record-ready, needs)
-
-returns-4 : tie.Need-returns-4
-returns-4 c = search (record-heard, needs)
+returns c = search (record-is, needs)
 
 pub record-spec : {M : Type 1} → statement M
 record-spec =
-    tie.close
-    (tie.spec
-    enum-told
-    refuses-requires
-    enum-told-2
-    refuses-requires-2
-    enum-known-t
-    other-image-requires
-    refuses-requires-3
-    returns
-    answered-requires
-    returns-2
-    returns-3
-    returns-4)
+    tie.close (tie.spec front-requires place-requires decide-requires told-requires returns)

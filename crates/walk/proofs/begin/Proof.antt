@@ -5,8 +5,8 @@ use borrow.Author.Needs.{needs}
 use Rattle.walk.proofs.begin.Statement.{statement}
 use Rattle.walk.proofs.begin.Tie as tie
 
-no-walk-requires : tie.Need-no-walk-requires
-no-walk-requires c κs = search needs
+no-place-requires : tie.Need-no-place-requires
+no-place-requires c κs = search needs
 
 size-requires : tie.Need-size-requires
 size-requires c κs = search needs
@@ -18,4 +18,4 @@ returns : tie.Need-returns
 returns c = search (begin-is, needs)
 
 pub begin-spec : {M : Type 1} → statement M
-begin-spec = tie.close (tie.spec no-walk-requires size-requires mul-w returns)
+begin-spec = tie.close (tie.spec no-place-requires size-requires mul-w returns)

@@ -1,0 +1,15 @@
+-- `steps::on` meets its contract.
+-- Assumes nothing.
+use Rattle.steps.proofs.Ways.{on-is}
+use borrow.Author.Needs.{needs}
+use Rattle.steps.proofs.on.Statement.{statement}
+use Rattle.steps.proofs.on.Tie as tie
+
+none-requires : tie.Need-none-requires
+none-requires c κs = search needs
+
+returns : tie.Need-returns
+returns c = search (on-is, needs)
+
+pub on-spec : {M : Type 1} → statement M
+on-spec = tie.close (tie.spec none-requires returns)
