@@ -244,92 +244,70 @@ impl Client {
         &self.state
     }
 
-    fn started(&mut self, call: impl FnOnce(&mut [u8], &mut [u8])) -> Result<(), Refusal> {
-        let mut answer = Answer::new();
-        call(&mut self.state, answer.room());
-        match answer.refusal() {
-            Some(r) => Err(r),
-            None => Ok(()),
-        }
-    }
-
-    fn told(&mut self, call: impl FnOnce(&mut [u8], &mut [u8])) -> Told {
-        let mut answer = Answer::new();
-        call(&mut self.state, answer.room());
-        answer.told()
-    }
-
     /// Selects the pods whose ids begin with the first so many bits of a prefix.
     pub fn start_select(&mut self, prefix: &[u8], bits: usize) -> Result<(), Refusal> {
-        self.started(|s, a| raw::start_select(s, prefix, bits, a))
+        raw::start_select(&mut self.state, prefix, bits, Answer::started)
     }
 
     pub fn start_deselect(&mut self) -> Result<(), Refusal> {
-        self.started(raw::start_deselect)
+        raw::start_deselect(&mut self.state, Answer::started)
     }
 
     /// Attaches to the only pod, or to the one whose id begins with a prefix.
     pub fn start_attach(&mut self, uid: Option<&[u8]>) -> Result<(), Refusal> {
         match uid {
-            None => self.started(raw::start_attach),
-            Some(prefix) => self.started(|s, a| raw::start_attach_to(s, prefix, a)),
+            None => raw::start_attach(&mut self.state, Answer::started),
+            Some(prefix) => raw::start_attach_to(&mut self.state, prefix, Answer::started),
         }
     }
 
     /// Finds every pod whose id begins with a prefix.
     pub fn start_discover(&mut self, prefix: &[u8]) -> Result<(), Refusal> {
-        self.started(|s, a| raw::start_discover(s, prefix, a))
+        raw::start_discover(&mut self.state, prefix, Answer::started)
     }
 
     pub fn start_info(&mut self) -> Result<(), Refusal> {
-        self.started(raw::start_info)
+        raw::start_info(&mut self.state, Answer::started)
     }
 
     pub fn start_erase(&mut self) -> Result<(), Refusal> {
-        self.started(raw::start_erase)
+        raw::start_erase(&mut self.state, Answer::started)
     }
 
     /// Flashes an image, which is lent anew to each call until the flash has ended.
     pub fn start_flash(&mut self, image: &[u8]) -> Result<(), Refusal> {
-        self.started(|s, a| raw::start_flash(s, image, a))
+        raw::start_flash(&mut self.state, image, Answer::started)
     }
 
     /// Resets into the bootloader or the app. In boot the answer is awaited; else the reset has succeeded once its request is handed out,
     /// and [`Request::awaited`] says so.
     pub fn start_reset(&mut self, bootloader: bool, in_boot: bool) -> Result<(), Refusal> {
-        self.started(|s, a| raw::start_reset(s, bootloader, in_boot, a))
+        raw::start_reset(&mut self.state, bootloader, in_boot, Answer::started)
     }
 
     /// As a reset, with a baud to store for the bootloader.
     pub fn start_set_baud(&mut self, baud: u8, bootloader: bool, in_boot: bool) -> Result<(), Refusal> {
-        self.started(|s, a| raw::start_set_baud(s, baud, bootloader, in_boot, a))
+        raw::start_set_baud(&mut self.state, baud, bootloader, in_boot, Answer::started)
     }
 
     /// The next request, at the front of the buffer. A refused one writes nothing.
     pub fn request(&mut self, image: &[u8], buffer: &mut [u8]) -> Result<Request, Refusal> {
-        let mut answer = Answer::new();
-        raw::request(&mut self.state, image, buffer, answer.room());
-        match answer.refusal() {
-            Some(r) => Err(r),
-            None => Ok(answer.request()),
-        }
+        raw::request(&mut self.state, image, buffer, Answer::request)
     }
 
     /// What was heard after the request.
     pub fn record(&mut self, image: &[u8], bytes: &[u8]) -> Told {
-        self.told(|s, a| raw::record(s, image, bytes, a))
+        raw::record(&mut self.state, image, bytes, Answer::told)
     }
 
     /// The link failed: of a Select, only where sending failed. What was kept of earlier records is to be dropped.
     pub fn link_failed(&mut self) -> Told {
-        self.told(raw::link_failed)
+        raw::link_failed(&mut self.state, Answer::told)
     }
 
     /// The attached id.
     pub fn attached(&self) -> Option<Id> {
-        let mut answer = Answer::new();
-        raw::attached(&self.state, answer.room());
-        answer.attached()
+        raw::attached(&self.state)
     }
 
     /// The seed of the last Select.
@@ -356,9 +334,7 @@ pub fn image_compat(image: &[u8]) -> Option<u32> {
 
 /// What a Select hears in a record; an id of over 16 bytes is [`Refusal::LongId`].
 pub fn hear(record: &[u8]) -> Result<Heard, Refusal> {
-    let mut answer = Answer::new();
-    raw::hear(record, answer.room());
-    answer.refusal().map_or_else(|| Ok(answer.heard()), Err)
+    raw::hear(record)
 }
 
 /// The check of frames and images: CRC-16/IBM-3740 from a start.

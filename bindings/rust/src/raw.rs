@@ -2,6 +2,8 @@
 //!
 //! The layouts are those of fahireky.h.
 
+use core::mem::MaybeUninit;
+
 use crate::{Heard, Id, Info, LONGEST, Next, Outcome, Refusal, Request, Told};
 
 /// The bytes of a state.
@@ -35,17 +37,11 @@ mod c {
     }
 }
 
-/// A refusal of the lent buffers themselves, which this crate always lends long enough.
-fn lent(code: u64) {
-    assert!(code & 0xFF != 16 || code >> 8 < STATE.min(ANSWER) as u64, "a state or answer of another length");
-}
-
 macro_rules! calls {
     ($($name:ident($($arg:ident: $type:ty),*) = $c:ident($($given:expr),*);)*) => {
-        $(pub fn $name(state: &mut [u8] $(, $arg: $type)*, answer: &mut [u8]) {
+        $(pub fn $name<R>(state: &mut [u8; STATE] $(, $arg: $type)*, read: impl FnOnce(&Answer) -> R) -> R {
             // SAFETY: each slice is passed as its pointer and its length, and the library keeps none of them.
-            let code = unsafe { c::$c(state.as_mut_ptr(), state.len(), $($given,)* answer.as_mut_ptr(), answer.len()) };
-            lent(code);
+            Answer::written(|a, n| unsafe { c::$c(state.as_mut_ptr(), STATE, $($given,)* a, n) }, read)
         })*
     };
 }
@@ -66,14 +62,17 @@ calls! {
     link_failed() = fahireky_link_failed();
 }
 
-pub fn attached(state: &[u8], answer: &mut [u8]) {
+pub fn attached(state: &[u8; STATE]) -> Option<Id> {
     // SAFETY: as above.
-    lent(unsafe { c::fahireky_attached(state.as_ptr(), state.len(), answer.as_mut_ptr(), answer.len()) });
+    Answer::written(|a, n| unsafe { c::fahireky_attached(state.as_ptr(), STATE, a, n) }, Answer::attached)
 }
 
-pub fn hear(record: &[u8], answer: &mut [u8]) {
+pub fn hear(record: &[u8]) -> Result<Heard, Refusal> {
     // SAFETY: as above.
-    lent(unsafe { c::fahireky_hear(record.as_ptr(), record.len(), answer.as_mut_ptr(), answer.len()) });
+    Answer::written(
+        |a, n| unsafe { c::fahireky_hear(record.as_ptr(), record.len(), a, n) },
+        |answer| answer.refusal().map_or_else(|| Ok(answer.heard()), Err),
+    )
 }
 
 pub fn rest(record: &[u8], place: usize) -> usize {
@@ -114,15 +113,18 @@ pub fn crc16(start: u16, bytes: &[u8]) -> u16 {
 }
 
 /// An answer's bytes.
+#[repr(transparent)]
 pub struct Answer([u8; ANSWER]);
 
 impl Answer {
-    pub fn new() -> Answer {
-        Answer([0; ANSWER])
-    }
-
-    pub fn room(&mut self) -> &mut [u8] {
-        &mut self.0
+    /// What is read of the answer that a call writes. The room for it is not zeroed first.
+    fn written<R>(call: impl FnOnce(*mut u8, usize) -> u64, read: impl FnOnce(&Answer) -> R) -> R {
+        let mut room = MaybeUninit::<Answer>::uninit();
+        let code = call(room.as_mut_ptr().cast(), ANSWER);
+        // The buffers lent have their lengths, so that no call refuses them.
+        assert!(code & 0xFF != 16 || code >> 8 < STATE.min(ANSWER) as u64, "a state or answer of another length");
+        // SAFETY: a call that does not refuse the buffers lent writes every byte of its answer: its contract fixes each.
+        read(unsafe { room.assume_init_ref() })
     }
 
     fn field<const N: usize>(&self, at: usize) -> [u8; N] {
@@ -145,9 +147,14 @@ impl Answer {
         self.u64(16) as usize
     }
 
+    /// The operation that was started.
+    pub fn started(&self) -> Result<(), Refusal> {
+        self.refusal().map_or(Ok(()), Err)
+    }
+
     /// The request that was granted.
-    pub fn request(&self) -> Request {
-        Request { len: self.length(), awaited: self.0[1] == 1 }
+    pub fn request(&self) -> Result<Request, Refusal> {
+        self.refusal().map_or_else(|| Ok(Request { len: self.length(), awaited: self.0[1] == 1 }), Err)
     }
 
     fn id(&self, at: usize) -> Id {

@@ -63,15 +63,72 @@ pub fn rust_client<'a>(records: &'a [Vec<u8>]) -> reference::Client<Stored<'a>> 
     reference::Client::new(Stored::new(records), Duration::ZERO)
 }
 
-/// The port over the records, to its end: how many requests it made. No record here leaves a rest.
-pub fn ours(mut client: Client, image: &[u8], records: &[Vec<u8>]) -> usize {
-    let mut buffer = [0; fahireky::REQUEST];
+/// A request's buffer.
+pub type Buffer = [u8; fahireky::REQUEST];
+
+/// The port through its Rust crate over the records, to its end: how many requests it made. No record here leaves a rest.
+pub fn ours(client: &mut Client, image: &[u8], records: &[Vec<u8>], buffer: &mut Buffer) -> usize {
     for (k, record) in records.iter().enumerate() {
-        client.request(image, &mut buffer).expect("a request");
+        client.request(image, buffer).expect("a request");
         match client.record(image, record).answer {
             Ok(Next::Onward) => {}
             Ok(Next::Over(_)) | Err(_) => return k + 1,
         }
     }
     panic!("too few records")
+}
+
+mod c {
+    unsafe extern "C" {
+        pub fn fahireky_start_discover(s: *mut u8, sn: usize, p: *const u8, pn: usize, a: *mut u8, an: usize) -> u64;
+        pub fn fahireky_start_flash(s: *mut u8, sn: usize, i: *const u8, n: usize, a: *mut u8, an: usize) -> u64;
+        pub fn fahireky_request(s: *mut u8, sn: usize, i: *const u8, n: usize, b: *mut u8, bn: usize, a: *mut u8, an: usize) -> u64;
+        pub fn fahireky_record(s: *mut u8, sn: usize, i: *const u8, n: usize, r: *const u8, rn: usize, a: *mut u8, an: usize) -> u64;
+    }
+}
+
+/// The buffers that a host lends to the exported calls.
+pub struct Raw {
+    state: [u8; fahireky::STATE],
+    answer: [u8; 1179],
+    buffer: Buffer,
+}
+
+impl Raw {
+    pub fn new() -> Raw {
+        Raw { state: [0; fahireky::STATE], answer: [0; 1179], buffer: [0; fahireky::REQUEST] }
+    }
+
+    pub fn start_discover(&mut self, prefix: &[u8]) {
+        self.state.fill(0);
+        let (s, a) = (&mut self.state, &mut self.answer);
+        // SAFETY: each slice is passed as its pointer and its length.
+        let code = unsafe { c::fahireky_start_discover(s.as_mut_ptr(), s.len(), prefix.as_ptr(), prefix.len(), a.as_mut_ptr(), a.len()) };
+        assert_eq!(code, 0);
+    }
+
+    pub fn start_flash(&mut self, image: &[u8]) {
+        self.state.fill(0);
+        let (s, a) = (&mut self.state, &mut self.answer);
+        // SAFETY: as above.
+        let code = unsafe { c::fahireky_start_flash(s.as_mut_ptr(), s.len(), image.as_ptr(), image.len(), a.as_mut_ptr(), a.len()) };
+        assert_eq!(code, 0);
+    }
+
+    /// The exported calls over the records, to their end: how many requests were made.
+    pub fn run(&mut self, image: &[u8], records: &[Vec<u8>]) -> usize {
+        let (s, a, b) = (&mut self.state, &mut self.answer, &mut self.buffer);
+        let (i, n) = (image.as_ptr(), image.len());
+        for (k, record) in records.iter().enumerate() {
+            // SAFETY: as above.
+            let code = unsafe { c::fahireky_request(s.as_mut_ptr(), s.len(), i, n, b.as_mut_ptr(), b.len(), a.as_mut_ptr(), a.len()) };
+            assert_eq!(code & 0xFF, 0);
+            // SAFETY: as above.
+            let code = unsafe { c::fahireky_record(s.as_mut_ptr(), s.len(), i, n, record.as_ptr(), record.len(), a.as_mut_ptr(), a.len()) };
+            if code & 0xFF != 0 || a[1] == 2 {
+                return k + 1;
+            }
+        }
+        panic!("too few records")
+    }
 }

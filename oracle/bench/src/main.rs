@@ -7,52 +7,64 @@ use std::path::Path;
 use std::process::{Command, Stdio};
 use std::time::Instant;
 
-use bench::{ours, records, rust_client};
+use bench::{Raw, ours, records, rust_client};
 use differential::run::Operation;
 use differential::wire::{Info, Pod, Random, Wire, reply};
 use fahireky::Client;
 
-/// The best time of some runs, in nanoseconds for each of so many units. Both sides take turns.
-fn best(units: usize, mut rust: impl FnMut(), mut port: impl FnMut()) -> (f64, f64) {
-    let (mut a, mut b) = (f64::MAX, f64::MAX);
+/// The best time of some runs, in nanoseconds for each of so many units. All sides take turns.
+fn best<const N: usize>(units: usize, mut sides: [&mut dyn FnMut(); N]) -> [f64; N] {
+    let mut times = [f64::MAX; N];
     // As many rounds as fit half a second, at least five.
     let start = Instant::now();
     let mut rounds = 0;
     while rounds < 5 || start.elapsed().as_millis() < 500 {
-        let t = Instant::now();
-        rust();
-        a = a.min(t.elapsed().as_nanos() as f64);
-        let t = Instant::now();
-        port();
-        b = b.min(t.elapsed().as_nanos() as f64);
+        for (side, time) in sides.iter_mut().zip(&mut times) {
+            let t = Instant::now();
+            side();
+            *time = time.min(t.elapsed().as_nanos() as f64);
+        }
         rounds += 1;
     }
-    (a / units as f64, b / units as f64)
+    times.map(|t| t / units as f64)
 }
 
-fn line(name: &str, unit: &str, (rust, port): (f64, f64)) {
-    println!("| {name} | {unit} | {rust:.1} | {port:.1} | {:.2} |", port / rust);
+/// The Rust, the exported calls, the Rust crate over them.
+fn three(name: &str, unit: &str, [rust, raw, port]: [f64; 3]) {
+    println!("| {name} | {unit} | {rust:.1} | {raw:.1} | {port:.1} | {:.2} | {:.2} |", raw / rust, port / rust);
 }
 
-fn speed(name: &str, bytes: usize, (rust, port): (f64, f64)) {
+/// The Rust, and the port through what is named.
+fn two(name: &str, unit: &str, [rust, port]: [f64; 2]) {
+    println!("| {name} | {unit} | {rust:.1} | | {port:.1} | | {:.2} |", port / rust);
+}
+
+fn speed(name: &str, bytes: usize, [rust, port]: [f64; 2]) {
     let mb = |ns: f64| bytes as f64 / ns * 1000.0;
-    println!("| {name} | MB/s | {:.0} | {:.0} | {:.2} |", mb(rust), mb(port), port / rust);
+    println!("| {name} | MB/s | {:.0} | | {:.0} | | {:.2} |", mb(rust), mb(port), port / rust);
 }
 
 fn discovery(name: &str, prefix: &[u8], wire: Wire) {
     let records = records(&Operation::Discover(prefix.to_vec()), &wire);
+    let (mut raw, mut buffer) = (Raw::new(), [0; fahireky::REQUEST]);
     let measured = best(
         records.len(),
-        || {
-            black_box(rust_client(&records).discover(prefix)).ok();
-        },
-        || {
-            let mut client = Client::new();
-            client.start_discover(prefix).unwrap();
-            black_box(ours(client, &[], &records));
-        },
+        [
+            &mut || {
+                black_box(rust_client(&records).discover(prefix)).ok();
+            },
+            &mut || {
+                raw.start_discover(prefix);
+                black_box(raw.run(&[], &records));
+            },
+            &mut || {
+                let mut client = Client::new();
+                client.start_discover(prefix).unwrap();
+                black_box(ours(&mut client, &[], &records, &mut buffer));
+            },
+        ],
     );
-    line(&format!("{name} ({} Selects)", records.len()), "ns a Select", measured);
+    three(&format!("{name} ({} Selects)", records.len()), "ns a Select", measured);
 }
 
 fn flash(name: &str, n: usize) {
@@ -60,18 +72,25 @@ fn flash(name: &str, n: usize) {
     let info = Info { capacity: n as u32, erase_size: 1024, compat: 0xFFFF_FFFF, max_payload: 1024 };
     let wire = Wire::Pod(Pod::new(info.bytes(), 1));
     let records = records(&Operation::Flash(image.clone()), &wire);
+    let (mut raw, mut buffer) = (Raw::new(), [0; fahireky::REQUEST]);
     let measured = best(
         1000,
-        || {
-            black_box(rust_client(&records).flash(&image, &mut |_, _, _| {})).unwrap();
-        },
-        || {
-            let mut client = Client::new();
-            client.start_flash(&image).unwrap();
-            black_box(ours(client, &image, &records));
-        },
+        [
+            &mut || {
+                black_box(rust_client(&records).flash(&image, &mut |_, _, _| {})).unwrap();
+            },
+            &mut || {
+                raw.start_flash(&image);
+                black_box(raw.run(&image, &records));
+            },
+            &mut || {
+                let mut client = Client::new();
+                client.start_flash(&image).unwrap();
+                black_box(ours(&mut client, &image, &records, &mut buffer));
+            },
+        ],
     );
-    line(&format!("{name} ({} requests)", records.len()), "us", measured);
+    three(&format!("{name} ({} requests)", records.len()), "us", measured);
 }
 
 /// Garble beside a clean 4 KiB: frames of every kind, then a byte that spoils them.
@@ -90,7 +109,7 @@ fn bench_log() {
     let port = Path::new(env!("CARGO_MANIFEST_DIR")).join("../../target/bin/bench_log");
     let rust = std::env::current_exe().unwrap().with_file_name("rust_log");
     if !port.exists() || !rust.exists() {
-        println!("| the bench log program | | not built | not built | |");
+        println!("| the bench log program | | not built | | not built | | |");
         return;
     }
     let ids = (0..64).map(|i| [vec![i as u8], vec![0; 15]].concat()).collect();
@@ -106,9 +125,9 @@ fn bench_log() {
         let status = Command::new(program).stdin(File::open(&file).unwrap()).stdout(Stdio::null()).status();
         assert!(status.unwrap().success());
     };
-    let measured = best(1_000_000, || run(&rust), || run(&port));
+    let measured = best(1_000_000, [&mut || run(&rust), &mut || run(&port)]);
     fs::remove_file(&file).unwrap();
-    line(&format!("the bench log program ({} Selects, {} bytes)", records.len(), log.len()), "ms", measured);
+    two(&format!("the bench log program ({} Selects, {} bytes)", records.len(), log.len()), "ms", measured);
 }
 
 const PAINTED: usize = 1 << 18;
@@ -152,8 +171,8 @@ fn stack(mut call: impl FnMut() + Send) -> usize {
 
 fn main() {
     let r = &mut Random::new(1);
-    println!("| what | unit | Rust | port | port / Rust |");
-    println!("|---|---|---|---|---|");
+    println!("| what | unit | Rust | calls | crate | calls / Rust | crate / Rust |");
+    println!("|---|---|---|---|---|---|---|");
     for length in [8, 16] {
         for n in [1, 8, 64] {
             let ids = (0..n).map(|_| r.bytes(length)).collect();
@@ -170,39 +189,54 @@ fn main() {
     discovery("discovery, adverse, under 14 bytes", &[0; 14], adverse);
     let record = noisy(r);
     let clean: Vec<u8> = (0..100).flat_map(|_| reply(5, 0, &[7; 28])).collect();
-    speed("hear, a noisy record of 4 KiB", record.len(), best(1, || drop(black_box(reference::inner::hear(&record))), || { let _ = black_box(fahireky::hear(&record)); }));
-    speed("hear, echoes of 4,000 bytes", clean.len(), best(1, || drop(black_box(reference::inner::hear(&clean))), || { let _ = black_box(fahireky::hear(&clean)); }));
+    speed("hear, a noisy record of 4 KiB", record.len(), best(1, [&mut || drop(black_box(reference::inner::hear(&record))), &mut || { let _ = black_box(fahireky::hear(&record)); }]));
+    speed("hear, echoes of 4,000 bytes", clean.len(), best(1, [&mut || drop(black_box(reference::inner::hear(&clean))), &mut || { let _ = black_box(fahireky::hear(&clean)); }]));
     let bytes = r.bytes(1 << 16);
-    speed("the check, 64 KiB", bytes.len(), best(1, || { black_box(tinyboot_protocol::crc::crc16(0xFFFF, &bytes)); }, || { black_box(fahireky::crc16(0xFFFF, &bytes)); }));
+    speed("the check, 64 KiB", bytes.len(), best(
+        1,
+        [
+            &mut || {
+                black_box(tinyboot_protocol::crc::crc16(0xFFFF, &bytes));
+            },
+            &mut || {
+                black_box(fahireky::crc16(0xFFFF, &bytes));
+            },
+        ],
+    ));
     flash("flash of 64 KiB", 1 << 16);
     flash("flash of 1 MiB", 1 << 20);
     bench_log();
 
     println!();
-    println!("| memory | Rust | port |");
-    println!("|---|---|---|");
-    println!("| client at rest, bytes | {} and its heap | {} |", size_of::<reference::Client<bench::Stored>>(), size_of::<Client>());
+    println!("| memory | Rust | calls | crate |");
+    println!("|---|---|---|---|");
+    println!("| client at rest, bytes | {} and its heap | {} | {} |", size_of::<reference::Client<bench::Stored>>(), fahireky::STATE, size_of::<Client>());
     let wire = Wire::Honest((0..64).map(|_| r.bytes(16)).collect());
     let found = records(&Operation::Discover(vec![]), &wire);
-    let rust = stack(|| {
-        black_box(rust_client(&found).discover(&[])).ok();
-    });
-    let port = stack(|| {
-        let mut client = Client::new();
-        client.start_discover(&[]).unwrap();
-        black_box(ours(client, &[], &found));
-    });
-    println!("| stack of a discovery of 64 pods, bytes | {rust} | {port} |");
     let image = r.bytes(1 << 16);
     let info = Info { capacity: 1 << 16, erase_size: 1024, compat: 0xFFFF_FFFF, max_payload: 1024 };
     let told = records(&Operation::Flash(image.clone()), &Wire::Pod(Pod::new(info.bytes(), 1)));
-    let rust = stack(|| {
-        black_box(rust_client(&told).flash(&image, &mut |_, _, _| {})).ok();
+    // The clients, and the buffers that are lent, are on the heap: what is counted is what the calls take.
+    let mut rust = (Box::new(rust_client(&found)), Box::new(rust_client(&told)));
+    let (mut raw, mut client, mut buffer) = (Box::new(Raw::new()), Box::new(Client::new()), Box::new([0; fahireky::REQUEST]));
+    let a = stack(|| drop(black_box(rust.0.discover(&[]))));
+    let b = stack(|| {
+        raw.start_discover(&[]);
+        black_box(raw.run(&[], &found));
     });
-    let port = stack(|| {
-        let mut client = Client::new();
+    let c = stack(|| {
+        client.start_discover(&[]).unwrap();
+        black_box(ours(&mut client, &[], &found, &mut buffer));
+    });
+    println!("| stack of a discovery of 64 pods, bytes | {a} | {b} | {c} |");
+    let a = stack(|| drop(black_box(rust.1.flash(&image, &mut |_, _, _| {}))));
+    let b = stack(|| {
+        raw.start_flash(&image);
+        black_box(raw.run(&image, &told));
+    });
+    let c = stack(|| {
         client.start_flash(&image).unwrap();
-        black_box(ours(client, &image, &told));
+        black_box(ours(&mut client, &image, &told, &mut buffer));
     });
-    println!("| stack of a flash of 64 KiB, bytes | {rust} | {port} |");
+    println!("| stack of a flash of 64 KiB, bytes | {a} | {b} | {c} |");
 }
