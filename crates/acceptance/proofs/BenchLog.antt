@@ -5,11 +5,11 @@ use mathlib.Core.List.{List}
 use mathlib.Core.Path.{_≡_}
 use lib.ListN.{length}
 use Rattle.paper.specs.Log.{output}
-use Rattle.listing.specs.Listing.{text}
-use Rattle.replay.specs.Replays.{answer}
-use Rattle.bench.specs.Machine.{begun, lastLine}
-use Rattle.bench.specs.Pieces.{pieces, concat}
-use Rattle.outputs.proofs.Output as Output
+use Rattle.log_listing.specs.Listing.{text}
+use Rattle.log_run.specs.Run.{answer}
+use Rattle.log_feed.specs.FeedMachine.{begun, lastLine}
+use Rattle.log_feed.specs.Pieces.{pieces, concat}
+use Rattle.log_theory.proofs.Output as Output
 
 pub writes : (ps : List (List ℕ)) (buf : List ℕ) → length buf ≡ 4096
     → text (answer (lastLine (pieces (record { log = begun; bytes = buf }) ps) .log .replay)) ≡ output (concat ps)

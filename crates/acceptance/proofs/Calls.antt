@@ -6,8 +6,8 @@ use Rattle.paper.specs.Client as Paper
 use Rattle.paper.specs.Count.{All}
 use Rattle.client.specs.declared.Turn.the-variants.{Idle}
 use Rattle.client.specs.Clients.{fresh, attached}
-use Rattle.records.specs.Calls.{Call, Good, paperAnswers, codeAnswers, reached}
-use Rattle.records.proofs.Calls as Calls
+use Rattle.refinement.specs.Calls.{Call, Good, paperAnswers, codeAnswers, reached}
+use Rattle.refinement.proofs.client.CallsAreTalk as Calls
 
 -- What is said, the rest's place, every byte of the buffer, the seed and the attached id: after each call as document 01 has them.
 pub agree : (calls : List Call) → All Good calls → codeAnswers fresh calls ≡ paperAnswers Paper.fresh calls

@@ -22,13 +22,13 @@ use Rattle.client.specs.declared.Search.the-variants.{Probing, Parting, Seeking
 use Rattle.client.specs.declared.Says.the-variants.{Refused}
 use Rattle.client.specs.declared.Turn.the-variants.{Idle, Ready, Waiting}
 use Rattle.client.specs.Clients.{begun, otherImage, refuses, stops}
-use Rattle.starting.specs.Starting.{startSelect, startDeselect, startAttach, startAttachTo, startDiscover, startInfo, startErase, startFlash, startReset, startSetBaud}
-use Rattle.asking.specs.Asking.{frameOf, withheld, granting, request}
-use Rattle.telling.specs.Telling.{answeredTo, record′, linkFailed}
-use Rattle.records.specs.Refusals.{keeps, parts, leaves, begins, goodCount, asking, resetPhase}
-use Rattle.records.proofs.Refusals as Refusals
-use Rattle.records.proofs.RefusedRecords as Records
-use Rattle.records.proofs.RefusedRequests as Requests
+use Rattle.client_start.specs.Start.{startSelect, startDeselect, startAttach, startAttachTo, startDiscover, startInfo, startErase, startFlash, startReset, startSetBaud}
+use Rattle.client_request.specs.Request.{frameOf, withheld, granting, request}
+use Rattle.client_record.specs.Record.{answeredTo, record′, linkFailed}
+use Rattle.refinement.specs.Refusals.{keeps, parts, leaves, begins, goodCount, asking, resetPhase}
+use Rattle.refinement.proofs.refused.Starts as Refusals
+use Rattle.refinement.proofs.refused.Records as Records
+use Rattle.refinement.proofs.refused.Requests as Requests
 
 module _ (c : Client) where
   -- The starts. 21 where an operation runs; else 13 exactly where the arguments are bad; else it begins, with the seed and the attached id as

@@ -24,13 +24,13 @@ use Rattle.client.specs.declared.Search.the-variants.{Probing}
 use Rattle.client.specs.declared.Turn.the-variants.{Idle, Ready, Waiting}
 use Rattle.client.specs.Clients.{otherFor, otherImage, begun, idle, turned, running, refuse, refuses, over, stops}
 use Rattle.client.specs.Numbers.{numberOf}
-use Rattle.demands.specs.Demands.{demandOf}
-use Rattle.starting.specs.Starting.{startSelect, startDeselect, startAttach, startAttachTo, startDiscover, startInfo, startErase, startFlash, startReset, startSetBaud}
-use Rattle.asking.specs.Asking.{frameOf, handing, handed, withheld, granting, askedFor, request}
-use Rattle.answering.specs.Answering.{tells}
-use Rattle.telling.specs.Telling.{answeredTo, record′, linkFailed}
-use Rattle.records.specs.Refusals.{keeps, parts, leaves, begins}
-use Rattle.records.specs.Served.{resting}
+use Rattle.client_demand.specs.Demands.{demandOf}
+use Rattle.client_start.specs.Start.{startSelect, startDeselect, startAttach, startAttachTo, startDiscover, startInfo, startErase, startFlash, startReset, startSetBaud}
+use Rattle.client_request.specs.Request.{frameOf, handing, handed, withheld, granting, askedFor, request}
+use Rattle.client_record.specs.Answer.{tells}
+use Rattle.client_record.specs.Record.{answeredTo, record′, linkFailed}
+use Rattle.refinement.specs.Refusals.{keeps, parts, leaves, begins}
+use Rattle.refinement.specs.ClientServed.{resting}
 use Rattle.acceptance.proofs.Condition1 as Condition1
 use Rattle.acceptance.proofs.Instances.{device, wrote, image, attached, writing}
 

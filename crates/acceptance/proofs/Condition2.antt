@@ -13,29 +13,29 @@ use Rattle.paper.specs.Flash as Flash
 use Rattle.paper.specs.Flash.{informOnly, erase, flash, reset}
 use Rattle.paper.specs.Frame.{number, crcBit, crcByte, crcFrom, check, Frame, whole, frameBytes, skipped, rightCheck, readSized, readSynced, read}
 use Rattle.paper.specs.Hearing.{Id, bitsOf}
-use Rattle.lore.proofs.Words.{Bytes}
-use Rattle.theory.specs.Clients.{Brief}
-use Rattle.theory.specs.Driven.{Round, Lends}
+use Rattle.paper.proofs.Words.{Bytes}
+use Rattle.theory.specs.ClientMachine.{Brief}
+use Rattle.theory.specs.ClientDriven.{Round, Lends}
 use Rattle.theory.specs.FlashOrder.{Event, play, everything, told, writesAt, Kept, Stands, Allowed, Flashed, Fronts, Bounded, most, erasesMost, flashMost}
-use Rattle.theory.specs.Handed.{FlashOrder}
-use Rattle.theory.proofs.FlashBound as Bound
-use Rattle.theory.proofs.FlashBytes as Carries
-use Rattle.theory.proofs.FlashBytes.{CarriesIn}
-use Rattle.theory.proofs.FlashOrder as Order
-use Rattle.theory.proofs.Frames as Frames
-use Rattle.theory.proofs.Frames.{Fits}
+use Rattle.theory.specs.HandedOut.{FlashOrder}
+use Rattle.theory.proofs.flash.RequestsBounded as Bound
+use Rattle.theory.proofs.flash.WrittenBytes as Carries
+use Rattle.theory.proofs.flash.WrittenBytes.{CarriesIn}
+use Rattle.theory.proofs.flash.FlashOrder as Order
+use Rattle.theory.proofs.frames.FramesReadBack as Frames
+use Rattle.theory.proofs.frames.FramesReadBack.{Fits}
 use Rattle.client.specs.declared.Client.{Client}
 use Rattle.client.specs.declared.Job.{Job}
 use Rattle.client.specs.declared.Job.the-variants.{Resetting}
 use Rattle.client.specs.declared.Phase.the-variants.{Demand}
 use Rattle.client.specs.declared.Turn.the-variants.{Waiting}
 use Rattle.client.specs.Clients.{turned, fresh}
-use Rattle.starting.specs.Starting.{startSelect, startDeselect, startAttach, startAttachTo, startDiscover, startInfo, startErase, startFlash, startReset, startSetBaud}
-use Rattle.telling.specs.Telling.{record′}
-use Rattle.records.specs.Driven.{driven, sends, answerOf, Plays}
-use Rattle.records.specs.Served.{opening, resting}
-use Rattle.records.proofs.EitherWay as EitherWay
-use Rattle.records.proofs.Operations as Operations
+use Rattle.client_start.specs.Start.{startSelect, startDeselect, startAttach, startAttachTo, startDiscover, startInfo, startErase, startFlash, startReset, startSetBaud}
+use Rattle.client_record.specs.Record.{record′}
+use Rattle.refinement.specs.ClientDriven.{driven, sends, answerOf, Plays}
+use Rattle.refinement.specs.ClientServed.{opening, resting}
+use Rattle.refinement.proofs.client.UnreadRest as EitherWay
+use Rattle.refinement.proofs.client.Operations as Operations
 
 -- Frames: what is written is read whole, whatever follows.
 pub frame-read : (f : Frame) → Fits f → (more : List ℕ) → read (frameBytes f ++ more) ≡ whole 0 f

@@ -9,17 +9,17 @@ use lib.ListN.{length}
 use Rattle.paper.specs.Count.{matching, All, Pods, count, selects, limit}
 use Rattle.paper.specs.Hearing.{Id, bitsOf}
 use Rattle.paper.specs.Walk.{sort, discover, run}
-use Rattle.lore.proofs.Words.{Bytes}
-use Rattle.theory.specs.Clients.{Brief}
+use Rattle.paper.proofs.Words.{Bytes}
+use Rattle.theory.specs.ClientMachine.{Brief}
 use Rattle.client.specs.declared.Outcome.the-variants.{Found}
 use Rattle.client.specs.declared.Says.the-variants.{Over}
 use Rattle.client.specs.declared.Turn.the-variants.{Idle}
 use Rattle.client.specs.Clients.{fresh}
-use Rattle.records.specs.Calls.{Call, Good, reached, Rests}
-use Rattle.records.specs.Served.{Wire, isOnward, discovered, resting, heardBy, Honest, EndsAs, Finds, Lists, devices}
-use Rattle.records.proofs.Calls as Calls
-use Rattle.records.proofs.Devices as Devices
-use Rattle.records.proofs.Discovers as Discovers
+use Rattle.refinement.specs.Calls.{Call, Good, reached, Rests}
+use Rattle.refinement.specs.ClientServed.{Wire, isOnward, discovered, resting, heardBy, Honest, EndsAs, Finds, Lists, devices}
+use Rattle.refinement.proofs.client.CallsAreTalk as Calls
+use Rattle.refinement.proofs.wire.DevicesHonest as Devices
+use Rattle.refinement.proofs.wire.Condition3 as Discovers
 
 -- Whatever was called before: a client with no operation is of a seed and an attached id or none, and nothing else.
 pub idle-rests : (calls : List Call) → All Good calls → reached fresh calls .turn ≡ Idle → Rests (reached fresh calls)

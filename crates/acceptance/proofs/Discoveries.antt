@@ -20,25 +20,25 @@ use Rattle.paper.specs.Text.{hexDigit, digit, hexText, unhex}
 use Rattle.paper.specs.Talk.{walking, _>>=_, each}
 use Rattle.paper.specs.Walk as Walk
 use Rattle.paper.specs.Walk.{long, ask, isNothing, sameId, isOne, confirmRest, confirm, keep, judge, walk, insert, sort, discover, done, stopped, run}
-use Rattle.lore.proofs.Words.{Bytes}
+use Rattle.paper.proofs.Words.{Bytes}
 use Rattle.theory.specs.FlashOrder.{heard}
-use Rattle.theory.proofs.OneLength.{discover-exact}
+use Rattle.theory.proofs.walk.OneLength.{discover-exact}
 use Rattle.ids.specs.Ids.{idFrom}
-use Rattle.listing.specs.Listing.{text}
-use Rattle.replay.specs.Replays as Replays
-use Rattle.bench.specs.Machine.{begun, lastLine}
-use Rattle.bench.specs.Pieces.{pieces, concat}
+use Rattle.log_listing.specs.Listing.{text}
+use Rattle.log_run.specs.Run as Replays
+use Rattle.log_feed.specs.FeedMachine.{begun, lastLine}
+use Rattle.log_feed.specs.Pieces.{pieces, concat}
 use Rattle.hearing.specs.Heard.{oneHeard}
-use Rattle.steps.specs.Steps as Steps
+use Rattle.walk_step.specs.Steps as Steps
 use Rattle.client.specs.declared.Told.{Told}
 use Rattle.client.specs.Clients as Code
 use Rattle.client.specs.Clients.{otherImage, fresh, idle, running, over}
-use Rattle.starting.specs.Starting.{starts, demands, startSelect, startAttach, startAttachTo, startInfo}
-use Rattle.asking.specs.Asking.{asks, searchFrame, frameOf, handing, handed, granting, askedFor, request}
-use Rattle.telling.specs.Telling.{probed, hears, answeredTo, record′, linkFailed}
-use Rattle.records.specs.Calls.{Call, Good, paperCall, codeCall, Answer, paperAnswers, codeAnswers, reached, Rests}
-use Rattle.records.specs.Served.{isOnward, resting, discovered, heardBy, EndsAs, Finds, Lists, devices}
-use Rattle.records.proofs.Devices.{pods-honest}
+use Rattle.client_start.specs.Start.{starts, demands, startSelect, startAttach, startAttachTo, startInfo}
+use Rattle.client_request.specs.Request.{asks, searchFrame, frameOf, handing, handed, granting, askedFor, request}
+use Rattle.client_record.specs.Record.{probed, hears, answeredTo, record′, linkFailed}
+use Rattle.refinement.specs.Calls.{Call, Good, paperCall, codeCall, Answer, paperAnswers, codeAnswers, reached, Rests}
+use Rattle.refinement.specs.ClientServed.{isOnward, resting, discovered, heardBy, EndsAs, Finds, Lists, devices}
+use Rattle.refinement.proofs.wire.DevicesHonest.{pods-honest}
 use Rattle.acceptance.proofs.BenchLog as BenchLog
 use Rattle.acceptance.proofs.Calls as Calls
 use Rattle.acceptance.proofs.Condition3 as Condition3

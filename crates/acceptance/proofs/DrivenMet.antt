@@ -18,18 +18,18 @@ use Rattle.paper.specs.Hearing.{Id, one, bitsOf, counting, clean, frames, repli
 use Rattle.paper.specs.Talk.{_>>=_, each, walking, quiet, heard, attached, found, knows}
 use Rattle.paper.specs.Walk as Walk
 use Rattle.paper.specs.Walk.{long, judge, walk, sort, nobody}
-use Rattle.lore.proofs.Words.{Bytes}
-use Rattle.theory.specs.Driven as Theory
-use Rattle.theory.specs.Driven.{Round, Sent, goesOn, Lends, sizeOf, seedOver, idOver, restAfter, brought, success}
+use Rattle.paper.proofs.Words.{Bytes}
+use Rattle.theory.specs.ClientDriven as Theory
+use Rattle.theory.specs.ClientDriven.{Round, Sent, goesOn, Lends, sizeOf, seedOver, idOver, restAfter, brought, success}
 use Rattle.theory.specs.FlashOrder as Order
 use Rattle.theory.specs.FlashOrder.{failed, unanswered, readEvent, play, carried}
-use Rattle.theory.specs.Handed.{written, Hands, Passes, Cleared, FlashOrder}
+use Rattle.theory.specs.HandedOut.{written, Hands, Passes, Cleared, FlashOrder}
 use Rattle.client.specs.declared.Started.{Started}
 use Rattle.client.specs.declared.Told.{Told}
-use Rattle.starting.specs.Starting.{startSelect, startDeselect, startAttach, startAttachTo, startDiscover, startInfo, startErase, startFlash, startReset, startSetBaud}
-use Rattle.asking.specs.Asking.{request}
-use Rattle.records.specs.Driven.{driven, sends, answerOf}
-use Rattle.records.specs.Served.{opening, resting}
+use Rattle.client_start.specs.Start.{startSelect, startDeselect, startAttach, startAttachTo, startDiscover, startInfo, startErase, startFlash, startReset, startSetBaud}
+use Rattle.client_request.specs.Request.{request}
+use Rattle.refinement.specs.ClientDriven.{driven, sends, answerOf}
+use Rattle.refinement.specs.ClientServed.{opening, resting}
 use Rattle.acceptance.proofs.Condition2 as Condition2
 use Rattle.acceptance.proofs.Instances.{device, informs, erased, wrote, mismatched, verified, was-reset, image, buffer, room, flashed}
 

@@ -15,7 +15,7 @@ use Rattle.paper.specs.Count.{honest, selects}
 use Rattle.paper.specs.Hearing.{Id, bit, bitsOf, counting, binary, packed, selectPayload}
 use Rattle.paper.specs.Answers.{Reply, ok, sound, informed, spansTooFar, tooLarge, reported, incompatible, key, chunk, steps, apart, below, padding, eraseAddresses, eraseProgress}
 use Rattle.paper.specs.Walk.{discover, done, run}
-use Rattle.theory.proofs.Examples as Discovery
+use Rattle.theory.proofs.walk.CountExamples as Discovery
 
 -- A device of a capacity and an erase size.
 abbrev device : ℕ → ℕ → Info

@@ -10,13 +10,13 @@ use Rattle.paper.specs.Client as Paper
 use Rattle.paper.specs.Count.{All}
 use Rattle.client.specs.Clients.{fresh}
 use Rattle.client.specs.Numbers.{changesNoState}
-use Rattle.records.specs.Calls.{Call, paperAnswers}
-use Rattle.state.specs.States as State
-use Rattle.answers.specs.Answers as Answer
-use Rattle.lent.specs.Exports as Export
-use Rattle.lasting.specs.Exports.{bufferOf, exported, Lending, Fair, exports, readFrom, Coded, behind}
-use Rattle.lasting.proofs.Chain as Chain
-use Rattle.lasting.proofs.Refused as Refused
+use Rattle.refinement.specs.Calls.{Call, paperAnswers}
+use Rattle.host_state.specs.State as State
+use Rattle.host_answer.specs.AnswerBytes as Answer
+use Rattle.host_buffers.specs.Exports as Export
+use Rattle.host_theory.specs.ExportedCalls.{bufferOf, exported, Lending, Fair, exports, readFrom, Coded, behind}
+use Rattle.host_theory.proofs.CallsChain as Chain
+use Rattle.host_theory.proofs.RefusedBytes as Refused
 use Rattle.acceptance.proofs.Calls.{agree}
 
 module _ (more : List ℕ) (xs : List Lending) (ks : All Fair xs) where

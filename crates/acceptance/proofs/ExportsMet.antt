@@ -22,17 +22,17 @@ use Rattle.text.specs.Texts.{written, parsed, badText}
 use Rattle.client.specs.declared.Started.{Started}
 use Rattle.client.specs.Clients.{running}
 use Rattle.client.specs.Numbers.{numberOf, changesNoState}
-use Rattle.starting.specs.Starting as Code
-use Rattle.records.specs.Calls.{Call, startAttach, startDiscover, startInfo, request, record′, linkFailed, paperCall, Answer, paperAnswers}
-use Rattle.answers.specs.Answers as Answers
-use Rattle.state.specs.States as State
-use Rattle.state.specs.States.{loaded}
-use Rattle.notes.specs.Notes.{noteOf, refusalNote, refusing}
-use Rattle.codes.specs.Codes.{coded, writtenCode, writes, readAs, readUid}
-use Rattle.lent.specs.Hosts.{codeOf, Requested, toldBy, leaves, handed}
-use Rattle.lent.specs.Exports as Export
-use Rattle.lasting.specs.Exports.{exported, made, held, Lending, Fair, exports, readFrom, Coded, behind}
-use Rattle.lasting.proofs.Chain.{exported-held}
+use Rattle.client_start.specs.Start as Code
+use Rattle.refinement.specs.Calls.{Call, startAttach, startDiscover, startInfo, request, record′, linkFailed, paperCall, Answer, paperAnswers}
+use Rattle.host_answer.specs.AnswerBytes as Answers
+use Rattle.host_state.specs.State as State
+use Rattle.host_state.specs.State.{loaded}
+use Rattle.host_answer.specs.Numbers.{noteOf, refusalNote, refusing}
+use Rattle.host_buffers.specs.Codes.{coded, writtenCode, writes, readAs, readUid}
+use Rattle.host_buffers.specs.Hosts.{codeOf, Requested, toldBy, leaves, handed}
+use Rattle.host_buffers.specs.Exports as Export
+use Rattle.host_theory.specs.ExportedCalls.{exported, made, held, Lending, Fair, exports, readFrom, Coded, behind}
+use Rattle.host_theory.proofs.CallsChain.{exported-held}
 use Rattle.acceptance.proofs.Exports.{exports-agree, exports-coded, exports-behind, refused-untouched, short-untouched, text-untouched, id-untouched}
 
 abbrev lending : Call → Lending

@@ -14,14 +14,14 @@ use Rattle.paper.specs.Frame.{byte, le, frameHead, frameBody, frameBytes, skipp
 use Rattle.paper.specs.Hearing.{Id, Prefix, bit, bitsOf, counting, begins, before, one, garble, selectPayload, clean, frames, hear}
 use Rattle.paper.specs.Talk.{select}
 use Rattle.paper.specs.Walk.{_>>=_, long, ask, isNothing, sameId, isOne, confirmRest, confirm, keep, judge, walk, insert, sort, discover, done, run}
-use Rattle.lore.proofs.Bits.{bits-length}
-use Rattle.theory.proofs.Bits.{bits-cons}
-use Rattle.theory.proofs.Carried.{Telling, heard-small}
-use Rattle.theory.proofs.Matched.{matching-yes, matching-not, matching-extends}
-use Rattle.theory.proofs.Matching.{begins-splits}
-use Rattle.theory.proofs.OneLength.{discover-exact}
-use Rattle.records.specs.Served.{Wire, discovered, resting, heardBy, Honest, Finds, devices}
-use Rattle.records.proofs.Devices.{pods-honest}
+use Rattle.paper.proofs.Bits.{bits-length}
+use Rattle.theory.proofs.frames.IdBits.{bits-cons}
+use Rattle.theory.proofs.walk.CarriedIds.{Telling, heard-small}
+use Rattle.theory.proofs.walk.MatchingIds.{matching-yes, matching-not, matching-extends}
+use Rattle.theory.proofs.walk.PrefixMatches.{begins-splits}
+use Rattle.theory.proofs.walk.OneLength.{discover-exact}
+use Rattle.refinement.specs.ClientServed.{Wire, discovered, resting, heardBy, Honest, Finds, devices}
+use Rattle.refinement.proofs.wire.DevicesHonest.{pods-honest}
 use Rattle.acceptance.proofs.Condition3 as Condition3
 use Rattle.acceptance.proofs.Discoveries.{selectRoom}
 use Rattle.acceptance.proofs.Instances.{attached}

@@ -12,7 +12,7 @@ use Rattle.paper.specs.Flash.{accepted, transact, refuseIf, inform, eraseOne, e
 use Rattle.paper.specs.Frame.{le, number, crcBit, crcByte, crcFrom, check, Frame, whole, frameHead, frameBody, frameBytes, skipped, rightCheck, readSized, readSynced, read, Info, infoOf}
 use Rattle.paper.specs.Hearing.{Id}
 use Rattle.paper.specs.Talk.{_>>=_, each, knows}
-use Rattle.theory.specs.Driven.{Round}
+use Rattle.theory.specs.ClientDriven.{Round}
 use Rattle.theory.specs.FlashOrder.{Event, heard, failed, unanswered, readEvent, play, toldBy, toldIn, told, Flashed, Ended, most, erasesMost, flashMost}
 use Rattle.image.specs.Images.{codeInfo}
 use Rattle.client.specs.declared.Client.{Client}
@@ -20,8 +20,8 @@ use Rattle.client.specs.declared.Job.the-variants.{Writing}
 use Rattle.client.specs.declared.Phase.the-variants.{Demand}
 use Rattle.client.specs.declared.Turn.the-variants.{Waiting}
 use Rattle.client.specs.Clients.{turned}
-use Rattle.telling.specs.Telling.{record′}
-use Rattle.records.specs.Served.{resting}
+use Rattle.client_record.specs.Record.{record′}
+use Rattle.refinement.specs.ClientServed.{resting}
 use Rattle.acceptance.proofs.Condition2 as Condition2
 
 -- A device: capacity 6, erase_size 4, no key, max_payload 4.

@@ -6,13 +6,13 @@ use mathlib.Core.Path.{_≡_, _∙_, ap}
 use native.Mathlib.Omega.{arith}
 use lib.ListN.{length, drop, length-append}
 use Rattle.paper.specs.Log.{output}
-use Rattle.listing.specs.declared.Answer.{Answer}
-use Rattle.listing.specs.Listing.{Placed, placed, text}
-use Rattle.replay.specs.Replays.{answer}
-use Rattle.events.specs.declared.Log.{Log}
-use Rattle.bench.specs.Machine.{Logged, begun, lastLine}
-use Rattle.bench.specs.Pieces.{Reached, concat}
-use Rattle.outputs.proofs.Output.{log-output}
+use Rattle.log_listing.specs.declared.Answer.{Answer}
+use Rattle.log_listing.specs.Listing.{Placed, placed, text}
+use Rattle.log_run.specs.Run.{answer}
+use Rattle.log_feed.specs.declared.events.Log.{Log}
+use Rattle.log_feed.specs.FeedMachine.{Logged, begun, lastLine}
+use Rattle.log_feed.specs.Pieces.{Reached, concat}
+use Rattle.log_theory.proofs.Output.{log-output}
 use Rattle.bench_log.specs.Reports.{Reports}
 
 pub reported : (w : Log) (a : Answer) (n : ℕ) (buf₀ buf before after : List ℕ) → length buf₀ ≡ 4096 → Reached (record { log = begun; bytes = buf₀ }) (record { log = w; bytes = buf })

@@ -4,8 +4,8 @@ use Prim.Native.Nat.{ℕ}
 use mathlib.Core.List.{List}
 use mathlib.Core.Path.{_≡_}
 use Rattle.paper.specs.Log.{output}
-use Rattle.listing.specs.Listing.{placed}
-use Rattle.bench.specs.Pieces.{concat}
+use Rattle.log_listing.specs.Listing.{placed}
+use Rattle.log_feed.specs.Pieces.{concat}
 
 -- Some pieces were read, and document 01's output of them, one after the other, stands at the front of the buffer.
 pub record Reports (before : List ℕ) (n : ℕ) (after : List ℕ) : Type 0 where

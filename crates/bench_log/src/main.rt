@@ -1,8 +1,8 @@
 // The bench log: standard input to standard output.
-ghost use Rattle.bench.specs.Machine.{Logged, begun};
-ghost use Rattle.bench.specs.Pieces.{Reached};
+ghost use Rattle.log_feed.specs.FeedMachine.{Logged, begun};
+ghost use Rattle.log_feed.specs.Pieces.{Reached};
 ghost use Rattle.bench_log.specs.Reports.{Reports};
-use events::Log;
+use log_feed::events::Log;
 use libc::STDIN_FILENO;
 use libc::STDOUT_FILENO;
 
@@ -20,7 +20,7 @@ fn pump(log: Log, page: &mut [u8], buf: &mut [u8]) -> Pumped
         return Pumped { more: false, log };
     }
     let n = io::count(got, page);
-    let next = bench::feed(log, &page[..n], buf);
+    let next = log_feed::feed(log, &page[..n], buf);
     Pumped {
         more: true,
         log: next,
@@ -32,7 +32,7 @@ fn pump(log: Log, page: &mut [u8], buf: &mut [u8]) -> Pumped
 fn pump_all(page: &mut [u8], buf: &mut [u8]) -> Log
     ensures { λ r. ⌜ Reached (record { log = begun; bytes = now (buf .entry) }) (record { log = r; bytes = now (buf .exit) }) ⌝ }
 {
-    let mut log = bench::begun();
+    let mut log = log_feed::begun();
     let mut turns = u64::MAX;
     while turns > 0 {
         let p = pump(log, page, buf);
@@ -51,8 +51,8 @@ fn report(page: &mut [u8], buf: &mut [u8; 4096], out: &mut [u8; 2121]) -> usize
     ensures { λ r. ⌜ Reports (now (out .entry)) r (now (out .exit)) ⌝ }
 {
     let log = pump_all(page, buf);
-    let answer = bench::finish(log, buf);
-    listing::show(answer, out)
+    let answer = log_feed::finish(log, buf);
+    log_listing::show(answer, out)
 }
 
 fn main() {

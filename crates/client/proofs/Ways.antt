@@ -7,8 +7,8 @@ use mathlib.Core.Path.{_≡_, refl, _∙_, ap}
 use borrow.Author.Tests.{ne-eqb}
 use Rattle.ids.specs.declared.Id.{Id}
 use Rattle.ids.specs.Ids.{noId}
-use Rattle.table.specs.declared.Table.{Table}
-use Rattle.table.specs.Rows.{noTable, giving}
+use Rattle.walk_table.specs.declared.Table.{Table}
+use Rattle.walk_table.specs.Rows.{noTable, giving}
 use Rattle.walk.specs.declared.Walk.{Walk}
 use Rattle.walk.specs.declared.Place.{Place}
 use Rattle.walk.specs.Moves.{placeOf, walkOf, noWalk, begin}

@@ -5,8 +5,8 @@ use mathlib.Core.Bool.{Bool, true, false, not}
 use lib.Dec.{eqb}
 use Rattle.ids.specs.declared.Id.{Id}
 use Rattle.ids.specs.Ids.{noId}
-use Rattle.table.specs.declared.Table.{Table}
-use Rattle.table.specs.Rows.{noTable}
+use Rattle.walk_table.specs.declared.Table.{Table}
+use Rattle.walk_table.specs.Rows.{noTable}
 use Rattle.walk.specs.declared.Walk.{Walk}
 use Rattle.walk.specs.declared.Phase as Walk
 use Rattle.walk.specs.Moves.{noWalk}

@@ -13,8 +13,8 @@ use Rattle.paper.specs.Hearing.{nothing, one, unaddressed, garble}
 use Rattle.paper.specs.Talk.{quiet, heard, attached, found, knows}
 use Rattle.ids.specs.declared.Id.{Id}
 use Rattle.ids.specs.Ids.{idOf}
-use Rattle.table.specs.declared.Table.{Table}
-use Rattle.table.specs.Rows.{rows}
+use Rattle.walk_table.specs.declared.Table.{Table}
+use Rattle.walk_table.specs.Rows.{rows}
 use Rattle.hearing.specs.declared.Heard.{Heard}
 use Rattle.hearing.specs.Heard.{onHeard}
 use Rattle.image.specs.declared.Compat.{Compat}

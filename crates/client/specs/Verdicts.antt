@@ -3,8 +3,8 @@
 use mathlib.Core.Bool.{Bool, cond}
 use Rattle.ids.specs.declared.Id.{Id}
 use Rattle.ids.specs.Ids.{noId}
-use Rattle.table.specs.declared.Table.{Table}
-use Rattle.table.specs.Rows.{noTable, keeping, giving}
+use Rattle.walk_table.specs.declared.Table.{Table}
+use Rattle.walk_table.specs.Rows.{noTable, keeping, giving}
 use Rattle.walk.specs.declared.Walk.{Walk}
 use Rattle.walk.specs.Moves.{placeOf, walkOf, noWalk, begin}
 use Rattle.client.specs.declared.Client.{Client}

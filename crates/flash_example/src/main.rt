@@ -72,7 +72,7 @@ fn told(c: Client, command: u8) -> Client {
     if room.len() < n {
         return c;
     }
-    let t = telling::record(c, b"abcde", &room[0..n]);
+    let t = client_record::record(c, b"abcde", &room[0..n]);
     let says = t.says;
     let progress = t.progress;
     print_progress(progress);
@@ -83,7 +83,7 @@ fn told(c: Client, command: u8) -> Client {
 // One request and its answer.
 fn round(c: Client) -> Client {
     let mut room = [0u8; 64];
-    let s = asking::request(c, b"abcde", &mut room);
+    let s = client_request::request(c, b"abcde", &mut room);
     let says = s.says;
     let next = s.client;
     if let Says::Granted(n) = says {
@@ -95,7 +95,7 @@ fn round(c: Client) -> Client {
 }
 
 fn main() {
-    let s = starting::start_flash(Client::new(), b"abcde");
+    let s = client_start::start_flash(Client::new(), b"abcde");
     let mut c = s.client;
     let mut i = 0u64;
     while i < 6 {

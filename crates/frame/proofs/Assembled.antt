@@ -11,7 +11,7 @@ use borrow.Author.Tests.{lt-ltb, le-ltb}
 use borrow.Rule.Slice.PartMut.{putMid}
 use Rattle.paper.specs.Frame.{le, check, Frame, frameHead, frameBody, frameBytes}
 use Rattle.lore.proofs.Parts.{part-all, mid-all}
-use Rattle.lore.proofs.Frames.{head-length, body-length, frame-length}
+use Rattle.paper.proofs.Frames.{head-length, body-length, frame-length}
 use Rattle.wire.specs.declared.Placed.the-variants.{Done, Short}
 use Rattle.frame.specs.declared.Head.{Head}
 use Rattle.frame.specs.Writing.{frameOf, tagOf, headOf, placed}

@@ -16,7 +16,7 @@ use Rattle.reader.proofs.Reading.{the-type}
 use lib.Seq.{drop-drop}
 use lib.Dec.{eqb}
 use borrow.Author.Tests.{ne-eqb}
-use Rattle.lore.proofs.Readings.{Read, read-known, frames-first, frames-none}
+use Rattle.paper.proofs.Readings.{Read, read-known, frames-first, frames-none}
 use Rattle.paper.specs.Frame as Paper
 use Rattle.paper.specs.Frame.{read, size, short, tooLong, badCheck, whole}
 use Rattle.paper.specs.Hearing.{hear, frames, replies, alone, onSome, clean, one, unaddressed, garble}

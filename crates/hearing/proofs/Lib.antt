@@ -1,4 +1,4 @@
-pub mod Shows
 pub mod Answers
-pub mod Ways
 pub mod Hears
+pub mod Shows
+pub mod Ways

@@ -7,7 +7,7 @@ use mathlib.Core.Path.{_≡_, refl, sym, _∙_, ap}
 use native.Mathlib.Omega.{arith}
 use native.Mathlib.Nat.{add-assoc}
 use lib.ListN.{length, drop, length-drop}
-use Rattle.lore.proofs.Readings.{framed, read-known}
+use Rattle.paper.proofs.Readings.{framed, read-known}
 use Rattle.paper.specs.Frame as Paper
 use Rattle.paper.specs.Frame.{read, size, short, tooLong, badCheck, whole}
 use Rattle.reader.specs.declared.Frame.{Frame}

@@ -1,5 +1,5 @@
-pub mod Shift
+pub mod Instances
 pub mod Laws
 pub mod Pack
+pub mod Shift
 pub mod Ways
-pub mod Instances

@@ -10,7 +10,7 @@ use native.Mathlib.Omega.{arith}
 use lib.ListN.{length, take, drop, length-drop}
 use Rattle.paper.specs.Hearing.{binary, packed}
 use Rattle.paper.specs.Walk.{_▹_}
-use Rattle.lore.proofs.Packed.{binary-below, binary-more, packed-short, more-short, more-long}
+use Rattle.paper.proofs.Packed.{binary-below, binary-more, packed-short, more-short, more-long}
 use Rattle.ids.specs.Ids.{withOne, setBit}
 
 binary-one : (q : List Bool) → binary (q ▹ true) ≡ withOne (binary q) (length q)

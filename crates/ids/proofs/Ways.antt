@@ -15,7 +15,7 @@ use Rattle.paper.specs.Walk.{sameId}
 use Rattle.paper.specs.Hearing.{bit, bitsOf, before}
 use Rattle.lore.proofs.Lists.{drop-replicate}
 use Rattle.lore.proofs.Copy.{copy-done}
-use Rattle.lore.proofs.Bits.{bits-length, bits-at}
+use Rattle.paper.proofs.Bits.{bits-length, bits-at}
 use Rattle.ids.specs.Ids.{bitOf, idFrom}
 
 -- The size of an id in 16 bytes.

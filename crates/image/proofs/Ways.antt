@@ -14,7 +14,7 @@ use borrow.Author.Tests.{lt-ltb, le-ltb, le-leb, lt-leb, eq-eqb, ne-eqb}
 use Rattle.paper.specs.Frame as Paper
 use Rattle.paper.specs.Frame.{field}
 use Rattle.paper.specs.Answers.{sound, informed, spansTooFar, steps, key, sameKey, incompatible, chunk}
-use Rattle.lore.proofs.Rows.{below-nil, below-still, below-cons}
+use Rattle.paper.proofs.Addresses.{below-nil, below-still, below-cons}
 use Rattle.image.specs.declared.Info.{Info}
 use Rattle.image.specs.declared.Informed.the-variants.{Sound, BadInfo}
 use Rattle.image.specs.declared.Compat.{Compat}

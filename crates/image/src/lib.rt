@@ -1,4 +1,5 @@
 // The device information and the rules on images: key, chunk, padding, size, erase addresses.
+pub mod writes;
 ghost use mathlib.Core.Path.{_≡_};
 ghost use Prim.Native.Nat.{_+_, _≤_};
 ghost use lib.ListN.{length};

@@ -1,15 +1,4 @@
 pub mod Choice
-pub mod Chunks
-pub mod Words
 pub mod Copy
 pub mod Lists
 pub mod Parts
-pub mod Rows
-pub mod Bits
-pub mod Hex
-pub mod Fields
-pub mod Frames
-pub mod Readings
-pub mod Answered
-pub mod Packed
-pub mod Instances

@@ -1,1 +1,1 @@
-// Laws that every crate needs and the kit lacks: byte order over the width, choices, copies, parts of lists. No code.
+// Laws on lists and choices that several crates need and the kit lacks. No code.

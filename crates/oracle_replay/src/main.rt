@@ -11,10 +11,10 @@ use hearing::Heard;
 use ids::Id;
 use image::Info;
 use libc::STDIN_FILENO;
-use lines::Event;
-use lines::Place;
-use lines::Reader;
-use table::Table;
+use log_lines::Event;
+use log_lines::Place;
+use log_lines::Reader;
+use walk_table::Table;
 
 // The client, whether an operation's line is next, and the length of the image that is flashed.
 struct Run {
@@ -127,7 +127,7 @@ fn print_request(room: &[u8], n: usize) {
 // The next request, asked for and printed.
 fn ask(c: Client, image: &[u8]) -> Client {
     let mut room = [0u8; 1036];
-    let s = asking::request(c, image, &mut room);
+    let s = client_request::request(c, image, &mut room);
     let says = s.says;
     let next = s.client;
     if let Says::Granted(n) = says {
@@ -178,41 +178,41 @@ fn wide(b: u8) -> usize {
 fn start(c: Client, code: u8, args: &[u8]) -> Started {
     if code == 1 {
         if args.len() < 1 {
-            return starting::start_deselect(c);
+            return client_start::start_deselect(c);
         }
-        return starting::start_select(c, &args[1..], wide(args[0]));
+        return client_start::start_select(c, &args[1..], wide(args[0]));
     }
     if code == 2 {
-        return starting::start_deselect(c);
+        return client_start::start_deselect(c);
     }
     if code == 3 {
-        return starting::start_attach(c);
+        return client_start::start_attach(c);
     }
     if code == 4 {
-        return starting::start_attach_to(c, args);
+        return client_start::start_attach_to(c, args);
     }
     if code == 5 {
-        return starting::start_discover(c, args);
+        return client_start::start_discover(c, args);
     }
     if code == 6 {
-        return starting::start_info(c);
+        return client_start::start_info(c);
     }
     if code == 7 {
-        return starting::start_erase(c);
+        return client_start::start_erase(c);
     }
     if code == 8 {
-        return starting::start_flash(c, args);
+        return client_start::start_flash(c, args);
     }
     if args.len() < 2 {
-        return starting::start_deselect(c);
+        return client_start::start_deselect(c);
     }
     if code == 9 {
-        return starting::start_reset(c, args[0] == 1, args[1] == 1);
+        return client_start::start_reset(c, args[0] == 1, args[1] == 1);
     }
     if args.len() < 3 {
-        return starting::start_deselect(c);
+        return client_start::start_deselect(c);
     }
-    starting::start_set_baud(c, args[2], args[0] == 1, args[1] == 1)
+    client_start::start_set_baud(c, args[2], args[0] == 1, args[1] == 1)
 }
 
 // A line: the operation that a run opens with, or a record.
@@ -240,7 +240,7 @@ fn line(run: Run, bytes: &[u8], image: &mut [u8]) -> Run {
         return run;
     }
     let n = run.size;
-    let t = telling::record(c, &image[0..n], args);
+    let t = client_record::record(c, &image[0..n], args);
     Run {
         client: told(t, &image[0..n]),
         opens: false,

@@ -17,8 +17,8 @@ use borrow.Rule.Slice.PartMut.{putMid}
 use Rattle.paper.specs.Frame.{le, check, frameBytes}
 use Rattle.paper.specs.Hearing.{bit, bitsOf, packed, selectPayload, selectFrame}
 use Rattle.paper.specs.Walk.{_▹_}
-use Rattle.lore.proofs.Bits.{bits-length, bits-at}
-use Rattle.lore.proofs.Packed.{packed-length, packed-zero, packed-none}
+use Rattle.paper.proofs.Bits.{bits-length, bits-at}
+use Rattle.paper.proofs.Packed.{packed-length, packed-zero, packed-none}
 use Rattle.lore.proofs.Parts.{part-all, mid-all}
 use Rattle.ids.specs.Ids.{bitOf, withOne, setBit}
 use Rattle.ids.proofs.Shift.{one-shl, or-shl}

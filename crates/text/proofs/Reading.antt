@@ -14,7 +14,7 @@ use lib.Seq.{drop-cons, drop-drop, drop-set-lt, take-suc-set, length-take-le}
 use borrow.Author.Tests.{lt-leb, le-leb}
 use Rattle.paper.specs.Hearing.{onSome}
 use Rattle.paper.specs.Text.{digit, unhex, parseUid}
-use Rattle.lore.proofs.Hex.{digit-number, digit-upper, digit-small, digit-other, unhex-pair, unhex-bad-high, unhex-bad-low}
+use Rattle.paper.proofs.Hex.{digit-number, digit-upper, digit-small, digit-other, unhex-pair, unhex-bad-high, unhex-bad-low}
 use Rattle.ids.proofs.Ways.{id-is}
 use Rattle.ids.specs.declared.Id.{Id}
 use Rattle.text.specs.declared.Parsed.{Parsed}

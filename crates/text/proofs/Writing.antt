@@ -11,7 +11,7 @@ use mir.Syntax.{w8}
 use mir.Val.{Fits}
 use borrow.Author.Tests.{lt-ltb, le-ltb}
 use Rattle.paper.specs.Text.{hexDigit, hexText, uidHex}
-use Rattle.lore.proofs.Hex.{hexText-length, hexText-append}
+use Rattle.paper.proofs.Hex.{hexText-length, hexText-append}
 use Rattle.wire.specs.declared.Written.the-variants.{Done, Short, TooLong}
 use Rattle.text.specs.Texts.{Outcome, written}
 

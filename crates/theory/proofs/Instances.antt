@@ -7,8 +7,8 @@ use mathlib.Core.Option.{none, some}
 use mathlib.Core.Path.{_≡_, refl, ap}
 use native.Mathlib.Omega.{arith}
 use lib.ListN.{length, replicate}
-use Rattle.lore.proofs.Words.{Bytes}
-use Rattle.lore.proofs.Chunks.{chunk-least}
+use Rattle.paper.proofs.Words.{Bytes}
+use Rattle.paper.proofs.Chunks.{chunk-least}
 use Rattle.paper.specs.Answers.{ok, answered, answerFrom, answer, sound, spansTooFar, steps, apart, below, eraseAddresses, chunk}
 use Rattle.paper.specs.Client as Paper
 use Rattle.paper.specs.Count.{matching, heardOf, honest, All, Distinct, Pods, selects}
@@ -19,33 +19,33 @@ use Rattle.paper.specs.Talk.{return, Answered, knows, _>>=_}
 use Rattle.paper.specs.Text.{hexDigit, digit, hexText, unhex, parseUid}
 use Rattle.paper.specs.Walk as Paper-walk
 use Rattle.paper.specs.Walk.{long, ask, isNothing, sameId, isOne, confirmRest, confirm, keep, judge, walk, insert, sort, discover, done, run}
-use Rattle.theory.specs.Clients as Machine
-use Rattle.theory.specs.Clients.{waiting}
+use Rattle.theory.specs.ClientMachine as Machine
+use Rattle.theory.specs.ClientMachine.{waiting}
 use Rattle.theory.specs.FlashOrder.{Checked}
-use Rattle.theory.specs.Host.{Round, hostRun}
-use Rattle.theory.specs.Machine.{mine, State, step, start}
-use Rattle.theory.specs.Own.{Apart, ownSelects, Sorted}
-use Rattle.theory.specs.Phases as Phases
-use Rattle.theory.specs.Phases.{demanding}
-use Rattle.theory.proofs.Checks.{check-fits}
-use Rattle.theory.proofs.Exact.{discover-apart}
-use Rattle.theory.proofs.Fits as Walk
-use Rattle.theory.proofs.Fits.{step-fits, start-fits}
-use Rattle.theory.proofs.FlashVerify.{verdict, verify-only, verify-if}
-use Rattle.theory.proofs.Frames.{Fits, read-written, written-read, fits-read}
-use Rattle.theory.proofs.Heard.{hear-reply, hear-ok, hear-unsupported, hear-other, hear-echo, frames-fuel, answer-fuel, answer-reply, answer-echo}
-use Rattle.theory.proofs.Images.{addresses-fit, capacity-fits, addresses-below}
-use Rattle.theory.proofs.Keeping as Keeping
-use Rattle.theory.proofs.Keeping.{turn-sound, record-fits}
-use Rattle.theory.proofs.Kept.{Listed, kept-listed, kept-distinct}
-use Rattle.theory.proofs.Matched.{matching-extends}
-use Rattle.theory.proofs.Most.{own-most, selects-most}
-use Rattle.theory.proofs.OneLength.{discover-exact}
-use Rattle.theory.proofs.Order.{before-total, before-antisym, before-trans}
-use Rattle.theory.proofs.Rests.{host-moves}
-use Rattle.theory.proofs.Sent.{Sends, discover-sends, discover-alike}
-use Rattle.theory.proofs.Talking.{SoundTurn, paperOf, toldOf, record-sim}
-use Rattle.theory.proofs.Text.{lowerCase, lower, parse-of-written, written-of-parsed, parsed-even, parsed-short, parsed-bytes}
+use Rattle.theory.specs.RestKept.{Round, hostRun}
+use Rattle.theory.specs.WalkMachine.{mine, State, step, start}
+use Rattle.theory.specs.PrefixFree.{Apart, ownSelects, Sorted}
+use Rattle.theory.specs.OperationMachine as Phases
+use Rattle.theory.specs.OperationMachine.{demanding}
+use Rattle.theory.proofs.frames.CheckParts.{check-fits}
+use Rattle.theory.proofs.walk.FindsExactly.{discover-apart}
+use Rattle.theory.proofs.walk.StatesFit as Walk
+use Rattle.theory.proofs.walk.StatesFit.{step-fits, start-fits}
+use Rattle.theory.proofs.flash.VerifySucceeds.{verdict, verify-only, verify-if}
+use Rattle.theory.proofs.frames.FramesReadBack.{Fits, read-written, written-read, fits-read}
+use Rattle.theory.proofs.frames.RecordsHeard.{hear-reply, hear-ok, hear-unsupported, hear-other, hear-echo, frames-fuel, answer-fuel, answer-reply, answer-echo}
+use Rattle.theory.proofs.flash.EraseAddresses.{addresses-fit, capacity-fits, addresses-below}
+use Rattle.theory.proofs.client.ClientsFit as Keeping
+use Rattle.theory.proofs.client.ClientsFit.{turn-sound, record-fits}
+use Rattle.theory.proofs.walk.ListedIds.{Listed, kept-listed, kept-distinct}
+use Rattle.theory.proofs.walk.MatchingIds.{matching-extends}
+use Rattle.theory.proofs.walk.CountAtMost.{own-most, selects-most}
+use Rattle.theory.proofs.walk.OneLength.{discover-exact}
+use Rattle.theory.proofs.walk.IdOrder.{before-total, before-antisym, before-trans}
+use Rattle.theory.proofs.talk.UnreadRest.{host-moves}
+use Rattle.theory.proofs.walk.SelectsSent.{Sends, discover-sends, discover-alike}
+use Rattle.theory.proofs.client.MachineIsClient.{SoundTurn, paperOf, toldOf, record-sim}
+use Rattle.theory.proofs.frames.TextReadsBack.{lowerCase, lower, parse-of-written, written-of-parsed, parsed-even, parsed-short, parsed-bytes}
 
 -- "Text \"123456789\" has check 29B1."
 pub check-fits-met : check (49 ∷ 50 ∷ 51 ∷ 52 ∷ 53 ∷ 54 ∷ 55 ∷ 56 ∷ 57 ∷ []) < 65536

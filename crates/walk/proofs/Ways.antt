@@ -10,9 +10,9 @@ use lib.Seq.{set-out}
 use borrow.Author.Tests.{le-leb, lt-leb, eq-eqb, ne-eqb, not-true, not-false}
 use Rattle.ids.specs.declared.Id.{Id}
 use Rattle.ids.specs.Ids.{setBit, idOf, noId}
-use Rattle.path.specs.Paths.{cut}
-use Rattle.table.specs.declared.Table.{Table}
-use Rattle.table.specs.Rows.{noTable}
+use Rattle.ids.specs.Paths.{cut}
+use Rattle.walk_table.specs.declared.Table.{Table}
+use Rattle.walk_table.specs.Rows.{noTable}
 use Rattle.walk.specs.declared.Walk.{Walk}
 use Rattle.walk.specs.declared.Place.{Place}
 use Rattle.walk.specs.declared.Phase.{Phase}

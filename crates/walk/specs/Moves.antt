@@ -8,9 +8,9 @@ use lib.Dec.{leb, eqb}
 use Rattle.paper.specs.Hearing.{bitsOf}
 use Rattle.ids.specs.declared.Id.{Id}
 use Rattle.ids.specs.Ids.{setBit, idOf, noId}
-use Rattle.path.specs.Paths.{cut}
-use Rattle.table.specs.declared.Table.{Table}
-use Rattle.table.specs.Rows.{noTable}
+use Rattle.ids.specs.Paths.{cut}
+use Rattle.walk_table.specs.declared.Table.{Table}
+use Rattle.walk_table.specs.Rows.{noTable}
 use Rattle.walk.specs.declared.Walk.{Walk}
 use Rattle.walk.specs.declared.Place.{Place}
 use Rattle.walk.specs.declared.Phase.{Phase}

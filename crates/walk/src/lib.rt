@@ -1,11 +1,11 @@
 // The walk's record on its fixed arrays, its place (all of it but the list): the moves, and what the next Select asks for.
 use ids::Id;
-use table::Table;
+use walk_table::Table;
 ghost use mathlib.Core.Path.{_≡_};
 ghost use Prim.Native.Nat.{_≤_, _<_};
 ghost use lib.ListN.{length};
-ghost use Rattle.table.specs.declared.Table.{Table};
-ghost use Rattle.table.specs.Rows.{noTable};
+ghost use Rattle.walk_table.specs.declared.Table.{Table};
+ghost use Rattle.walk_table.specs.Rows.{noTable};
 ghost use Rattle.walk.specs.Moves.{placeOf, walkOf, noWalk, begin, markAt, mark, lower, turn, climb, holding, nobody, child, asks};
 
 pub struct Walk {
@@ -167,7 +167,7 @@ impl Place {
         let mut d = self.depth;
         while mark_at(&marks, d) == 2 {
             d -= 1;
-            let cut = path::cut(path, d);
+            let cut = ids::path::cut(path, d);
             path = cut;
             marks[d] = 0;
         }

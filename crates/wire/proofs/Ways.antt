@@ -7,8 +7,8 @@ use native.Mathlib.Omega.{arith}
 use lib.ListN.{length, take, drop, set}
 use lib.Seq.{sets-eq}
 use Rattle.paper.specs.Frame.{le}
-use Rattle.lore.proofs.Words.{le-8}
-use Rattle.lore.proofs.Fields.{num, behind}
+use Rattle.paper.proofs.Words.{le-8}
+use Rattle.paper.proofs.Fields.{num, behind}
 
 pub put-one : (b : List ℕ) (at x : ℕ) → at + 1 ≤ length b → set b at x ≡ take at b ++ (x ∷ []) ++ drop (at + 1) b
 put-one b at x room = sets-eq (x ∷ []) b at room

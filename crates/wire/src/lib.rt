@@ -1,4 +1,5 @@
 // What both sides of the wire share: document 01's numbers, little-endian numbers in slices, bytes copied and filled, a writer's answer.
+pub mod arrays;
 ghost use mathlib.Core.Path.{_≡_};
 ghost use mathlib.Core.List.{[], _∷_, _++_};
 ghost use Prim.Native.Nat.{_+_, _≤_, _<_};

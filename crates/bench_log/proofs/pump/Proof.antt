@@ -1,6 +1,6 @@
 -- `bench_log::pump` meets its contract.
 -- Assumes nothing.
-use Rattle.bench.proofs.Reach.{nothing-fed, one-fed}
+use Rattle.log_feed.proofs.Reach.{nothing-fed, one-fed}
 use borrow.Author.Needs.{needs}
 use Rattle.bench_log.proofs.pump.Statement.{statement}
 use Rattle.bench_log.proofs.pump.Tie as tie

@@ -3,9 +3,9 @@
 use borrow.Author.Needs.{needs}
 use mathlib.Core.Path.{_≡_}
 use lib.ListN.{length}
-use Rattle.bench.specs.Machine.{begun}
-use Rattle.bench.specs.Pieces.{Reached}
-use Rattle.bench.proofs.Reach.{at-begin, pumped}
+use Rattle.log_feed.specs.FeedMachine.{begun}
+use Rattle.log_feed.specs.Pieces.{Reached}
+use Rattle.log_feed.proofs.Reach.{at-begin, pumped}
 use Rattle.bench_log.proofs.pump_all.Statement.{statement}
 use Rattle.bench_log.proofs.pump_all.Tie as tie
 

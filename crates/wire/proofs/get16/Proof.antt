@@ -1,6 +1,6 @@
 -- `wire::get16` meets its contract.
 -- Assumes nothing.
-use Rattle.lore.proofs.Words.{field-2}
+use Rattle.paper.proofs.Words.{field-2}
 use borrow.Author.Needs.{needs}
 use Rattle.wire.proofs.get16.Statement.{statement}
 use Rattle.wire.proofs.get16.Tie as tie

@@ -1,6 +1,6 @@
 -- `wire::get32` meets its contract.
 -- Assumes nothing.
-use Rattle.lore.proofs.Words.{field-4}
+use Rattle.paper.proofs.Words.{field-4}
 use borrow.Author.Needs.{needs}
 use Rattle.wire.proofs.get32.Statement.{statement}
 use Rattle.wire.proofs.get32.Tie as tie

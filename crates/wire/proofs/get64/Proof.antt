@@ -1,6 +1,6 @@
 -- `wire::get64` meets its contract.
 -- Assumes nothing.
-use Rattle.lore.proofs.Words.{field-8}
+use Rattle.paper.proofs.Words.{field-8}
 use borrow.Author.Needs.{needs}
 use Rattle.wire.proofs.get64.Statement.{statement}
 use Rattle.wire.proofs.get64.Tie as tie

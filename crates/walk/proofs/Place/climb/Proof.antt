@@ -5,7 +5,7 @@ use Prim.Native.Nat.{_≤_}
 use lib.ListN.{length}
 use mathlib.Core.Path.{_≡_}
 use borrow.Author.Needs.{needs}
-use Rattle.table.specs.declared.Table.{Table}
+use Rattle.walk_table.specs.declared.Table.{Table}
 use Rattle.walk.specs.Moves.{walkOf, climb}
 use Rattle.walk.proofs.Place.climb.Statement.{statement}
 use Rattle.walk.proofs.Place.climb.Tie as tie

@@ -1,0 +1,196 @@
+// What a job makes of the one answer to its request.
+use client::Job;
+use client::Outcome;
+use client::Progress;
+use client::Purpose;
+use client::Refusal;
+use image::Erase;
+use image::Info;
+use image::Informed;
+ghost use mathlib.Core.Path.{_≡_};
+ghost use Rattle.client_job.specs.Job.{quietly, refusing, erases, judged, prepared, informed, writes, cleared, erased, wrote, repeated, verified, accepted, declined};
+
+// The operation goes on with another job, has ended, or is refused.
+pub enum Then {
+    On(Job),
+    Over(Outcome),
+    Refused(Refusal),
+}
+
+pub struct Next {
+    pub progress: Progress,
+    pub then: Then,
+}
+
+// With no progress to report.
+fn quietly(then: Then) -> Next
+    ensures { λ r. ⌜ r ≡ quietly then ⌝ }
+{
+    Next {
+        progress: Progress::None,
+        then,
+    }
+}
+
+fn refusing(r: Refusal) -> Next
+    ensures { λ n. ⌜ n ≡ refusing r ⌝ }
+{
+    quietly(Then::Refused(r))
+}
+
+// The first Erase, if every address has 32 bits.
+fn erases(why: Purpose, info: Info) -> Then
+    ensures { λ r. ⌜ r ≡ erases why info ⌝ }
+{
+    if info.spans_too_far() {
+        return Then::Refused(Refusal::SpansTooFar);
+    }
+    Then::On(Job::Erasing(why, info, 0))
+}
+
+// The device holds the image, and takes it.
+fn judged(n: usize, info: Info, image: &[u8]) -> Then
+    ensures { λ r. ⌜ r ≡ judged n info (now (image .entry)) ⌝ }
+{
+    if info.too_large(n) {
+        return Then::Refused(Refusal::FirmwareTooLarge(image::reported(n), info.capacity));
+    }
+    if info.incompatible(image) {
+        let key = image::image_compat(image);
+        return Then::Refused(Refusal::Incompatible(info.compat, key));
+    }
+    erases(Purpose::Load(n), info)
+}
+
+fn prepared(why: Purpose, info: Info, image: &[u8]) -> Then
+    ensures { λ r. ⌜ r ≡ prepared why info (now (image .entry)) ⌝ }
+{
+    match why {
+        Purpose::Tell => Then::Over(Outcome::Knows(info)),
+        Purpose::Clear => erases(why, info),
+        Purpose::Load(n) => judged(n, info, image),
+    }
+}
+
+// Info's answer.
+fn informed(why: Purpose, payload: &[u8], image: &[u8]) -> Then
+    ensures { λ r. ⌜ r ≡ informed why (now (payload .entry)) (now (image .entry)) ⌝ }
+{
+    let i = image::device_info(payload);
+    match i {
+        Informed::Sound(info) => prepared(why, info, image),
+        Informed::BadInfo => Then::Refused(Refusal::BadInfo),
+    }
+}
+
+// The first Write; of no image, Verify.
+fn writes(n: usize, info: Info) -> Then
+    ensures { λ r. ⌜ r ≡ writes n info ⌝ }
+{
+    if n == 0 {
+        return Then::On(Job::Verifying(n, info));
+    }
+    Then::On(Job::Writing(n, info, 0, 0))
+}
+
+// After the last Erase.
+fn cleared(why: Purpose, info: Info) -> Then
+    ensures { λ r. ⌜ r ≡ cleared why info ⌝ }
+{
+    match why {
+        Purpose::Tell => Then::Over(Outcome::Knows(info)),
+        Purpose::Clear => Then::Over(Outcome::Knows(info)),
+        Purpose::Load(n) => writes(n, info),
+    }
+}
+
+// An Erase's answer: the next one, or what follows the last.
+fn erased(why: Purpose, info: Info, address: u32) -> Next
+    ensures { λ r. ⌜ r ≡ erased why info address ⌝ }
+{
+    let progress = Progress::Made(
+        address as u64 + info.erase_size as u64,
+        info.capacity as u64,
+    );
+    let e = info.erase_after(address);
+    match e {
+        Erase::At(next) => Next {
+            progress,
+            then: Then::On(Job::Erasing(why, info, next)),
+        },
+        Erase::Done => Next {
+            progress,
+            then: cleared(why, info),
+        },
+    }
+}
+
+// A Write's answer: the next one, or Verify after the last.
+fn wrote(info: Info, offset: u64, image: &[u8]) -> Next
+    ensures { λ r. ⌜ r ≡ wrote info offset (now (image .entry)) ⌝ }
+{
+    let n = image.len();
+    let progress = Progress::Made(image::writes::chunks_to(info, offset), image::writes::chunks(info, n));
+    if image::writes::last(info, n, offset) {
+        return Next {
+            progress,
+            then: Then::On(Job::Verifying(n, info)),
+        };
+    }
+    let next = offset + info.chunk() as u64;
+    Next {
+        progress,
+        then: Then::On(Job::Writing(n, info, next, 0)),
+    }
+}
+
+// A Write answered with status 3 is repeated, 16 times at most.
+fn repeated(n: usize, info: Info, offset: u64, retries: u8) -> Then
+    ensures { λ r. ⌜ r ≡ repeated n info offset retries ⌝ }
+{
+    if retries < 16 {
+        return Then::On(Job::Writing(n, info, offset, retries + 1));
+    }
+    Then::Refused(Refusal::RetriesSpent)
+}
+
+// Verify's answer: the device's check beside that of the image lent now.
+fn verified(info: Info, payload: &[u8], image: &[u8]) -> Then
+    ensures { λ r. ⌜ r ≡ verified info (now (payload .entry)) (now (image .entry)) ⌝ }
+{
+    if payload.len() < 2 {
+        return Then::Refused(Refusal::ShortVerify);
+    }
+    let expected = crc::crc16(crc::START, image);
+    let actual = wire::get16(payload, 0);
+    if expected == actual {
+        return Then::Over(Outcome::Knows(info));
+    }
+    Then::Refused(Refusal::CrcMismatch(expected, actual))
+}
+
+// An answer of status Ok, with its payload.
+pub fn accepted(job: Job, payload: &[u8], image: &[u8]) -> Next
+    ensures { λ r. ⌜ r ≡ accepted job (now (payload .entry)) (now (image .entry)) ⌝ }
+{
+    match job {
+        Job::Informing(why) => quietly(informed(why, payload, image)),
+        Job::Erasing(why, info, address) => erased(why, info, address),
+        Job::Writing(_, info, offset, _) => wrote(info, offset, image),
+        Job::Verifying(_, info) => quietly(verified(info, payload, image)),
+        Job::Resetting(_) => quietly(Then::Over(Outcome::Quiet)),
+    }
+}
+
+// An answer of another status, or one with a bad check, which counts as status 3.
+pub fn declined(job: Job, status: u8) -> Next
+    ensures { λ r. ⌜ r ≡ declined job status ⌝ }
+{
+    let Job::Writing(n, info, offset, retries) = job else {
+        return refusing(Refusal::Device(status));
+    };
+    if status == wire::CRC_MISMATCH {
+        return quietly(repeated(n, info, offset, retries));
+    }
+    refusing(Refusal::Device(status))
+}

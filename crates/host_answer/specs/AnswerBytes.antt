@@ -1,0 +1,46 @@
+-- An answer as 1,179 bytes: its numbers in their order, each in its width, lowest byte first; then the id and the ids beside it.
+-- Assumes nothing.
+use Prim.Native.Nat.{ℕ}
+use mathlib.Core.List.{List, [], _∷_, _++_}
+use lib.ListN.{take, drop}
+use Rattle.paper.specs.Frame.{le}
+use Rattle.ids.specs.declared.Id.{Id}
+use Rattle.walk_table.specs.declared.Table.{Table}
+use Rattle.client.specs.declared.Says.{Says}
+use Rattle.client.specs.declared.Progress.{Progress}
+use Rattle.host_turn_bytes.specs.TurnBytes.{flag, savedInfo}
+use Rattle.host_state.specs.State.{savedId, savedTable}
+use Rattle.host_answer.specs.declared.numbers.Note.{Note}
+use Rattle.host_answer.specs.declared.numbers.Gain.{Gain}
+use Rattle.host_answer.specs.Numbers.{noteOf, gainOf}
+
+-- How many bytes an answer takes.
+abbrev pub size : ℕ
+size = 1179
+
+-- From 0: the number, says, outcome, heard, any, made, key, and a byte that is not used.
+unfoldable pub tagged : Note → Gain → List ℕ
+tagged n g = n .number ∷ n .says ∷ n .outcome ∷ n .heard ∷ flag (n .any) ∷ flag (g .made) ∷ flag (n .key) ∷ 0 ∷ []
+
+-- From 8: the rest, 16 the length, 24 done, 32 total.
+unfoldable pub sizes : Note → Gain → ℕ → List ℕ
+sizes n g rest = le 8 rest ++ le 8 (n .length) ++ le 8 (g .done) ++ le 8 (g .total)
+
+-- From 40: first, 44 second.
+unfoldable pub pair : Note → List ℕ
+pair n = le 4 (n .first) ++ le 4 (n .second)
+
+-- From 48: the device information.
+unfoldable pub numbered : Note → Gain → ℕ → List ℕ
+numbered n g rest = tagged n g ++ sizes n g rest ++ pair n ++ savedInfo (n .info)
+
+-- From 66: the id, 83 the ids found.
+unfoldable pub shown : Says → Progress → Id → Table → ℕ → List ℕ
+shown says progress x t rest = numbered (noteOf says) (gainOf progress) rest ++ savedId x ++ savedTable t
+
+-- The first 83 bytes; and an answer's bytes with another list, all else as it is.
+unfoldable pub fronted : Note → Progress → Id → ℕ → List ℕ
+fronted n progress x rest = numbered n (gainOf progress) rest ++ savedId x
+
+unfoldable pub listed : Table → List ℕ → List ℕ
+listed t a = take 83 a ++ savedTable t ++ drop size a

@@ -1,0 +1,2 @@
+pub mod AnswerBytes
+pub mod Numbers

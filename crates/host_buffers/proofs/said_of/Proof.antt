@@ -1,0 +1,18 @@
+-- `host_buffers::said_of` meets its contract.
+-- Assumes nothing.
+use Rattle.host_buffers.proofs.Ways.{said-long, said-heard}
+use borrow.Author.Needs.{needs}
+use Rattle.host_buffers.proofs.said_of.Statement.{statement}
+use Rattle.host_buffers.proofs.said_of.Tie as tie
+
+long-requires : tie.Need-long-requires
+long-requires c κs = search needs
+
+returns : tie.Need-returns
+returns c = search (said-long, needs)
+
+returns-2 : tie.Need-returns-2
+returns-2 c = search (said-heard, needs)
+
+pub said-of-spec : {M : Type 1} → statement M
+said-of-spec = tie.close (tie.spec long-requires returns returns-2)

@@ -1,0 +1,4 @@
+pub mod InPlace
+pub mod Instances
+pub mod Laws
+pub mod Ways

@@ -1,0 +1,10 @@
+pub mod ByteArrays
+pub mod CallsChain
+pub mod ClientFits
+pub mod JobsFit
+pub mod NumbersFit
+pub mod BuffersRead
+pub mod RefusedBytes
+pub mod TableFits
+pub mod TurnFits
+pub mod WalkFits

@@ -1,0 +1,175 @@
+-- The exported calls, one after the other: what each leaves in the buffers lent, its code, and the client's own answer that they hold.
+-- Assumes nothing.
+use Prim.Native.Nat.{ℕ, _<_, _≤_, _^_}
+use mathlib.Core.List.{List, [], _∷_}
+use mathlib.Core.Option.{none, some}
+use mathlib.Core.Path.{_≡_}
+use lib.ListN.{length, drop}
+use Rattle.paper.specs.Frame.{byte, field}
+use Rattle.paper.proofs.Words.{Bytes}
+use Rattle.client.specs.declared.Client.{Client}
+use Rattle.client.specs.declared.Started.{Started}
+use Rattle.client.specs.declared.Told.{Told}
+use Rattle.client.specs.Numbers.{saysOf}
+use Rattle.client_start.specs.Start as Code
+use Rattle.client_request.specs.Request as Code₂
+use Rattle.client_record.specs.Record as Code₃
+use Rattle.refinement.specs.Calls.{Call, startSelect, startDeselect, startAttach, startDiscover, startInfo, startErase, startFlash, startReset, startSetBaud, request, record′, linkFailed, Good, Answer, codeAnswer}
+use Rattle.host_turn_bytes.specs.TurnBytes.{flagged, loadedInfo}
+use Rattle.host_state.specs.State as State
+use Rattle.host_state.specs.State.{loaded, loadedId, loadedTable}
+use Rattle.host_answer.specs.declared.numbers.Note.{Note}
+use Rattle.host_answer.specs.declared.numbers.Gain.{Gain}
+use Rattle.host_answer.specs.Numbers.{saysIn, progressIn}
+use Rattle.host_answer.specs.AnswerBytes as Answers
+use Rattle.host_buffers.specs.Codes.{coded}
+use Rattle.host_buffers.specs.Hosts.{Exported, Requested, toldBy, leaves, handed}
+use Rattle.host_buffers.specs.Exports as Export
+
+-- What the types of the arguments give: an image or a record that is lent has a length of 64 bits, and an image and a baud are bytes.
+abbrev pub Lent : Call → Type 0
+Lent (startSelect bytes bits) = Unit {0}
+Lent startDeselect = Unit {0}
+Lent (startAttach uid) = Unit {0}
+Lent (startDiscover given) = Unit {0}
+Lent startInfo = Unit {0}
+Lent startErase = Unit {0}
+Lent (startFlash image) = length image < 2 ^ 64
+Lent (startReset bootloader inBoot) = Unit {0}
+Lent (startSetBaud baud bootloader inBoot) = baud < 256
+Lent (request image buffer) = length image < 2 ^ 64
+Lent (record′ image bytes) = ((length image < 2 ^ 64) × Bytes image) × (length bytes < 2 ^ 64)
+Lent linkFailed = Unit {0}
+
+-- The request's buffer that a call is lent.
+abbrev pub bufferOf : Call → List ℕ
+bufferOf (startSelect bytes bits) = []
+bufferOf startDeselect = []
+bufferOf (startAttach uid) = []
+bufferOf (startDiscover given) = []
+bufferOf startInfo = []
+bufferOf startErase = []
+bufferOf (startFlash image) = []
+bufferOf (startReset bootloader inBoot) = []
+bufferOf (startSetBaud baud bootloader inBoot) = []
+bufferOf (request image buffer) = buffer
+bufferOf (record′ image bytes) = []
+bufferOf linkFailed = []
+
+-- What the exported function of a call leaves of a state, of an answer's buffer and of the request's.
+abbrev pub bufferless : Exported → Requested
+bufferless e = handed e []
+
+unfoldable pub exported : List ℕ → List ℕ → Call → Requested
+exported s a (startSelect bytes bits) = bufferless (Export.startSelect s bytes bits a)
+exported s a startDeselect = bufferless (Export.startDeselect s a)
+exported s a (startAttach none) = bufferless (Export.startAttach s a)
+exported s a (startAttach (some bytes)) = bufferless (Export.startAttachTo s bytes a)
+exported s a (startDiscover given) = bufferless (Export.startDiscover s given a)
+exported s a startInfo = bufferless (Export.startInfo s a)
+exported s a startErase = bufferless (Export.startErase s a)
+exported s a (startFlash image) = bufferless (Export.startFlash s image a)
+exported s a (startReset bootloader inBoot) = bufferless (Export.startReset s bootloader inBoot a)
+exported s a (startSetBaud baud bootloader inBoot) = bufferless (Export.startSetBaud s baud bootloader inBoot a)
+exported s a (request image buffer) = Export.request s image buffer a
+exported s a (record′ image bytes) = bufferless (Export.record′ s image bytes a)
+exported s a linkFailed = bufferless (Export.linkFailed s a)
+
+-- A call, with the buffer that is lent for its answer.
+pub record Lending : Type 0 where
+  pub call : Call
+  pub answer : List ℕ
+
+pub record Fair (x : Lending) : Type 0 where
+  pub bytes : Good (x .call)
+  pub lengths : Lent (x .call)
+  pub room : Answers.size ≤ length (x .answer)
+
+-- One after the other: each is lent the state as the one before left it.
+unfoldable pub exports : List ℕ → List Lending → List Requested
+exports s [] = []
+exports s (x ∷ xs) = exported s (x .answer) (x .call) ∷ exports (exported s (x .answer) (x .call) .state) xs
+
+-- The state after them.
+unfoldable pub stateAfter : List ℕ → List Lending → List ℕ
+stateAfter s [] = s
+stateAfter s (x ∷ xs) = stateAfter (exported s (x .answer) (x .call) .state) xs
+
+-- The client's own answer to a call, and the request's buffer after it.
+pub record Made : Type 0 where
+  pub told : Told
+  pub buffer : List ℕ
+
+abbrev startedBy : Started → Made
+startedBy s = record { told = toldBy s; buffer = [] }
+
+abbrev askedBy : Code₂.Asking → Made
+askedBy x = record { told = toldBy (x .answer); buffer = x .bytes }
+
+abbrev toldAs : Told → Made
+toldAs t = record { told = t; buffer = [] }
+
+unfoldable pub made : Client → Call → Made
+made c (startSelect bytes bits) = startedBy (Code.startSelect c bytes bits)
+made c startDeselect = startedBy (Code.startDeselect c)
+made c (startAttach none) = startedBy (Code.startAttach c)
+made c (startAttach (some bytes)) = startedBy (Code.startAttachTo c bytes)
+made c (startDiscover given) = startedBy (Code.startDiscover c given)
+made c startInfo = startedBy (Code.startInfo c)
+made c startErase = startedBy (Code.startErase c)
+made c (startFlash image) = startedBy (Code.startFlash c image)
+made c (startReset bootloader inBoot) = startedBy (Code.startReset c bootloader inBoot)
+made c (startSetBaud baud bootloader inBoot) = startedBy (Code.startSetBaud c baud bootloader inBoot)
+made c (request image buffer) = askedBy (Code₂.request c image buffer)
+made c (record′ image bytes) = toldAs (Code₃.record′ c image bytes)
+made c linkFailed = toldAs (Code₃.linkFailed c)
+
+-- An answer in the buffers that are lent: as a call leaves it.
+unfoldable pub held : List ℕ → List ℕ → Made → Requested
+held s a m = handed (leaves (m .told) s a) (m .buffer)
+
+-- What some calls leave, one after the other, on the state and the client reached so far.
+unfoldable pub heldBy : List ℕ → Client → List Lending → List Requested
+heldBy s c [] = []
+heldBy s c (x ∷ xs) = held s (x .answer) (made c (x .call)) ∷ heldBy (held s (x .answer) (made c (x .call)) .state) (made c (x .call) .told .client) xs
+
+-- An answer read as document 01's, with the seed and the attached id after it.
+unfoldable pub readAs : Made → Answer
+readAs m = codeAnswer (record { says = saysOf (m .told .says) (m .told .progress) (m .told .id) (m .told .found); rest = m .told .rest; buffer = m .buffer }, m .told .client)
+
+-- What a host reads in an answer's bytes.
+unfoldable pub loadedNote : List ℕ → Note
+loadedNote b = record {
+  number = byte 0 b;
+  says = byte 1 b;
+  outcome = byte 2 b;
+  heard = byte 3 b;
+  any = flagged (byte 4 b);
+  key = flagged (byte 6 b);
+  length = field 16 8 b;
+  first = field 40 4 b;
+  second = field 44 4 b;
+  info = loadedInfo 48 b;
+}
+
+unfoldable pub loadedGain : List ℕ → Gain
+loadedGain b = record { made = flagged (byte 5 b); done = field 24 8 b; total = field 32 8 b }
+
+-- What it reads in all that a call leaves.
+unfoldable pub readFrom : Requested → Answer
+readFrom e = codeAnswer (
+  record {
+    says = saysOf (saysIn (loadedNote (e .answer))) (progressIn (loadedGain (e .answer))) (loadedId 66 (e .answer)) (loadedTable 83 (e .answer));
+    rest = field 8 8 (e .answer);
+    buffer = e .buffer;
+  },
+  loaded (e .state),
+)
+
+-- A code that is the number and the length in the answer.
+abbrev pub Coded : Requested → Type 0
+Coded e = e .code ≡ coded (byte 0 (e .answer)) (field 16 8 (e .answer))
+
+-- What stands behind the state and behind the answer.
+abbrev pub behind : Requested → List ℕ × List ℕ
+behind e = (drop State.size (e .state), drop Answers.size (e .answer))

@@ -1,0 +1,15 @@
+-- `host_turn::jobless` meets its contract.
+-- Assumes nothing.
+use Rattle.host_turn.proofs.Ways.{jobless-is}
+use borrow.Author.Needs.{needs}
+use Rattle.host_turn.proofs.jobless.Statement.{statement}
+use Rattle.host_turn.proofs.jobless.Tie as tie
+
+no-info-requires : tie.Need-no-info-requires
+no-info-requires c κs = search needs
+
+returns : tie.Need-returns
+returns c = search (jobless-is, needs)
+
+pub jobless-spec : {M : Type 1} → statement M
+jobless-spec = tie.close (tie.spec no-info-requires returns)

@@ -1,0 +1,68 @@
+-- A turn's numbers as 50 bytes: each in its width, lowest byte first; and the numbers that bytes hold from a place on.
+-- Assumes nothing.
+use Prim.Native.Nat.{ℕ, _+_}
+use mathlib.Core.Bool.{Bool, cond}
+use mathlib.Core.List.{List, [], _∷_, _++_}
+use lib.Dec.{eqb}
+use Rattle.paper.specs.Frame.{le, byte, field}
+use Rattle.image.specs.declared.Info.{Info}
+use Rattle.client.specs.declared.Reset.{Reset}
+use Rattle.host_turn.specs.declared.Flat.{Flat}
+
+abbrev pub flag : Bool → ℕ
+flag b = cond b 1 0
+
+-- A byte other than 1 is no.
+abbrev pub flagged : ℕ → Bool
+flagged n = eqb n 1
+
+unfoldable pub tags : Flat → List ℕ
+tags f = f .turn ∷ f .kind ∷ f .search ∷ flag (f .given) ∷ f .step ∷ flag (f .other) ∷ f .job ∷ f .purpose ∷ []
+
+unfoldable pub geometry : Info → List ℕ
+geometry i = le 4 (i .capacity) ++ le 2 (i .«erase_size») ++ le 2 (i .«boot_version») ++ le 2 (i .«app_version»)
+
+unfoldable pub savedInfo : Info → List ℕ
+savedInfo i = geometry i ++ (i .mode ∷ []) ++ (i .«boot_baud» ∷ []) ++ le 4 (i .compat) ++ le 2 (i .«max_payload»)
+
+unfoldable pub savedReset : Reset → List ℕ
+savedReset z = (flag (z .bootloader) ∷ []) ++ (flag (z .given) ∷ []) ++ (z .baud ∷ [])
+
+unfoldable pub work : Flat → List ℕ
+work f = le 4 (f .address) ++ le 8 (f .offset) ++ (f .retries ∷ []) ++ savedReset (f .reset)
+
+unfoldable pub savedFlat : Flat → List ℕ
+savedFlat f = tags f ++ le 8 (f .size) ++ savedInfo (f .info) ++ work f
+
+unfoldable pub loadedInfo : ℕ → List ℕ → Info
+loadedInfo at b = record {
+  capacity = field at 4 b;
+  «erase_size» = field (at + 4) 2 b;
+  «boot_version» = field (at + 6) 2 b;
+  «app_version» = field (at + 8) 2 b;
+  mode = byte (at + 10) b;
+  «boot_baud» = byte (at + 11) b;
+  compat = field (at + 12) 4 b;
+  «max_payload» = field (at + 16) 2 b;
+}
+
+unfoldable pub loadedReset : ℕ → List ℕ → Reset
+loadedReset at b = record { bootloader = flagged (byte at b); given = flagged (byte (at + 1) b); baud = byte (at + 2) b }
+
+unfoldable pub loadedFlat : ℕ → List ℕ → Flat
+loadedFlat at b = record {
+  turn = byte at b;
+  kind = byte (at + 1) b;
+  search = byte (at + 2) b;
+  given = flagged (byte (at + 3) b);
+  step = byte (at + 4) b;
+  other = flagged (byte (at + 5) b);
+  job = byte (at + 6) b;
+  purpose = byte (at + 7) b;
+  size = field (at + 8) 8 b;
+  info = loadedInfo (at + 16) b;
+  address = field (at + 34) 4 b;
+  offset = field (at + 38) 8 b;
+  retries = byte (at + 46) b;
+  reset = loadedReset (at + 47) b;
+}

@@ -1,0 +1,139 @@
+// A turn's numbers in 50 bytes: saved at a place of a buffer, and loaded from one.
+use client::Reset;
+use host_turn::Flat;
+use image::Info;
+ghost use mathlib.Core.Path.{_≡_};
+ghost use mathlib.Core.List.{_++_};
+ghost use Prim.Native.Nat.{_+_, _≤_};
+ghost use lib.ListN.{length, take, drop};
+ghost use Rattle.host_turn_bytes.specs.TurnBytes.{flag, tags, geometry, savedInfo, savedReset, work, savedFlat, loadedInfo, loadedReset, loadedFlat};
+
+pub fn flag(b: bool) -> u8
+    ensures { λ r. ⌜ r ≡ flag b ⌝ }
+{
+    if b { 1 } else { 0 }
+}
+
+fn load_info(bytes: &[u8], at: usize) -> Info
+    requires { ⌜ at + 18 ≤ length (now bytes) ⌝ }
+    ensures { λ r. ⌜ r ≡ loadedInfo at (now (bytes .entry)) ⌝ }
+{
+    Info {
+        capacity: wire::get32(bytes, at),
+        erase_size: wire::get16(bytes, at + 4),
+        boot_version: wire::get16(bytes, at + 6),
+        app_version: wire::get16(bytes, at + 8),
+        mode: bytes[at + 10],
+        boot_baud: bytes[at + 11],
+        compat: wire::get32(bytes, at + 12),
+        max_payload: wire::get16(bytes, at + 16),
+    }
+}
+
+fn load_reset(bytes: &[u8], at: usize) -> Reset
+    requires { ⌜ at + 3 ≤ length (now bytes) ⌝ }
+    ensures { λ r. ⌜ r ≡ loadedReset at (now (bytes .entry)) ⌝ }
+{
+    Reset {
+        bootloader: bytes[at] == 1,
+        given: bytes[at + 1] == 1,
+        baud: bytes[at + 2],
+    }
+}
+
+pub fn load_flat(bytes: &[u8], at: usize) -> Flat
+    requires { ⌜ at + 50 ≤ length (now bytes) ⌝ }
+    ensures { λ r. ⌜ r ≡ loadedFlat at (now (bytes .entry)) ⌝ }
+{
+    let info = load_info(bytes, at + 16);
+    let reset = load_reset(bytes, at + 47);
+    Flat {
+        turn: bytes[at],
+        kind: bytes[at + 1],
+        search: bytes[at + 2],
+        given: bytes[at + 3] == 1,
+        step: bytes[at + 4],
+        other: bytes[at + 5] == 1,
+        job: bytes[at + 6],
+        purpose: bytes[at + 7],
+        size: wire::get64(bytes, at + 8) as usize,
+        info,
+        address: wire::get32(bytes, at + 34),
+        offset: wire::get64(bytes, at + 38),
+        retries: bytes[at + 46],
+        reset,
+    }
+}
+
+fn save_tags(bytes: &mut [u8], at: usize, f: Flat)
+    requires { ⌜ at + 8 ≤ length (now bytes) ⌝ }
+    ensures { λ _. ⌜ now (bytes .exit) ≡ take at (now (bytes .entry)) ++ tags f ++ drop (at + 8) (now (bytes .entry)) ⌝ }
+{
+    let given = flag(f.given);
+    let other = flag(f.other);
+    let x = [
+        f.turn,
+        f.kind,
+        f.search,
+        given,
+        f.step,
+        other,
+        f.job,
+        f.purpose,
+    ];
+    wire::arrays::put_8(bytes, at, x);
+}
+
+// The capacity, the erase size and the versions.
+fn save_geometry(bytes: &mut [u8], at: usize, i: Info)
+    requires { ⌜ at + 10 ≤ length (now bytes) ⌝ }
+    ensures { λ _. ⌜ now (bytes .exit) ≡ take at (now (bytes .entry)) ++ geometry i ++ drop (at + 10) (now (bytes .entry)) ⌝ }
+{
+    wire::put32(bytes, at, i.capacity);
+    wire::put16(bytes, at + 4, i.erase_size);
+    wire::put16(bytes, at + 6, i.boot_version);
+    wire::put16(bytes, at + 8, i.app_version);
+}
+
+pub fn save_info(bytes: &mut [u8], at: usize, i: Info)
+    requires { ⌜ at + 18 ≤ length (now bytes) ⌝ }
+    ensures { λ _. ⌜ now (bytes .exit) ≡ take at (now (bytes .entry)) ++ savedInfo i ++ drop (at + 18) (now (bytes .entry)) ⌝ }
+{
+    save_geometry(bytes, at, i);
+    wire::put8(bytes, at + 10, i.mode);
+    wire::put8(bytes, at + 11, i.boot_baud);
+    wire::put32(bytes, at + 12, i.compat);
+    wire::put16(bytes, at + 16, i.max_payload);
+}
+
+fn save_reset(bytes: &mut [u8], at: usize, z: Reset)
+    requires { ⌜ at + 3 ≤ length (now bytes) ⌝ }
+    ensures { λ _. ⌜ now (bytes .exit) ≡ take at (now (bytes .entry)) ++ savedReset z ++ drop (at + 3) (now (bytes .entry)) ⌝ }
+{
+    wire::put8(bytes, at, flag(z.bootloader));
+    wire::put8(bytes, at + 1, flag(z.given));
+    wire::put8(bytes, at + 2, z.baud);
+}
+
+// Where an erase, a write or a reset stands.
+fn save_work(bytes: &mut [u8], at: usize, f: Flat)
+    requires { ⌜ at + 16 ≤ length (now bytes) ⌝ }
+    ensures { λ _. ⌜ now (bytes .exit) ≡ take at (now (bytes .entry)) ++ work f ++ drop (at + 16) (now (bytes .entry)) ⌝ }
+{
+    let reset = f.reset;
+    wire::put32(bytes, at, f.address);
+    wire::put64(bytes, at + 4, f.offset);
+    wire::put8(bytes, at + 12, f.retries);
+    save_reset(bytes, at + 13, reset);
+}
+
+pub fn save_flat(bytes: &mut [u8], at: usize, f: Flat)
+    requires { ⌜ at + 50 ≤ length (now bytes) ⌝ }
+    ensures { λ _. ⌜ now (bytes .exit) ≡ take at (now (bytes .entry)) ++ savedFlat f ++ drop (at + 50) (now (bytes .entry)) ⌝ }
+{
+    let info = f.info;
+    save_tags(bytes, at, f);
+    wire::put64(bytes, at + 8, f.size as u64);
+    save_info(bytes, at + 16, info);
+    save_work(bytes, at + 34, f);
+}

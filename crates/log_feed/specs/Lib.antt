@@ -1,0 +1,3 @@
+pub mod FeedMachine
+pub mod Pieces
+pub mod Events

@@ -1,0 +1,204 @@
+// A discovery over the records of a log: the line that opens it, then what each record makes of the client.
+use client::Client;
+use client::Outcome;
+use client::Says;
+use log_listing::Answer;
+use walk_table::Table;
+ghost use mathlib.Core.Path.{_≡_};
+ghost use Rattle.log_run.specs.Run.{outcome, code, isEnded, isGranted, isOnward, begun, ended, asked, goes, opens, takes, answer};
+
+// Line one is still to come; a Select is out; the run has ended with an answer.
+pub enum Stage {
+    First,
+    Running,
+    Ended(u8),
+}
+
+pub struct Replay {
+    pub client: Client,
+    pub stage: Stage,
+    pub selects: u16,
+    pub found: Table,
+}
+
+fn outcome(o: Outcome) -> u8
+    ensures { λ n. ⌜ n ≡ outcome o ⌝ }
+{
+    match o {
+        Outcome::Quiet => 0,
+        Outcome::Heard(_) => 0,
+        Outcome::Attached(_) => 0,
+        Outcome::Found => 0,
+        Outcome::Knows(_) => 0,
+        Outcome::Unaddressed => 23,
+    }
+}
+
+// The number that a run ends with.
+pub fn code(says: Says) -> u8
+    ensures { λ n. ⌜ n ≡ code says ⌝ }
+{
+    match says {
+        Says::Granted(_) => 0,
+        Says::Closing(_) => 0,
+        Says::Onward => 0,
+        Says::Over(o) => outcome(o),
+        Says::Refused(r) => client::number(r),
+    }
+}
+
+pub fn is_ended(stage: Stage) -> bool
+    ensures { λ r. ⌜ r ≡ isEnded stage ⌝ }
+{
+    match stage {
+        Stage::First => false,
+        Stage::Running => false,
+        Stage::Ended(_) => true,
+    }
+}
+
+pub fn begun() -> Replay
+    ensures { λ r. ⌜ r ≡ begun ⌝ }
+{
+    let client = Client::new();
+    let found = Table::none();
+    Replay {
+        client,
+        stage: Stage::First,
+        selects: 0,
+        found,
+    }
+}
+
+pub fn ended(client: Client, selects: u16, found: Table, code: u8) -> Replay
+    ensures { λ r. ⌜ r ≡ ended client selects found code ⌝ }
+{
+    Replay {
+        client,
+        stage: Stage::Ended(code),
+        selects,
+        found,
+    }
+}
+
+fn is_granted(says: Says) -> bool
+    ensures { λ r. ⌜ r ≡ isGranted says ⌝ }
+{
+    match says {
+        Says::Granted(_) => true,
+        Says::Closing(_) => false,
+        Says::Onward => false,
+        Says::Over(_) => false,
+        Says::Refused(_) => false,
+    }
+}
+
+fn is_onward(says: Says) -> bool
+    ensures { λ r. ⌜ r ≡ isOnward says ⌝ }
+{
+    match says {
+        Says::Granted(_) => false,
+        Says::Closing(_) => false,
+        Says::Onward => true,
+        Says::Over(_) => false,
+        Says::Refused(_) => false,
+    }
+}
+
+// The next Select is asked for, and counted if it is handed out.
+fn asked(client: Client, selects: u16) -> Replay
+    ensures { λ r. ⌜ r ≡ asked client selects ⌝ }
+{
+    let none = [0u8; 1];
+    let mut room = [0u8; 64];
+    let s = client_request::request(client, &none[..0], &mut room);
+    let says = s.says;
+    let next = s.client;
+    let found = Table::none();
+    if is_granted(says) {
+        return Replay {
+            client: next,
+            stage: Stage::Running,
+            selects: std::num::wrapping_add_u16(selects, 1),
+            found,
+        };
+    }
+    ended(next, selects, found, code(says))
+}
+
+// After a call that goes on, the next Select; after any other, the end.
+fn goes(says: Says, client: Client, selects: u16, found: Table) -> Replay
+    ensures { λ r. ⌜ r ≡ goes says client selects found ⌝ }
+{
+    if is_onward(says) {
+        return asked(client, selects);
+    }
+    ended(client, selects, found, code(says))
+}
+
+impl Replay {
+    // The end, with all else as it was.
+    pub fn stops(self, code: u8) -> Replay
+        ensures { λ r. ⌜ r ≡ ended (self .client) (self .selects) (self .found) code ⌝ }
+    {
+        let client = self.client;
+        let found = self.found;
+        ended(client, self.selects, found, code)
+    }
+
+    // Line one: 01 and a prefix.
+    pub fn opens(self, line: &[u8]) -> Replay
+        ensures { λ r. ⌜ r ≡ opens self (now (line .entry)) ⌝ }
+    {
+        if line.len() == 0 {
+            return self.stops(22);
+        }
+        if line[0] != 1 {
+            return self.stops(22);
+        }
+        let client = self.client;
+        let s = client_start::start_discover(client, &line[1..]);
+        let says = s.says;
+        let next = s.client;
+        goes(says, next, self.selects, Table::none())
+    }
+
+    // A record.
+    pub fn takes(self, bytes: &[u8]) -> Replay
+        ensures { λ r. ⌜ r ≡ takes self (now (bytes .entry)) ⌝ }
+    {
+        let client = self.client;
+        let none = [0u8; 1];
+        let t = client_record::record(client, &none[..0], bytes);
+        let says = t.says;
+        let next = t.client;
+        let found = t.found;
+        goes(says, next, self.selects, found)
+    }
+
+    // The end of the input: no line one, or no record for the Select that is out.
+    pub fn answer(self) -> Answer
+        ensures { λ r. ⌜ r ≡ answer self ⌝ }
+    {
+        let s = self.stage;
+        let selects = self.selects;
+        let found = self.found;
+        match s {
+            Stage::First => Answer {
+                code: 22,
+                selects,
+                found,
+            },
+            Stage::Running => Answer {
+                code: 1,
+                selects,
+                found,
+            },
+            Stage::Ended(code) => Answer {
+                code,
+                selects,
+                found,
+            },
+        }
+    }
+}

@@ -1,0 +1,9 @@
+pub mod ByteSteps
+pub mod LineOne
+pub mod RecordsRead
+pub mod LinesLeft
+pub mod ReadToEnd
+pub mod WholeInput
+pub mod Output
+pub mod RecordsAreTalk
+pub mod CountFits

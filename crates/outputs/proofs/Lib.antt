@@ -1,3 +1,0 @@
-pub mod Within
-pub mod Talked
-pub mod Output

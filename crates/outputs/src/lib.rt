@@ -1,1 +1,0 @@
-// What the bench log writes is document 01's output of its input. No code.

@@ -1,0 +1,11 @@
+pub mod Answered
+pub mod Bits
+pub mod Chunks
+pub mod Fields
+pub mod Frames
+pub mod Hex
+pub mod Instances
+pub mod Packed
+pub mod Readings
+pub mod Addresses
+pub mod Words

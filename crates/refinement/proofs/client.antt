@@ -1,0 +1,10 @@
+pub mod CallsAreTalk
+pub mod Cases
+pub mod DrivenIsTalk
+pub mod UnreadRest
+pub mod JobAnswers
+pub mod Operations
+pub mod AnswersRead
+pub mod RequestBytes
+pub mod Starts
+pub mod RecordAnswers

@@ -1,0 +1,3 @@
+pub mod DevicesHonest
+pub mod Condition3
+pub mod ServedIsMachine

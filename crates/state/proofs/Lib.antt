@@ -1,4 +1,0 @@
-pub mod Ways
-pub mod Laws
-pub mod InPlace
-pub mod Instances

@@ -1,4 +1,0 @@
-pub mod Ways
-pub mod Blocks
-pub mod Rows
-pub mod Sorts

@@ -1,0 +1,4 @@
+pub mod DrivenIsTalk
+pub mod HeldIds
+pub mod ClientsFit
+pub mod MachineIsClient

@@ -1,0 +1,9 @@
+pub mod RequestsBounded
+pub mod WrittenBytes
+pub mod FramesFit
+pub mod FlashOrder
+pub mod VerifySucceeds
+pub mod HandedOut
+pub mod EraseAddresses
+pub mod DeviceInfo
+pub mod WriteOffsets

@@ -1,0 +1,5 @@
+pub mod TalkRules
+pub mod UnreadRest
+pub mod MachineIsTalk
+pub mod RequestSizes
+pub mod JobSteps

@@ -1,0 +1,271 @@
+// What each thing heard does to the walk: it goes on, with an id kept or not, is done, or ends before its time.
+// The list is not looked at: how many ids it holds is all that a step asks of it.
+use hearing::Heard;
+use ids::Id;
+use walk_table::Entry;
+use walk::Phase;
+use walk::Place;
+ghost use mathlib.Core.Path.{_≡_};
+ghost use mathlib.Core.Bool.{false};
+ghost use Prim.Native.Nat.{_≤_};
+ghost use Rattle.hearing.specs.Heard.{onHeard};
+ghost use Rattle.walk_table.specs.declared.Table.{Table};
+ghost use Rattle.walk.specs.declared.Phase.the-variants.{Other};
+ghost use Rattle.walk.specs.Moves.{walkOf};
+ghost use Rattle.walk_step.specs.Steps.{going, stopped, descend, leave, silent, kept, confirming, hears, mine, other, long, settled, tell, step};
+ghost use Rattle.walk_step.specs.Joined.{joined};
+
+// How a walk ends before its time: document 01's 12, 14 and 15, and its outcome 23.
+pub enum End {
+    DuplicateUid,
+    LongId,
+    TableFull,
+    Unaddressed,
+}
+
+// Where a walk goes on: what its next Select is for, and its place.
+pub struct Going {
+    pub phase: Phase,
+    pub place: Place,
+}
+
+pub enum Way {
+    On(Phase),
+    Keeps(Phase),
+    Done,
+    Stopped(End),
+}
+
+// What is decided of a walk: where it goes, its place there, and the entry that is kept.
+pub struct Move {
+    pub way: Way,
+    pub place: Place,
+    pub entry: Entry,
+}
+
+// No entry is kept.
+fn on(g: Going) -> Move
+    ensures { λ r. ⌜ ((t : Table) → joined r t ≡ going (g .phase) (walkOf (g .place) t)) ⌝ }
+{
+    let phase = g.phase;
+    let place = g.place;
+    let id = Id::none();
+    let entry = Entry { id };
+    Move {
+        way: Way::On(phase),
+        place,
+        entry,
+    }
+}
+
+// The walk has ended.
+fn ended(way: Way) -> Move
+    ensures { λ r. ⌜ r .way ≡ way ⌝ }
+{
+    let place = walk::no_place();
+    let id = Id::none();
+    let entry = Entry { id };
+    Move { way, place, entry }
+}
+
+fn stopped(end: End) -> Move
+    ensures { λ r. ⌜ ((t : Table) → joined r t ≡ stopped end) ⌝ }
+{
+    ended(Way::Stopped(end))
+}
+
+// Into the zero child, while there is a level left.
+fn descend(p: Place) -> Move
+    ensures { λ r. ⌜ ((t : Table) → joined r t ≡ descend (walkOf p t)) ⌝ }
+{
+    if 128 <= p.depth {
+        return stopped(End::DuplicateUid);
+    }
+    let place = p.lower();
+    on(Going {
+        phase: Phase::Asked,
+        place,
+    })
+}
+
+// The branch has ended.
+fn leave(p: Place) -> Going
+    requires { ⌜ p .depth ≤ 128 ⌝ }
+    ensures { λ r. ⌜ ((t : Table) → going (r .phase) (walkOf (r .place) t) ≡ leave (walkOf p t)) ⌝ }
+{
+    let q = p.climb();
+    if q.mark() == 1 {
+        let place = q.turn();
+        return Going {
+            phase: Phase::Asked,
+            place,
+        };
+    }
+    Going {
+        phase: Phase::Leaving,
+        place: q,
+    }
+}
+
+// Nothing was heard: after a zero child its sibling counts as garble.
+fn silent(p: Place) -> Move
+    requires { ⌜ p .depth ≤ 128 ⌝ }
+    ensures { λ r. ⌜ ((t : Table) → joined r t ≡ silent (walkOf p t)) ⌝ }
+{
+    if p.mark() == 1 {
+        return descend(p.turn());
+    }
+    on(leave(p))
+}
+
+// The id goes into the list of so many, while there is room.
+fn kept(p: Place, count: usize, id: Id) -> Move
+    requires { ⌜ p .depth ≤ 128 ⌝ }
+    ensures { λ r. ⌜ ((t : Table) → t .count ≡ count → joined r t ≡ kept (walkOf p t) id) ⌝ }
+{
+    if 64 <= count {
+        return stopped(End::TableFull);
+    }
+    let g = leave(p);
+    let phase = g.phase;
+    let place = g.place;
+    let entry = Entry { id };
+    Move {
+        way: Way::Keeps(phase),
+        place,
+        entry,
+    }
+}
+
+// An id that begins with the path.
+fn confirming(p: Place, count: usize, id: Id) -> Move
+    requires { ⌜ p .depth ≤ 128 ⌝ }
+    ensures { λ r. ⌜ ((t : Table) → t .count ≡ count → joined r t ≡ confirming (walkOf p t) id) ⌝ }
+{
+    let n = id.size();
+    if p.depth < 8 * n {
+        let place = p.holding(id);
+        return on(Going {
+            phase: Phase::Mine,
+            place,
+        });
+    }
+    kept(p, count, id)
+}
+
+fn hears(p: Place, count: usize, h: Heard, id: Id) -> Move
+    requires { ⌜ p .depth ≤ 128 ⌝ }
+    ensures { λ r. ⌜ ((t : Table) → t .count ≡ count → joined r t ≡ hears (walkOf p t) h id) ⌝ }
+{
+    match h {
+        Heard::Nothing => silent(p),
+        Heard::One => {
+            let path = p.path;
+            if ids::path::begins(id, path, p.depth) {
+                return confirming(p, count, id);
+            }
+            descend(p)
+        }
+        Heard::TooLong => stopped(End::LongId),
+        Heard::Unaddressed => stopped(End::Unaddressed),
+        Heard::Garble => descend(p),
+    }
+}
+
+// Both children have been asked.
+fn settled(p: Place, count: usize, held: bool) -> Move
+    requires { ⌜ p .depth ≤ 128 ⌝ }
+    ensures { λ r. ⌜ ((t : Table) → t .count ≡ count → joined r t ≡ settled (walkOf p t) held) ⌝ }
+{
+    let id = p.candidate;
+    let q = p.holding(Id::none());
+    if held {
+        return kept(q, count, id);
+    }
+    descend(q)
+}
+
+// With the candidate's other child to ask next, and whether the candidate was heard again in its own.
+fn going_other(p: Place, good: bool) -> Move
+    ensures { λ r. ⌜ ((t : Table) → joined r t ≡ going (Other good) (walkOf p t)) ⌝ }
+{
+    on(Going {
+        phase: Phase::Other(good),
+        place: p,
+    })
+}
+
+// Whether the candidate holds by what was heard in a child: by the first if nothing was, by the second if one was, else by neither.
+fn holds(h: Heard, nothing: bool, one: bool) -> bool
+    ensures { λ r. ⌜ r ≡ onHeard h nothing one false false false ⌝ }
+{
+    let neither = false;
+    match h {
+        Heard::Nothing => nothing,
+        Heard::One => one,
+        Heard::TooLong => neither,
+        Heard::Unaddressed => neither,
+        Heard::Garble => neither,
+    }
+}
+
+// The candidate's own child was asked: whether the candidate was heard again.
+fn mine(p: Place, h: Heard, id: Id) -> Move
+    ensures { λ r. ⌜ ((t : Table) → joined r t ≡ mine (walkOf p t) h id) ⌝ }
+{
+    if long(h) {
+        return stopped(End::LongId);
+    }
+    let x = p.candidate;
+    going_other(p, holds(h, false, id.same(x)))
+}
+
+// The other child was asked: the candidate holds if it was heard again in its own, and nothing in this one.
+fn other(p: Place, count: usize, good: bool, h: Heard) -> Move
+    requires { ⌜ p .depth ≤ 128 ⌝ }
+    ensures { λ r. ⌜ ((t : Table) → t .count ≡ count → joined r t ≡ other (walkOf p t) good h) ⌝ }
+{
+    if long(h) {
+        return stopped(End::LongId);
+    }
+    settled(p, count, holds(h, good, false))
+}
+
+fn tell(p: Place, count: usize, phase: Phase, h: Heard, id: Id) -> Move
+    requires { ⌜ p .depth ≤ 128 ⌝ }
+    requires { ⌜ count ≤ 64 ⌝ }
+    ensures { λ r. ⌜ ((t : Table) → t .count ≡ count → joined r t ≡ tell (walkOf p t) phase h id) ⌝ }
+{
+    match phase {
+        Phase::Asked => hears(p, count, h, id),
+        Phase::Mine => mine(p, h, id),
+        Phase::Other(good) => other(p, count, good, h),
+        Phase::Leaving => ended(Way::Done),
+    }
+}
+
+// An id over 16 bytes was heard.
+pub fn long(h: Heard) -> bool
+    ensures { λ r. ⌜ r ≡ long h ⌝ }
+{
+    match h {
+        Heard::Nothing => false,
+        Heard::One => false,
+        Heard::TooLong => true,
+        Heard::Unaddressed => false,
+        Heard::Garble => false,
+    }
+}
+
+// The whole step, of a walk at any place, with a list of any count, in any phase, on anything heard.
+pub fn step(p: Place, count: usize, phase: Phase, h: Heard, id: Id) -> Move
+    ensures { λ r. ⌜ ((t : Table) → t .count ≡ count → joined r t ≡ step (walkOf p t) phase h id) ⌝ }
+{
+    if 128 < p.depth {
+        return stopped(End::DuplicateUid);
+    }
+    if 64 < count {
+        return stopped(End::DuplicateUid);
+    }
+    tell(p, count, phase, h, id)
+}

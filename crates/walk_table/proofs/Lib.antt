@@ -1,0 +1,4 @@
+pub mod Blocks
+pub mod Rows
+pub mod Sorts
+pub mod Ways
