@@ -1,5 +1,5 @@
--- Document 01, "The bench log program": in whatever pieces the input is read, what is written is document 01's output of the whole input.
--- Assumes nothing.
+-- Document 01, "The bench log program": in whatever pieces the input is read, what is written is document 01's output
+-- of the whole input.
 use Prim.Native.Nat.{ℕ}
 use mathlib.Core.List.{List}
 use mathlib.Core.Path.{_≡_}

@@ -1,12 +1,11 @@
--- The customer's condition 1: every call takes any arguments and comes back; what is refused, in which order, and what a refusal leaves.
--- No call has a precondition, and each of these holds of every value of the client.
--- Assumes nothing.
+-- The customer's condition 1: every call takes any arguments and comes back; what is refused, in which order, and what
+-- a refusal leaves. No call has a precondition, and each of these holds of every value of the client.
 use Prim.Native.Nat.{ℕ}
 use mathlib.Core.Bool.{Bool, true, false, cond}
 use mathlib.Core.List.{List}
 use mathlib.Core.Path.{_≡_}
 use lib.ListN.{length}
-use Rattle.paper.specs.Client.{short}
+use Rattle.paper.specs.Client.{withinLongest}
 use Rattle.paper.specs.Frame.{frameBytes}
 use Rattle.ids.specs.Ids.{noId, idFrom}
 use Rattle.walk.specs.declared.Phase.the-variants.{Asked}
@@ -22,7 +21,8 @@ use Rattle.client.specs.declared.Search.the-variants.{Probing, Parting, Seeking
 use Rattle.client.specs.declared.Says.the-variants.{Refused}
 use Rattle.client.specs.declared.Turn.the-variants.{Idle, Ready, Waiting}
 use Rattle.client.specs.Clients.{begun, otherImage, refuses, stops}
-use Rattle.client_start.specs.Start.{startSelect, startDeselect, startAttach, startAttachTo, startDiscover, startInfo, startErase, startFlash, startReset, startSetBaud}
+use Rattle.client_start.specs.Start.{startSelect, startDeselect, startAttach, startAttachTo, startDiscover, startInfo}
+use Rattle.client_start.specs.Start.{startErase, startFlash, startReset, startSetBaud}
 use Rattle.client_request.specs.Request.{frameOf, withheld, granting, request}
 use Rattle.client_record.specs.Record.{answeredTo, record′, linkFailed}
 use Rattle.refinement.specs.Refusals.{keeps, parts, leaves, begins, goodCount, asking, resetPhase}
@@ -31,21 +31,30 @@ use Rattle.refinement.proofs.refused.Records as Records
 use Rattle.refinement.proofs.refused.Requests as Requests
 
 module _ (c : Client) where
-  -- The starts. 21 where an operation runs; else 13 exactly where the arguments are bad; else it begins, with the seed and the attached id as
-  -- they were. A start that is refused changes nothing.
+  -- The starts. 21 where an operation runs; else 13 exactly where the arguments are bad; else it begins, with the seed
+  -- and the attached id as they were. A start that is refused changes nothing.
   pub record Starts : Type 0 where
-    pub select : (prefix : List ℕ) (bits : ℕ) → startSelect c prefix bits ≡ begins c (goodCount prefix bits) (begun c (Ready (Select Probing)) (idFrom prefix) bits noWalk)
+    pub select : (prefix : List ℕ) (bits : ℕ)
+        → startSelect c prefix bits ≡ begins c (goodCount prefix bits)
+        (begun c (Ready (Select Probing)) (idFrom prefix) bits noWalk)
     pub deselect : startDeselect c ≡ begins c true (begun c (Ready (Select Parting)) noId 0 noWalk)
     pub attach : startAttach c ≡ begins c true (begun c (Ready (Select (Seeking false))) noId 0 noWalk)
-    pub attach-to : (prefix : List ℕ) → startAttachTo c prefix ≡ begins c (short prefix) (begun c (Ready (Select (Seeking true))) (idFrom prefix) 0 noWalk)
-    pub discover : (prefix : List ℕ) → startDiscover c prefix ≡ begins c (short prefix) (begun c (Ready (Select (Walking Asked))) noId 0 (begin (idFrom prefix)))
+    pub attach-to : (prefix : List ℕ)
+        → startAttachTo c prefix ≡ begins c (withinLongest prefix)
+        (begun c (Ready (Select (Seeking true))) (idFrom prefix) 0 noWalk)
+    pub discover : (prefix : List ℕ)
+        → startDiscover c prefix ≡ begins c (withinLongest prefix)
+        (begun c (Ready (Select (Walking Asked))) noId 0 (begin (idFrom prefix)))
     pub info : startInfo c ≡ begins c true (asking c (Demand (Informing Tell)))
     pub erase : startErase c ≡ begins c true (asking c (Demand (Informing Clear)))
-    pub flash : (image : List ℕ) → startFlash c image ≡ begins c true (asking c (Demand (Informing (Load (length image)))))
+    pub flash : (image : List ℕ) → startFlash c image
+        ≡ begins c true (asking c (Demand (Informing (Load (length image)))))
     pub reset : (bootloader inBoot : Bool)
-        → startReset c bootloader inBoot ≡ begins c true (asking c (resetPhase (record { bootloader = bootloader; given = false; baud = 0 }) inBoot))
+        → startReset c bootloader inBoot
+        ≡ begins c true (asking c (resetPhase (record { bootloader = bootloader; given = false; baud = 0 }) inBoot))
     pub set-baud : (baud : ℕ) (bootloader inBoot : Bool)
-        → startSetBaud c baud bootloader inBoot ≡ begins c true (asking c (resetPhase (record { bootloader = bootloader; given = true; baud = baud }) inBoot))
+        → startSetBaud c baud bootloader inBoot
+        ≡ begins c true (asking c (resetPhase (record { bootloader = bootloader; given = true; baud = baud }) inBoot))
 
   pub starts : Starts
   starts = record {
@@ -70,10 +79,12 @@ module _ (c : Client) where
       pub asked-waiting : (p : Phase) → c .turn ≡ Waiting p → request c image buffer ≡ withheld c OutOfTurn buffer
       asked-waiting = Requests.asked-waiting c image buffer
 
-      -- Else 20 exactly where the image has another length; else 16 exactly where the buffer is shorter than the request that would be
-      -- written, carrying that length; else that request fills its own length of the buffer, and no byte after it is changed.
+      -- Else 20 exactly where the image has another length; else 16 exactly where the buffer is shorter than the
+      -- request that would be written, carrying that length; else that request fills its own length of the buffer, and
+      -- no byte after it is changed.
       pub asked-ready : (p : Phase) → c .turn ≡ Ready p
-          → request c image buffer ≡ cond (otherImage p (length image)) (withheld c OtherImage buffer) (granting c p (frameBytes (frameOf c p image)) buffer)
+          → request c image buffer ≡ cond (otherImage p (length image)) (withheld c OtherImage buffer)
+          (granting c p (frameBytes (frameOf c p image)) buffer)
       asked-ready = Requests.asked-ready c image buffer
 
       -- A refused request changes neither the client nor the buffer.
@@ -89,18 +100,24 @@ module _ (c : Client) where
       pub told-ready : (p : Phase) → c .turn ≡ Ready p → record′ c image bytes ≡ refuses c OutOfTurn
       told-ready = Records.told-ready c image bytes
 
-      pub told-waiting : (p : Phase) → c .turn ≡ Waiting p → record′ c image bytes ≡ cond (otherImage p (length image)) (refuses c OtherImage) (answeredTo c p image bytes)
+      pub told-waiting : (p : Phase) → c .turn ≡ Waiting p
+          → record′ c image bytes ≡ cond (otherImage p (length image)) (refuses c OtherImage)
+          (answeredTo c p image bytes)
       told-waiting = Records.told-waiting c image bytes
 
       -- One that is read is refused with nothing that changes no state: 20 and 21 are given where they are due alone.
-      pub told-due : (p : Phase) → c .turn ≡ Waiting p → otherImage p (length image) ≡ false → (r : Refusal) → record′ c image bytes .says ≡ Refused r → keeps r ≡ false
+      pub told-due : (p : Phase) → c .turn ≡ Waiting p → otherImage p (length image) ≡ false → (r : Refusal)
+          → record′ c image bytes .says ≡ Refused r → keeps r ≡ false
       told-due = Records.told-due c image bytes
 
-      -- 20 and 21 change no state, and the rest is the whole record; any other refusal ends the operation; after 1 the rest is empty.
-      pub told-refused : (r : Refusal) → record′ c image bytes .says ≡ Refused r → record′ c image bytes .client ≡ leaves r c
+      -- 20 and 21 change no state, and the rest is the whole record; any other refusal ends the operation; after 1 the
+      -- rest is empty.
+      pub told-refused : (r : Refusal) → record′ c image bytes .says ≡ Refused r
+          → record′ c image bytes .client ≡ leaves r c
       told-refused = Records.told-refused c image bytes
 
-      pub told-kept : (r : Refusal) → record′ c image bytes .says ≡ Refused r → keeps r ≡ true → record′ c image bytes .rest ≡ 0
+      pub told-kept : (r : Refusal) → record′ c image bytes .says ≡ Refused r → keeps r ≡ true
+          → record′ c image bytes .rest ≡ 0
       told-kept = Records.told-kept c image bytes
 
       pub told-lost : record′ c image bytes .says ≡ Refused Io → record′ c image bytes .rest ≡ length bytes
@@ -116,7 +133,8 @@ module _ (c : Client) where
   pub failed-waiting : (p : Phase) → c .turn ≡ Waiting p → linkFailed c ≡ stops c (Refused Io) 0
   failed-waiting = Records.failed-waiting c
 
-  -- What a refusal that ends the operation leaves: nothing runs, the seed stays, and the attached id too, but after a deselect.
+  -- What a refusal that ends the operation leaves: nothing runs, the seed stays, and the attached id too, but after a
+  -- deselect.
   module _ (r : Refusal) where
     pub leaves-kept : keeps r ≡ true → leaves r c ≡ c
     leaves-kept = Refusals.leaves-kept r c

@@ -1,5 +1,4 @@
 -- What meets the premises of condition 1: each of its theorems with a premise, applied to values that meet it.
--- Assumes nothing.
 use Prim.Native.Nat.{ℕ}
 use mathlib.Core.Bool.{true, false}
 use mathlib.Core.List.{List, [], _∷_, _++_}
@@ -18,14 +17,16 @@ use Rattle.client.specs.declared.Job.the-variants.{Informing, Writing}
 use Rattle.client.specs.declared.Phase.{Phase}
 use Rattle.client.specs.declared.Phase.the-variants.{Select, Demand, Leave}
 use Rattle.client.specs.declared.Purpose.the-variants.{Load}
-use Rattle.client.specs.declared.Refusal.the-variants.{Io, Device, NoSuchUid, BadPrefix, ShortBuffer, OtherImage, OutOfTurn}
+use Rattle.client.specs.declared.Refusal.the-variants.{Io, Device, NoSuchUid, BadPrefix, ShortBuffer, OtherImage}
+use Rattle.client.specs.declared.Refusal.the-variants.{OutOfTurn}
 use Rattle.client.specs.declared.Says.the-variants.{Granted, Closing, Onward, Refused}
 use Rattle.client.specs.declared.Search.the-variants.{Probing}
 use Rattle.client.specs.declared.Turn.the-variants.{Idle, Ready, Waiting}
 use Rattle.client.specs.Clients.{otherFor, otherImage, begun, idle, turned, running, refuse, refuses, over, stops}
 use Rattle.client.specs.Numbers.{numberOf}
 use Rattle.client_demand.specs.Demands.{demandOf}
-use Rattle.client_start.specs.Start.{startSelect, startDeselect, startAttach, startAttachTo, startDiscover, startInfo, startErase, startFlash, startReset, startSetBaud}
+use Rattle.client_start.specs.Start.{startSelect, startDeselect, startAttach, startAttachTo, startDiscover, startInfo}
+use Rattle.client_start.specs.Start.{startErase, startFlash, startReset, startSetBaud}
 use Rattle.client_request.specs.Request.{frameOf, handing, handed, withheld, granting, askedFor, request}
 use Rattle.client_record.specs.Answer.{tells}
 use Rattle.client_record.specs.Record.{answeredTo, record′, linkFailed}
@@ -64,22 +65,37 @@ pub starts-late-met :
     × (startSetBaud ready 5 true false ≡ refuse ready OutOfTurn)))))))))
 unfolding begins running
 starts-late-met =
-    let s : Condition1.Starts ready = Condition1.starts ready in
-    (s .select (0x05 ∷ []) 3, (s .deselect, (s .attach, (s .attach-to (0xC1 ∷ []), (s .discover seventeen, (s .info, (s .erase, (s .flash image, (s .reset true true, s .set-baud 5 true false)))))))))
+    let s : Condition1.Starts ready = Condition1.starts ready in (
+      s .select (0x05 ∷ []) 3,
+      (
+        s .deselect,
+        (
+          s .attach,
+          (
+            s .attach-to (0xC1 ∷ []),
+            (s .discover seventeen, (s .info, (s .erase, (s .flash image, (s .reset true true, s .set-baud 5 true false))))),
+          ),
+        ),
+      ),
+    )
 
 pub starts-refused-met :
     (startSelect quietly (0x05 ∷ []) 9 ≡ refuse quietly BadPrefix)
-    × ((startAttachTo quietly seventeen ≡ refuse quietly BadPrefix) × (startDiscover quietly seventeen ≡ refuse quietly BadPrefix))
+    × ((startAttachTo quietly seventeen ≡ refuse quietly BadPrefix)
+    × (startDiscover quietly seventeen ≡ refuse quietly BadPrefix))
 unfolding begins running
 starts-refused-met =
     let s : Condition1.Starts quietly = Condition1.starts quietly in
     (s .select (0x05 ∷ []) 9, (s .attach-to seventeen, s .discover seventeen))
 
 pub starts-begun-met :
-    (startSelect quietly (0x05 ∷ []) 8 ≡ record { says = Onward; client = begun quietly (Ready (Select Probing)) (idFrom (0x05 ∷ [])) 8 noWalk })
-    × (startFlash quietly image ≡ record { says = Onward; client = begun quietly (Ready (Demand (Informing (Load 5)))) noId 0 noWalk })
+    (startSelect quietly (0x05 ∷ []) 8
+    ≡ record { says = Onward; client = begun quietly (Ready (Select Probing)) (idFrom (0x05 ∷ [])) 8 noWalk })
+    × (startFlash quietly image ≡ record
+    { says = Onward; client = begun quietly (Ready (Demand (Informing (Load 5)))) noId 0 noWalk })
 unfolding begins running
-starts-begun-met = let s : Condition1.Starts quietly = Condition1.starts quietly in (s .select (0x05 ∷ []) 8, s .flash image)
+starts-begun-met = let s : Condition1.Starts quietly = Condition1.starts quietly
+    in (s .select (0x05 ∷ []) 8, s .flash image)
 
 pub asked-idle-met : request quietly image (replicate 15 0xEE) ≡ withheld quietly OutOfTurn (replicate 15 0xEE)
 asked-idle-met = Condition1.asked-idle quietly image (replicate 15 0xEE) refl
@@ -92,11 +108,20 @@ pub asked-ready-met :
     (request ready shorter (replicate 15 0xEE) ≡ withheld ready OtherImage (replicate 15 0xEE))
     × ((request ready image (replicate 15 0xEE) ≡ withheld ready (ShortBuffer 16) (replicate 15 0xEE))
     × (request ready image (replicate 17 0xEE)
-    ≡ record { answer = record { says = Granted 16; client = writing }; bytes = frameBytes (demandFrame (writeRequest device 5 4) image) ++ (0xEE ∷ []) }))
-unfolding otherImage otherFor granting handing handed frameOf demandOf frameBytes frameBody frameHead le payloadOf chunk padding
+    ≡ record {
+      answer = record { says = Granted 16; client = writing };
+      bytes = frameBytes
+          (demandFrame (writeRequest device 5 4) image) ++ (0xEE ∷ []);
+    }))
+unfolding otherImage otherFor granting handing handed frameOf demandOf frameBytes frameBody frameHead le payloadOf
+    chunk padding
 asked-ready-met = (
   Condition1.asked-ready ready shorter (replicate 15 0xEE) second refl,
-  (Condition1.asked-ready ready image (replicate 15 0xEE) second refl, Condition1.asked-ready ready image (replicate 17 0xEE) second refl),
+  (
+    Condition1.asked-ready ready image (replicate 15 0xEE) second refl,
+    Condition1.asked-ready ready image
+        (replicate 17 0xEE) second refl,
+  ),
 )
 
 -- An unawaited Reset: on handing out its request the operation has ended.
@@ -105,14 +130,19 @@ parting = Leave (record { bootloader = true; given = false; baud = 0 })
 
 pub asked-closing-met :
     request (turned quietly (Ready parting)) [] (replicate 12 0xEE)
-    ≡ record { answer = record { says = Closing 12; client = quietly }; bytes = frameBytes (demandFrame (resetRequest true none) []) }
+    ≡ record {
+      answer = record { says = Closing 12; client = quietly };
+      bytes = frameBytes
+          (demandFrame (resetRequest true none) []);
+    }
 unfolding otherImage granting handing handed frameOf idle frameBytes frameBody frameHead le payloadOf
 asked-closing-met = Condition1.asked-ready (turned quietly (Ready parting)) [] (replicate 12 0xEE) parting refl
 
 pub asked-refused-met :
     (request ready image (replicate 15 0xEE) .answer .client ≡ ready)
     × ((request ready image (replicate 15 0xEE) .bytes ≡ replicate 15 0xEE) × (keeps (ShortBuffer 16) ≡ true))
-unfolding request askedFor granting frameOf demandOf otherImage otherFor frameBytes frameBody frameHead le payloadOf chunk padding
+unfolding request askedFor granting frameOf demandOf otherImage otherFor frameBytes frameBody frameHead le payloadOf
+    chunk padding
 asked-refused-met = Condition1.asked-refused ready image (replicate 15 0xEE) (ShortBuffer 16) refl
 
 pub told-idle-met : record′ quietly image wrote ≡ refuses quietly OutOfTurn
@@ -121,9 +151,14 @@ told-idle-met = Condition1.told-idle quietly image wrote refl
 pub told-ready-met : record′ ready image wrote ≡ refuses ready OutOfTurn
 told-ready-met = Condition1.told-ready ready image wrote second refl
 
-pub told-waiting-met : (record′ writing shorter wrote ≡ refuses writing OtherImage) × (record′ writing image wrote ≡ answeredTo writing second image wrote)
+pub told-waiting-met : (record′ writing shorter wrote ≡ refuses writing OtherImage)
+    × (record′ writing image wrote ≡ answeredTo writing second image wrote)
 unfolding otherImage otherFor
-told-waiting-met = (Condition1.told-waiting writing shorter wrote second refl, Condition1.told-waiting writing image wrote second refl)
+told-waiting-met = (
+  Condition1.told-waiting writing shorter wrote second refl,
+  Condition1.told-waiting writing image
+      wrote second refl,
+)
 
 -- The Write's answer cut off before its check: 1. Another image: 20.
 abbrev cut-off : List ℕ
@@ -162,6 +197,7 @@ pub leaves-idle-met : leaves (Device 7) writing .turn ≡ Idle
 unfolding keeps numberOf
 leaves-idle-met = Condition1.leaves-idle writing (Device 7) refl
 
-pub leaves-attached-met : (leaves NoSuchUid writing .attached ≡ true) × (leaves NoSuchUid writing .id ≡ idFrom (0xC1 ∷ 0x07 ∷ []))
+pub leaves-attached-met : (leaves NoSuchUid writing .attached ≡ true)
+    × (leaves NoSuchUid writing .id ≡ idFrom (0xC1 ∷ 0x07 ∷ []))
 unfolding parts numberOf
 leaves-attached-met = Condition1.leaves-attached writing NoSuchUid refl

@@ -1,5 +1,5 @@
--- The customer's condition 2, the part that is proved: frames, checks, hearing, walk and flash order against the written definitions.
--- Assumes nothing.
+-- The customer's condition 2, the part that is proved: frames, checks, hearing, walk and flash order against the
+-- written definitions.
 use Prim.Native.Nat.{ℕ, _*_, _<_, _≤_}
 use mathlib.Core.Bool.{Bool, true, false}
 use mathlib.Core.List.{List, [], _∷_, _++_}
@@ -11,12 +11,14 @@ use Rattle.paper.specs.Attach as Attach
 use Rattle.paper.specs.Count.{All}
 use Rattle.paper.specs.Flash as Flash
 use Rattle.paper.specs.Flash.{informOnly, erase, flash, reset}
-use Rattle.paper.specs.Frame.{number, crcBit, crcByte, crcFrom, check, Frame, whole, frameBytes, skipped, rightCheck, readSized, readSynced, read}
+use Rattle.paper.specs.Frame.{number, crcBit, crcByte, crcFrom, check, Frame, whole, frameBytes, skipped, rightCheck}
+use Rattle.paper.specs.Frame.{readSized, readSynced, read}
 use Rattle.paper.specs.Hearing.{Id, bitsOf}
 use Rattle.paper.proofs.Words.{Bytes}
 use Rattle.theory.specs.ClientMachine.{Brief}
 use Rattle.theory.specs.ClientDriven.{Round, Lends}
-use Rattle.theory.specs.FlashOrder.{Event, play, everything, told, writesAt, Kept, Stands, Allowed, Flashed, Fronts, Bounded, most, erasesMost, flashMost}
+use Rattle.theory.specs.FlashOrder.{Event, play, everything, told, writesAt, Kept, Stands, Allowed, Flashed, Fronts}
+use Rattle.theory.specs.FlashOrder.{Bounded, most, erasesMost, flashMost}
 use Rattle.theory.specs.HandedOut.{FlashOrder}
 use Rattle.theory.proofs.flash.RequestsBounded as Bound
 use Rattle.theory.proofs.flash.WrittenBytes as Carries
@@ -30,7 +32,8 @@ use Rattle.client.specs.declared.Job.the-variants.{Resetting}
 use Rattle.client.specs.declared.Phase.the-variants.{Demand}
 use Rattle.client.specs.declared.Turn.the-variants.{Waiting}
 use Rattle.client.specs.Clients.{turned, fresh}
-use Rattle.client_start.specs.Start.{startSelect, startDeselect, startAttach, startAttachTo, startDiscover, startInfo, startErase, startFlash, startReset, startSetBaud}
+use Rattle.client_start.specs.Start.{startSelect, startDeselect, startAttach, startAttachTo, startDiscover, startInfo}
+use Rattle.client_start.specs.Start.{startErase, startFlash, startReset, startSetBaud}
 use Rattle.client_record.specs.Record.{record′}
 use Rattle.refinement.specs.ClientDriven.{driven, sends, answerOf, Plays}
 use Rattle.refinement.specs.ClientServed.{opening, resting}
@@ -41,24 +44,33 @@ use Rattle.refinement.proofs.client.Operations as Operations
 pub frame-read : (f : Frame) → Fits f → (more : List ℕ) → read (frameBytes f ++ more) ≡ whole 0 f
 frame-read f fits more = Frames.read-written f fits more
 
--- Each operation, started on a client with none and driven over any records and failed links, stands where document 01's conversation stands:
--- what it says, with the progress made, where the unread rest begins, the seed and the attached id, and the request that is next, byte for byte.
--- All that it hands out on the way is what document 01's client does. A buffer that holds every request; any seed; an attached id or none.
-module _ (buffer : List ℕ) (room : 1036 ≤ length buffer) (seed : ℕ) (byte : seed < 256) (id : Option Id) (brief : Brief id) (rounds : List Round) where
+-- Each operation, started on a client with none and driven over any records and failed links, stands where document
+-- 01's conversation stands: what it says, with the progress made, where the unread rest begins, the seed and the
+-- attached id, and the request that is next, byte for byte. All that it hands out on the way is what document 01's
+-- client does. A buffer that holds every request; any seed; an attached id or none.
+module _ (buffer : List ℕ) (room : 1036 ≤ length buffer) (seed : ℕ) (byte : seed < 256) (id : Option Id)
+    (brief : Brief id) (rounds : List Round) where
   pub record Drives : Type 0 where
     pub select : (prefix : List ℕ) (bits : ℕ) → length prefix ≤ 16 → bits ≤ 8 * length prefix
-        → Plays none seed id (Attach.selectOnly (take bits (bitsOf prefix))) buffer rounds (startSelect (resting seed id) prefix bits)
+        → Plays none seed id (Attach.selectOnly (take bits (bitsOf prefix))) buffer rounds
+        (startSelect (resting seed id) prefix bits)
     pub deselect : Plays none seed id Attach.deselect buffer rounds (startDeselect (resting seed id))
     pub attach : Plays none seed id (Attach.attach none) buffer rounds (startAttach (resting seed id))
-    pub attach-to : (prefix : List ℕ) → length prefix ≤ 16 → Plays none seed id (Attach.attach (some prefix)) buffer rounds (startAttachTo (resting seed id) prefix)
-    pub discover : (prefix : List ℕ) → length prefix ≤ 16 → Bytes prefix → Plays none seed id (Attach.discover prefix) buffer rounds (startDiscover (resting seed id) prefix)
+    pub attach-to : (prefix : List ℕ) → length prefix ≤ 16
+        → Plays none seed id (Attach.attach (some prefix)) buffer rounds (startAttachTo (resting seed id) prefix)
+    pub discover : (prefix : List ℕ) → length prefix ≤ 16 → Bytes prefix
+        → Plays none seed id (Attach.discover prefix) buffer rounds (startDiscover (resting seed id) prefix)
     pub info : Plays none seed id Flash.informOnly buffer rounds (startInfo (resting seed id))
     pub erase : Plays none seed id Flash.erase buffer rounds (startErase (resting seed id))
     pub flash : (image : List ℕ) → All (Lends (some (length image))) rounds
-        → Plays (some (length image)) seed id (Flash.flash (length image)) buffer rounds (startFlash (resting seed id) image)
-    pub reset : (bootloader inBoot : Bool) → Plays none seed id (Flash.reset bootloader none inBoot) buffer rounds (startReset (resting seed id) bootloader inBoot)
+        → Plays (some (length image)) seed id (Flash.flash (length image)) buffer rounds
+        (startFlash (resting seed id) image)
+    pub reset : (bootloader inBoot : Bool)
+        → Plays none seed id (Flash.reset bootloader none inBoot) buffer rounds
+        (startReset (resting seed id) bootloader inBoot)
     pub set-baud : (baud : ℕ) (bootloader inBoot : Bool)
-        → Plays none seed id (Flash.reset bootloader (some baud) inBoot) buffer rounds (startSetBaud (resting seed id) baud bootloader inBoot)
+        → Plays none seed id (Flash.reset bootloader (some baud) inBoot) buffer rounds
+        (startSetBaud (resting seed id) baud bootloader inBoot)
 
   pub drives : Drives
   drives = record {
@@ -74,19 +86,24 @@ module _ (buffer : List ℕ) (room : 1036 ≤ length buffer) (seed : ℕ) (byte 
     set-baud = Operations.set-baud-driven buffer room seed byte id brief rounds;
   }
 
-  -- "Over any replies: no Erase before Info and image pass, no Write before the last Erase is answered, each Write's address is the total length
-  -- of Writes answered Ok so far, and on success that total is the padded length": read off the bytes handed out, and what happened after each.
+  -- "Over any replies: no Erase before Info and image pass, no Write before the last Erase is answered, each Write's
+  -- address is the total length of Writes answered Ok so far, and on success that total is the padded length": read off
+  -- the bytes handed out, and what happened after each.
   pub flash-handed : (image : List ℕ) → All (Lends (some (length image))) rounds → All (λ r. Bytes (r .lent)) rounds
-      → FlashOrder (length image) (sends buffer rounds (opening (startFlash (resting seed id) image))) (answerOf (driven buffer rounds (opening (startFlash (resting seed id) image))))
+      → FlashOrder (length image) (sends buffer rounds (opening (startFlash (resting seed id) image)))
+      (answerOf (driven buffer rounds (opening (startFlash (resting seed id) image))))
   flash-handed = Operations.flash-handed buffer room seed byte id brief rounds
 
--- The same of the conversation: what it has asked and been answered, over any replies; and on success the device's check was that of the image
--- lent with it.
-pub flash-in-order : (n : ℕ) (es : List Event) → Kept (Allowed n) (play (flash n) es [] .0) × Stands (Allowed n) (Flashed n) (play (flash n) es [] .0) (play (flash n) es [] .1)
+-- The same of the conversation: what it has asked and been answered, over any replies; and on success the device's
+-- check was that of the image lent with it.
+pub flash-in-order : (n : ℕ) (es : List Event)
+    → Kept (Allowed n) (play (flash n) es [] .0)
+    × Stands (Allowed n) (Flashed n) (play (flash n) es [] .0) (play (flash n) es [] .1)
 flash-in-order = Order.flash-in-order
 
 -- The Erases handed out are a front part of the full list.
-pub flash-erases-front : (n : ℕ) (es : List Event) → Fronts (play (flash n) es [] .0) (everything (play (flash n) es []))
+pub flash-erases-front : (n : ℕ) (es : List Event)
+    → Fronts (play (flash n) es [] .0) (everything (play (flash n) es []))
 flash-erases-front = Order.flash-erases-front
 
 -- At most 17 Writes at one offset.
@@ -94,7 +111,8 @@ pub flash-writes-few : (n : ℕ) (es : List Event) (a : ℕ) → writesAt a (eve
 flash-writes-few = Order.flash-writes-few
 
 -- Each Write carries the padded image from its offset on.
-pub flash-carries : (image : List ℕ) (es : List Event) → All (CarriesIn image) (everything (play (flash (length image)) es []))
+pub flash-carries : (image : List ℕ) (es : List Event)
+    → All (CarriesIn image) (everything (play (flash (length image)) es []))
 flash-carries = Carries.flash-carries
 
 -- Every operation ends, after at most so many requests.
@@ -104,14 +122,18 @@ info-ends = Bound.inform-bounded
 pub erase-ends : (es : List Event) → Bounded (most erasesMost (told (play erase es [] .0))) es (play erase es [])
 erase-ends = Bound.erase-bounded
 
-pub flash-ends : (n : ℕ) (es : List Event) → Bounded (most (flashMost n) (told (play (flash n) es [] .0))) es (play (flash n) es [])
+pub flash-ends : (n : ℕ) (es : List Event)
+    → Bounded (most (flashMost n) (told (play (flash n) es [] .0))) es (play (flash n) es [])
 flash-ends = Bound.flash-bounded
 
-pub reset-ends : (bootloader : Bool) (baud : Option ℕ) (awaited : Bool) (es : List Event) → Bounded 1 es (play (reset bootloader baud awaited) es [])
+pub reset-ends : (bootloader : Bool) (baud : Option ℕ) (awaited : Bool) (es : List Event)
+    → Bounded 1 es (play (reset bootloader baud awaited) es [])
 reset-ends = Bound.reset-bounded
 
--- The unread rest: bytes that follow an answering frame may come with its record, or be kept and put before the next one.
-module _ (c : Client) (j : Job) (out : c .turn ≡ Waiting (Demand j)) (image a x : List ℕ) (r : Reply) (end : ℕ) (e : answer a ≡ answered r end) where
+-- The unread rest: bytes that follow an answering frame may come with its record, or be kept and put before the next
+-- one.
+module _ (c : Client) (j : Job) (out : c .turn ≡ Waiting (Demand j)) (image a x : List ℕ) (r : Reply) (end : ℕ)
+    (e : answer a ≡ answered r end) where
   pub record-either-way : record′ c image (a ++ x) ≡ record′ c image a
   record-either-way = EitherWay.record-either-way c j out image a x r end e
 
@@ -127,4 +149,5 @@ reset-answered = 0xA5 ∷ 0x04 ∷ 0x01 ∷ 0x00 ∷ 0x00 ∷ 0x00 ∷ 0x00 ∷ 
 
 pub reset-either-way : (x : List ℕ) → record′ resetting [] (reset-answered ++ x) ≡ record′ resetting [] reset-answered
 unfolding answer answerFrom read readSynced readSized rightCheck skipped number check crcFrom crcByte crcBit fresh
-reset-either-way x = record-either-way resetting (Resetting (record { bootloader = true; given = false; baud = 0 })) refl [] reset-answered x (ok []) 12 refl
+reset-either-way x = record-either-way resetting
+    (Resetting (record { bootloader = true; given = false; baud = 0 })) refl [] reset-answered x (ok []) 12 refl

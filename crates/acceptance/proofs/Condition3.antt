@@ -1,5 +1,4 @@
 -- The customer's condition 3: the discovery of the driven client, from bytes to bytes.
--- Assumes nothing.
 use Prim.Native.Nat.{ℕ, _+_, _-_, _*_, _≤_, _<_}
 use mathlib.Core.Bool.{false}
 use mathlib.Core.List.{List, []}
@@ -16,7 +15,8 @@ use Rattle.client.specs.declared.Says.the-variants.{Over}
 use Rattle.client.specs.declared.Turn.the-variants.{Idle}
 use Rattle.client.specs.Clients.{fresh}
 use Rattle.refinement.specs.Calls.{Call, Good, reached, Rests}
-use Rattle.refinement.specs.ClientServed.{Wire, isOnward, discovered, resting, heardBy, Honest, EndsAs, Finds, Lists, devices}
+use Rattle.refinement.specs.ClientServed.{Wire, isOnward, discovered, resting, heardBy, Honest, EndsAs, Finds, Lists}
+use Rattle.refinement.specs.ClientServed.{devices}
 use Rattle.refinement.proofs.client.CallsAreTalk as Calls
 use Rattle.refinement.proofs.wire.DevicesHonest as Devices
 use Rattle.refinement.proofs.wire.Condition3 as Discovers
@@ -26,27 +26,34 @@ pub idle-rests : (calls : List Call) → All Good calls → reached fresh calls 
 idle-rests = Calls.idle-rests
 
 -- A buffer that holds every Select; any seed; an attached id or none; a prefix of at most 16 bytes.
-module _ (buffer : List ℕ) (room : 31 ≤ length buffer) (seed : ℕ) (byte : seed < 256) (id : Option Id) (brief : Brief id) (given : Id) (short : length given ≤ 16) (bytes : Bytes given) where
+module _ (buffer : List ℕ) (room : 31 ≤ length buffer) (seed : ℕ) (byte : seed < 256) (id : Option Id)
+    (brief : Brief id) (given : Id) (short : length given ≤ 16) (bytes : Bytes given) where
   module _ (wire : Wire) where
     -- Whatever the wire answers: it has ended, within the limit.
-    pub ends-within : (isOnward ((discovered buffer wire (resting seed id) given) .0 .says) ≡ false) × ((discovered buffer wire (resting seed id) given) .1 ≤ limit (bitsOf given))
+    pub ends-within : (isOnward ((discovered buffer wire (resting seed id) given) .0 .says) ≡ false)
+        × ((discovered buffer wire (resting seed id) given) .1 ≤ limit (bitsOf given))
     ends-within = Discovers.ends-within buffer room wire seed byte id brief given short bytes
 
     -- It has ended as document 01's discovery does, after as many Selects.
-    pub ends-as : EndsAs seed id (run (heardBy wire seed) 0 (discover (bitsOf given))) (discovered buffer wire (resting seed id) given)
+    pub ends-as : EndsAs seed id (run (heardBy wire seed) 0 (discover (bitsOf given)))
+        (discovered buffer wire (resting seed id) given)
     ends-as = Discovers.ends-as buffer room wire seed byte id brief given short bytes
 
     -- What it found is in order, distinct and few.
-    pub lists : (discovered buffer wire (resting seed id) given) .0 .says ≡ Over Found → Lists (bitsOf given) (discovered buffer wire (resting seed id) given)
+    pub lists : (discovered buffer wire (resting seed id) given) .0 .says ≡ Over Found
+        → Lists (bitsOf given) (discovered buffer wire (resting seed id) given)
     lists = Discovers.lists buffer room wire seed byte id brief given short bytes
 
-    -- On an honest wire of the ids S: it has found exactly those that match, sorted, after exactly the Selects counted, and those are few.
+    -- On an honest wire of the ids S: it has found exactly those that match, sorted, after exactly the Selects counted,
+    -- and those are few.
     pub finds : (S : List Id) (L : ℕ) → Honest wire seed (bitsOf given) S → Pods L (matching (bitsOf given) S)
-        → Finds seed (sort (matching (bitsOf given) S)) (selects S L (bitsOf given)) (discovered buffer wire (resting seed id) given)
+        → Finds seed (sort (matching (bitsOf given) S)) (selects S L (bitsOf given))
+        (discovered buffer wire (resting seed id) given)
         × (selects S L (bitsOf given) ≤ 2 + count S (bitsOf given) * (8 * L - length (bitsOf given) + 2))
     finds = Discovers.finds buffer room wire seed byte id brief given short bytes
 
   -- There is such a wire for any ids, whatever those are that do not match.
   pub finds-devices : (S : List Id) (L : ℕ) → Pods L (matching (bitsOf given) S)
-      → Finds seed (sort (matching (bitsOf given) S)) (selects S L (bitsOf given)) (discovered buffer (devices S) (resting seed id) given)
+      → Finds seed (sort (matching (bitsOf given) S)) (selects S L (bitsOf given))
+      (discovered buffer (devices S) (resting seed id) given)
   finds-devices S L pods = (finds (devices S) S L (Devices.pods-honest S L seed (bitsOf given) pods) pods) .0

@@ -1,5 +1,5 @@
--- What meets the premises of the driven client: each operation, driven over rounds to an end, or to a request that is next.
--- Assumes nothing.
+-- What meets the premises of the driven client: each operation, driven over rounds to an end, or to a request that is
+-- next.
 use Prim.Native.Nat.{ℕ}
 use mathlib.Core.Bool.{true, false}
 use mathlib.Core.List.{List, [], _∷_, _++_}
@@ -7,14 +7,18 @@ use mathlib.Core.Option.{Option, none, some}
 use mathlib.Core.Path.{_≡_, refl, _∙_}
 use native.Mathlib.Omega.{arith}
 use lib.ListN.{replicate}
-use Rattle.paper.specs.Answers.{answerFrom, answer, sound, informed, spansTooFar, tooLarge, incompatible, key, chunk, padding, steps, apart, below, eraseAddresses}
+use Rattle.paper.specs.Answers.{answerFrom, answer, sound, informed, spansTooFar, tooLarge, incompatible, key, chunk}
+use Rattle.paper.specs.Answers.{padding, steps, apart, below, eraseAddresses}
 use Rattle.paper.specs.Attach.{listen, selectOnly, deselect, met, attach, discover}
 use Rattle.paper.specs.Client as Paper
-use Rattle.paper.specs.Client.{Says, refused, closing, over, idAfter, payloadOf, bytesOf, proceed, startWith, grant, handedOut}
-use Rattle.paper.specs.Flash.{accepted, transact, refuseIf, inform, eraseOne, eraseAll, prepare, repeated, persist, writeWithin, offsets, writeAll, verify, informOnly, erase, flash, reset}
-use Rattle.paper.specs.Frame.{Frame, le, frameHead, frameBody, frameBytes, number, crcBit, crcByte, crcFrom, check, skipped, rightCheck, readSized, readSynced, read, infoOf}
+use Rattle.paper.specs.Client.{Says, refused, closing, over, idAfter, payloadOf, bytesOf, proceed, startWith, grant}
+use Rattle.paper.specs.Client.{handedOut}
+use Rattle.paper.specs.Flash.{accepted, transact, refuseIf, inform, eraseOne, eraseAll, prepare, repeated, persist}
+use Rattle.paper.specs.Flash.{writeWithin, offsets, writeAll, verify, informOnly, erase, flash, reset}
+use Rattle.paper.specs.Frame.{Frame, le, frameHead, frameBody, frameBytes, number, crcBit, crcByte, crcFrom, check}
+use Rattle.paper.specs.Frame.{skipped, rightCheck, readSized, readSynced, read, infoOf}
 use Rattle.paper.specs.Count.{All}
-use Rattle.paper.specs.Hearing.{Id, one, bitsOf, counting, clean, frames, replies, alone, hear}
+use Rattle.paper.specs.Hearing.{Id, one, bitsOf, counting, clean, frames, replies, repliesHeard, hear}
 use Rattle.paper.specs.Talk.{_>>=_, each, walking, quiet, heard, attached, found, knows}
 use Rattle.paper.specs.Walk as Walk
 use Rattle.paper.specs.Walk.{long, judge, walk, sort, nobody}
@@ -26,12 +30,14 @@ use Rattle.theory.specs.FlashOrder.{failed, unanswered, readEvent, play, carrie
 use Rattle.theory.specs.HandedOut.{written, Hands, Passes, Cleared, FlashOrder}
 use Rattle.client.specs.declared.Started.{Started}
 use Rattle.client.specs.declared.Told.{Told}
-use Rattle.client_start.specs.Start.{startSelect, startDeselect, startAttach, startAttachTo, startDiscover, startInfo, startErase, startFlash, startReset, startSetBaud}
+use Rattle.client_start.specs.Start.{startSelect, startDeselect, startAttach, startAttachTo, startDiscover, startInfo}
+use Rattle.client_start.specs.Start.{startErase, startFlash, startReset, startSetBaud}
 use Rattle.client_request.specs.Request.{request}
 use Rattle.refinement.specs.ClientDriven.{driven, sends, answerOf}
 use Rattle.refinement.specs.ClientServed.{opening, resting}
 use Rattle.acceptance.proofs.Condition2 as Condition2
-use Rattle.acceptance.proofs.Instances.{device, informs, erased, wrote, mismatched, verified, was-reset, image, buffer, room, flashed}
+use Rattle.acceptance.proofs.Instances.{device, informs, erased, wrote, mismatched, verified, was-reset, image}
+use Rattle.acceptance.proofs.Instances.{buffer, room, flashed}
 
 -- Nothing but these bytes is heard; the link fails.
 abbrev hears : List ℕ → Round
@@ -61,8 +67,11 @@ pub record Ends (says : Says) (rest seed : ℕ) (id : Option Id) (t : Told) : Ty
   pub client : t .client ≡ resting seed id
 
 -- A Select of the bits 1, 0, 1, answered by one pod; the seed wraps.
-pub select-met : Ends (over none (heard (one (0xC1 ∷ 0x07 ∷ [])))) 14 0 id (driving (hears replied ∷ []) (startSelect (resting 255 id) (0x05 ∷ []) 3))
-unfolding play brought readEvent unanswered restAfter seedOver idOver success idAfter selectOnly listen walking Walk.ask long _>>=_ bitsOf counting hear frames clean replies alone read readSynced readSized rightCheck skipped number check crcFrom crcByte crcBit
+pub select-met : Ends (over none (heard (one (0xC1 ∷ 0x07 ∷ [])))) 14 0 id
+    (driving (hears replied ∷ []) (startSelect (resting 255 id) (0x05 ∷ []) 3))
+unfolding play brought readEvent unanswered restAfter seedOver idOver success idAfter selectOnly listen walking
+    Walk.ask long _>>=_ bitsOf counting hear frames clean replies repliesHeard read readSynced readSized rightCheck
+    skipped number check crcFrom crcByte crcBit
 select-met =
     let p = drives (hears replied ∷ []) .select (0x05 ∷ []) 3 (omega arith) (omega arith) .stands in
     record { answer = p .says; unread = p .rest; client = p .client }
@@ -76,47 +85,70 @@ deselect-met =
 
 -- Two answer at once: a deselect, then 8, with no id attached.
 pub attach-met : Ends (refused 8 []) 0 1 none (driving (hears (0 ∷ []) ∷ hears [] ∷ []) (startAttach (resting 255 id)))
-unfolding play brought readEvent unanswered restAfter seedOver idOver success idAfter attach met deselect nobody listen walking Walk.ask long _>>=_ hear frames clean replies alone read readSynced readSized rightCheck skipped number check crcFrom crcByte crcBit
+unfolding play brought readEvent unanswered restAfter seedOver idOver success idAfter attach met deselect nobody listen
+    walking Walk.ask long _>>=_ hear frames clean replies repliesHeard read readSynced readSized rightCheck skipped
+    number check crcFrom crcByte crcBit
 attach-met =
     let p = drives (hears (0 ∷ []) ∷ hears [] ∷ []) .attach .stands in
     record { answer = p .says; unread = p .rest; client = p .client }
 
-pub attach-to-met : Ends (over none (attached (some (0xC1 ∷ 0x07 ∷ [])))) 14 0 (some (0xC1 ∷ 0x07 ∷ [])) (driving (hears replied ∷ []) (startAttachTo (resting 255 id) (0xC1 ∷ [])))
-unfolding play brought readEvent unanswered restAfter seedOver idOver success idAfter attach met listen walking Walk.ask long _>>=_ bitsOf counting hear frames clean replies alone read readSynced readSized rightCheck skipped number check crcFrom crcByte crcBit
+pub attach-to-met : Ends (over none (attached (some (0xC1 ∷ 0x07 ∷ [])))) 14 0 (some (0xC1 ∷ 0x07 ∷ []))
+    (driving (hears replied ∷ []) (startAttachTo (resting 255 id) (0xC1 ∷ [])))
+unfolding play brought readEvent unanswered restAfter seedOver idOver success idAfter attach met listen walking
+    Walk.ask long _>>=_ bitsOf counting hear frames clean replies repliesHeard read readSynced readSized rightCheck
+    skipped number check crcFrom crcByte crcBit
 attach-to-met =
     let p = drives (hears replied ∷ []) .attach-to (0xC1 ∷ []) (omega arith) .stands in
     record { answer = p .says; unread = p .rest; client = p .client }
 
 -- Silence at the prefix, and the deselect.
-pub discover-met : Ends (over none (found [])) 0 1 none (driving (hears [] ∷ hears [] ∷ []) (startDiscover (resting 255 id) (0xC1 ∷ [])))
-unfolding play brought readEvent unanswered restAfter seedOver idOver success idAfter discover Walk.discover Walk.ask walking walk judge long sort nobody Walk._>>=_ _>>=_ bitsOf counting hear frames clean replies alone read readSynced readSized rightCheck skipped number check crcFrom crcByte crcBit
+pub discover-met : Ends (over none (found [])) 0 1 none
+    (driving (hears [] ∷ hears [] ∷ []) (startDiscover (resting 255 id) (0xC1 ∷ [])))
+unfolding play brought readEvent unanswered restAfter seedOver idOver success idAfter discover Walk.discover Walk.ask
+    walking walk judge long sort nobody Walk._>>=_ _>>=_ bitsOf counting hear frames clean replies repliesHeard read
+    readSynced readSized rightCheck skipped number check crcFrom crcByte crcBit
 discover-met =
     let p = drives (hears [] ∷ hears [] ∷ []) .discover (0xC1 ∷ []) (omega arith) (omega arith, tt) .stands in
     record { answer = p .says; unread = p .rest; client = p .client }
 
 -- With two bytes behind the answer, which stay unread.
-pub info-met : Ends (over none (knows device)) 30 255 id (driving (hears (informs ++ (0xA5 ∷ 0x05 ∷ [])) ∷ []) (startInfo (resting 255 id)))
-unfolding play brought readEvent unanswered restAfter seedOver idOver success idAfter answer answerFrom read readSynced readSized rightCheck skipped number check crcFrom crcByte crcBit accepted transact _>>=_ inform informOnly sound informed infoOf
+pub info-met : Ends (over none (knows device)) 30 255 id
+    (driving (hears (informs ++ (0xA5 ∷ 0x05 ∷ [])) ∷ []) (startInfo (resting 255 id)))
+unfolding play brought readEvent unanswered restAfter seedOver idOver success idAfter answer answerFrom read readSynced
+    readSized rightCheck skipped number check crcFrom crcByte crcBit accepted transact _>>=_ inform informOnly sound
+    informed infoOf
 info-met =
     let p = drives (hears (informs ++ (0xA5 ∷ 0x05 ∷ [])) ∷ []) .info .stands in
     record { answer = p .says; unread = p .rest; client = p .client }
 
 -- To its end, with the progress of the last Erase; and with a link that fails at the second.
-pub erase-met : Ends (over (some (8, 6)) (knows device)) 12 255 id (driving (hears informs ∷ hears erased ∷ hears erased ∷ []) (startErase (resting 255 id)))
-unfolding play brought readEvent unanswered restAfter seedOver idOver success idAfter answer answerFrom read readSynced readSized rightCheck skipped number check crcFrom crcByte crcBit accepted transact _>>=_ refuseIf inform eraseOne eraseAll each sound informed spansTooFar steps apart below eraseAddresses infoOf erase
+pub erase-met : Ends (over (some (8, 6)) (knows device)) 12 255 id
+    (driving (hears informs ∷ hears erased ∷ hears erased ∷ []) (startErase (resting 255 id)))
+unfolding play brought readEvent unanswered restAfter seedOver idOver success idAfter answer answerFrom read readSynced
+    readSized rightCheck skipped number check crcFrom crcByte crcBit accepted transact _>>=_ refuseIf inform eraseOne
+    eraseAll each sound informed spansTooFar steps apart below eraseAddresses infoOf erase
 erase-met =
     let p = drives (hears informs ∷ hears erased ∷ hears erased ∷ []) .erase .stands in
     record { answer = p .says; unread = p .rest; client = p .client }
 
-pub erase-lost-met : Ends (refused 1 []) 0 255 id (driving (hears informs ∷ hears erased ∷ fails ∷ []) (startErase (resting 255 id)))
-unfolding play brought readEvent unanswered restAfter seedOver idOver success idAfter answer answerFrom read readSynced readSized rightCheck skipped number check crcFrom crcByte crcBit accepted transact _>>=_ refuseIf inform eraseOne eraseAll each sound informed spansTooFar steps apart below eraseAddresses infoOf erase
+pub erase-lost-met : Ends (refused 1 []) 0 255 id
+    (driving (hears informs ∷ hears erased ∷ fails ∷ []) (startErase (resting 255 id)))
+unfolding play brought readEvent unanswered restAfter seedOver idOver success idAfter answer answerFrom read readSynced
+    readSized rightCheck skipped number check crcFrom crcByte crcBit accepted transact _>>=_ refuseIf inform eraseOne
+    eraseAll each sound informed spansTooFar steps apart below eraseAddresses infoOf erase
 erase-lost-met =
     let p = drives (hears informs ∷ hears erased ∷ fails ∷ []) .erase .stands in
     record { answer = p .says; unread = p .rest; client = p .client }
 
 -- The image is lent with every request and every answer, and is bytes.
 lent : All (Lends (some 5)) flashed
-lent = ((refl, refl), ((refl, refl), ((refl, refl), ((refl, refl), ((refl, refl), ((refl, refl), ((refl, refl), tt)))))))
+lent = (
+  (refl, refl),
+  (
+    (refl, refl),
+    ((refl, refl), ((refl, refl), ((refl, refl), ((refl, refl), ((refl, refl), tt))))),
+  ),
+)
 
 bytes : All (λ r. Bytes (r .lent)) flashed
 bytes = (b, (b, (b, (b, (b, (b, (b, tt)))))))
@@ -125,14 +157,19 @@ bytes = (b, (b, (b, (b, (b, (b, (b, tt)))))))
     b = (omega arith, (omega arith, (omega arith, (omega arith, (omega arith, tt)))))
 
 pub flash-met : Ends (over none (knows device)) 14 255 id (driving flashed (startFlash (resting 255 id) image))
-unfolding play brought readEvent unanswered restAfter seedOver idOver success idAfter answer answerFrom read readSynced readSized rightCheck skipped number check crcFrom crcByte crcBit accepted transact _>>=_ refuseIf inform eraseOne eraseAll each sound informed spansTooFar steps apart below eraseAddresses infoOf prepare repeated persist writeWithin offsets writeAll verify flash tooLarge incompatible key padding chunk
+unfolding play brought readEvent unanswered restAfter seedOver idOver success idAfter answer answerFrom read readSynced
+    readSized rightCheck skipped number check crcFrom crcByte crcBit accepted transact _>>=_ refuseIf inform eraseOne
+    eraseAll each sound informed spansTooFar steps apart below eraseAddresses infoOf prepare repeated persist
+    writeWithin offsets writeAll verify flash tooLarge incompatible key padding chunk
 flash-met =
     let p = drives flashed .flash image lent .stands in
     record { answer = p .says; unread = p .rest; client = p .client }
 
 -- In boot, and not: then handing out its 12 bytes ends it.
-pub reset-met : Ends (over none quiet) 12 255 id (driving (hears was-reset ∷ []) (startReset (resting 255 id) true true))
-unfolding play brought readEvent unanswered restAfter seedOver idOver success idAfter answer answerFrom read readSynced readSized rightCheck skipped number check crcFrom crcByte crcBit accepted transact _>>=_ reset
+pub reset-met : Ends (over none quiet) 12 255 id
+    (driving (hears was-reset ∷ []) (startReset (resting 255 id) true true))
+unfolding play brought readEvent unanswered restAfter seedOver idOver success idAfter answer answerFrom read readSynced
+    readSized rightCheck skipped number check crcFrom crcByte crcBit accepted transact _>>=_ reset
 reset-met =
     let p = drives (hears was-reset ∷ []) .reset true true .stands in
     record { answer = p .says; unread = p .rest; client = p .client }
@@ -143,8 +180,10 @@ reset-closes-met =
     let p = drives (fails ∷ []) .reset true false .stands in
     record { answer = p .says; unread = p .rest; client = p .client }
 
-pub set-baud-met : Ends (over none quiet) 12 255 id (driving (hears was-reset ∷ []) (startSetBaud (resting 255 id) 5 false true))
-unfolding play brought readEvent unanswered restAfter seedOver idOver success idAfter answer answerFrom read readSynced readSized rightCheck skipped number check crcFrom crcByte crcBit accepted transact _>>=_ reset
+pub set-baud-met : Ends (over none quiet) 12 255 id
+    (driving (hears was-reset ∷ []) (startSetBaud (resting 255 id) 5 false true))
+unfolding play brought readEvent unanswered restAfter seedOver idOver success idAfter answer answerFrom read readSynced
+    readSized rightCheck skipped number check crcFrom crcByte crcBit accepted transact _>>=_ reset
 set-baud-met =
     let p = drives (hears was-reset ∷ []) .set-baud 5 false true .stands in
     record { answer = p .says; unread = p .rest; client = p .client }
@@ -160,18 +199,25 @@ abbrev erasing-4 : List ℕ
 erasing-4 = 0xA5 ∷ 0x01 ∷ 0x00 ∷ 0x00 ∷ 0x04 ∷ 0x00 ∷ 0x00 ∷ 0x00 ∷ 0x02 ∷ 0x00 ∷ 0x04 ∷ 0x00 ∷ 0xD1 ∷ 0xB8 ∷ []
 
 abbrev writing-0 : List ℕ
-writing-0 = 0xA5 ∷ 0x02 ∷ 0x00 ∷ 0x00 ∷ 0x00 ∷ 0x00 ∷ 0x00 ∷ 0x00 ∷ 0x04 ∷ 0x00 ∷ 0x10 ∷ 0x21 ∷ 0x32 ∷ 0x43 ∷ 0x79 ∷ 0xD8 ∷ []
+writing-0 = 0xA5 ∷ 0x02 ∷ 0x00 ∷ 0x00 ∷ 0x00 ∷ 0x00 ∷ 0x00 ∷ 0x00 ∷ 0x04 ∷ 0x00 ∷ 0x10 ∷ 0x21 ∷ 0x32 ∷ 0x43 ∷ 0x79
+    ∷ 0xD8 ∷ []
 
 abbrev writing-4 : List ℕ
-writing-4 = 0xA5 ∷ 0x02 ∷ 0x00 ∷ 0x01 ∷ 0x04 ∷ 0x00 ∷ 0x00 ∷ 0x00 ∷ 0x04 ∷ 0x00 ∷ 0x54 ∷ 0xFF ∷ 0xFF ∷ 0xFF ∷ 0xA2 ∷ 0x71 ∷ []
+writing-4 = 0xA5 ∷ 0x02 ∷ 0x00 ∷ 0x01 ∷ 0x04 ∷ 0x00 ∷ 0x00 ∷ 0x00 ∷ 0x04 ∷ 0x00 ∷ 0x54 ∷ 0xFF ∷ 0xFF ∷ 0xFF ∷ 0xA2
+    ∷ 0x71 ∷ []
 
 abbrev verifying : List ℕ
 verifying = 0xA5 ∷ 0x03 ∷ 0x00 ∷ 0x00 ∷ 0x05 ∷ 0x00 ∷ 0x00 ∷ 0x00 ∷ 0x00 ∷ 0x00 ∷ 0x35 ∷ 0x90 ∷ []
 
 -- After the Info of an erase the first Erase is next: it is handed out before a byte that is kept.
-pub erase-next-met : request (driving (hears informs ∷ []) (startErase (resting 255 id)) .client) [] (replicate 15 0xEE) .bytes ≡ erasing-0 ++ (0xEE ∷ [])
-unfolding play brought readEvent unanswered restAfter seedOver idOver success idAfter answer answerFrom read readSynced readSized rightCheck skipped number check crcFrom crcByte crcBit accepted transact _>>=_ refuseIf inform eraseOne eraseAll each sound informed spansTooFar steps apart below eraseAddresses infoOf erase sizeOf carried bytesOf payloadOf frameBytes frameBody frameHead le
-erase-next-met = drives (hears informs ∷ []) .erase .stands .client .grants [] (replicate 15 0xEE) tt (omega arith) .after
+pub erase-next-met : request (driving (hears informs ∷ []) (startErase (resting 255 id)) .client) []
+    (replicate 15 0xEE) .bytes ≡ erasing-0 ++ (0xEE ∷ [])
+unfolding play brought readEvent unanswered restAfter seedOver idOver success idAfter answer answerFrom read readSynced
+    readSized rightCheck skipped number check crcFrom crcByte crcBit accepted transact _>>=_ refuseIf inform eraseOne
+    eraseAll each sound informed spansTooFar steps apart below eraseAddresses infoOf erase sizeOf carried bytesOf
+    payloadOf frameBytes frameBody frameHead le
+erase-next-met = drives (hears informs ∷ []) .erase .stands .client .grants [] (replicate 15 0xEE) tt
+    (omega arith) .after
 
 -- What the flash hands out, and what it says.
 abbrev handed : List Sent
@@ -189,10 +235,15 @@ abbrev then : List ℕ → List ℕ → Sent
 then request answer = record { bytes = request; then = some (Order.heard image answer) }
 
 abbrev first-five : List Sent
-first-five = then informing informs ∷ then erasing-0 erased ∷ then erasing-4 erased ∷ then writing-0 mismatched ∷ then writing-0 wrote ∷ []
+first-five = then informing informs ∷ then erasing-0 erased ∷ then erasing-4 erased ∷ then writing-0 mismatched
+    ∷ then writing-0 wrote ∷ []
 
 handed-is : handed ≡ first-five ++ (then writing-4 wrote ∷ then verifying verified ∷ [])
-unfolding Theory.sends goesOn Theory.tells Paper.request Paper.record′ grant handedOut proceed startWith bytesOf payloadOf frameBytes frameBody frameHead le answer answerFrom read readSynced readSized rightCheck skipped number check crcFrom crcByte crcBit accepted transact _>>=_ refuseIf inform eraseOne eraseAll each sound informed spansTooFar steps apart below eraseAddresses infoOf prepare repeated persist writeWithin offsets writeAll verify flash tooLarge incompatible key padding chunk
+unfolding Theory.sends goesOn Theory.tells Paper.request Paper.record′ grant handedOut proceed startWith bytesOf
+    payloadOf frameBytes frameBody frameHead le answer answerFrom read readSynced readSized rightCheck skipped number
+    check crcFrom crcByte crcBit accepted transact _>>=_ refuseIf inform eraseOne eraseAll each sound informed
+    spansTooFar steps apart below eraseAddresses infoOf prepare repeated persist writeWithin offsets writeAll verify
+    flash tooLarge incompatible key padding chunk
 handed-is = drives flashed .flash image lent .sent ∙ refl
 
 abbrev second-write : Frame
@@ -200,7 +251,13 @@ second-write = record { command = 2; status = 0; flags = 1; address = 4; payload
 
 second-handed : Hands handed first-five second-write
 unfolding read readSynced readSized rightCheck skipped number check crcFrom crcByte crcBit
-second-handed = record { sent = then writing-4 wrote; later = then verifying verified ∷ []; cut = handed-is; frame = refl }
+second-handed = record {
+  sent = then writing-4 wrote;
+  later = then verifying verified
+      ∷ [];
+  cut = handed-is;
+  frame = refl;
+}
 
 pub flash-cleared-met : Cleared 5 first-five
 flash-cleared-met = flash-handed-met .writes first-five second-write second-handed refl
@@ -216,7 +273,8 @@ first-handed : Hands handed (then informing informs ∷ []) first-erase
 unfolding read readSynced readSized rightCheck skipped number check crcFrom crcByte crcBit
 first-handed = record {
   sent = then erasing-0 erased;
-  later = then erasing-4 erased ∷ then writing-0 mismatched ∷ then writing-0 wrote ∷ then writing-4 wrote ∷ then verifying verified ∷ [];
+  later = then erasing-4 erased ∷ then writing-0 mismatched ∷ then writing-0 wrote ∷ then writing-4 wrote
+      ∷ then verifying verified ∷ [];
   cut = handed-is;
   frame = refl;
 }

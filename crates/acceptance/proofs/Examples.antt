@@ -1,5 +1,4 @@
 -- Document 01, "Examples on both sides": those marked M, as a single table.
--- Assumes nothing.
 use Prim.Native.Nat.{ℕ}
 use mathlib.Core.Bool.{true, false, cond}
 use mathlib.Core.List.{List, [], _∷_, _++_, map}
@@ -8,12 +7,14 @@ use mathlib.Core.Path.{_≡_, refl}
 use lib.Dec.{eqb}
 use lib.ListN.{replicate}
 use Rattle.paper.specs.Client.{payloadOf}
-use Rattle.paper.specs.Flash.{accepted, transact, refuseIf, inform, eraseOne, eraseAll, erase, prepare, repeated, persist, writeWithin, offsets, writeAll, verify, flash}
+use Rattle.paper.specs.Flash.{accepted, transact, refuseIf, inform, eraseOne, eraseAll, erase, prepare, repeated}
+use Rattle.paper.specs.Flash.{persist, writeWithin, offsets, writeAll, verify, flash}
 use Rattle.paper.specs.Frame.{le, number, crcBit, crcByte, crcFrom, check, Info, infoOf, command-Info, command-Verify}
 use Rattle.paper.specs.Talk.{select, demand, leave, Talk, return, stop, report, ask, _>>=_, each, Outcome}
 use Rattle.paper.specs.Count.{honest, selects}
 use Rattle.paper.specs.Hearing.{Id, bit, bitsOf, counting, binary, packed, selectPayload}
-use Rattle.paper.specs.Answers.{Reply, ok, sound, informed, spansTooFar, tooLarge, reported, incompatible, key, chunk, steps, apart, below, padding, eraseAddresses, eraseProgress}
+use Rattle.paper.specs.Answers.{Reply, ok, sound, informed, spansTooFar, tooLarge, reported, incompatible, key, chunk}
+use Rattle.paper.specs.Answers.{steps, apart, below, padding, eraseAddresses, eraseProgress}
 use Rattle.paper.specs.Walk.{discover, done, run}
 use Rattle.theory.proofs.walk.CountExamples as Discovery
 
@@ -36,16 +37,19 @@ says capacity eraseSize most = le 4 capacity ++ le 2 eraseSize ++ le 4 0 ++ le 2
 
 -- A device that says this of itself, answers Ok to all, and has the image's check.
 abbrev replies : List ℕ → List ℕ → ℕ → Reply
-replies info image command = cond (eqb command command-Info) (ok info) (cond (eqb command command-Verify) (ok (le 2 (check image))) (ok []))
+replies info image command = cond (eqb command command-Info) (ok info)
+    (cond (eqb command command-Verify) (ok (le 2 (check image))) (ok []))
 
--- A conversation with it: each request as command, address, flags and payload, each progress as two numbers, a refusal with its number first.
+-- A conversation with it: each request as command, address, flags and payload, each progress as two numbers, a refusal
+-- with its number first.
 unfoldable pub log : List ℕ → List ℕ → Talk Outcome → List (List ℕ)
 log info image (return o) = []
 log info image (stop n carries) = (n ∷ carries) ∷ []
 log info image (report a b m) = (a ∷ b ∷ []) ∷ log info image m
 log info image (ask (select p) f) = []
 log info image (ask (demand d) f) =
-    (d .command ∷ d .address ∷ d .flags ∷ payloadOf (d .payload) image) ∷ log info image (f (record { reply = replies info image (d .command); image = image }))
+    (d .command ∷ d .address ∷ d .flags ∷ payloadOf (d .payload) image)
+    ∷ log info image (f (record { reply = replies info image (d .command); image = image }))
 log info image (ask (leave d) f) = []
 
 abbrev asks-Info : List ℕ
@@ -53,7 +57,8 @@ asks-Info = 0 ∷ 0 ∷ 0 ∷ []
 
 -- Ids of one byte on an honest wire, and a prefix: the ids found and the Selects, by the walk and by its count.
 abbrev Discovers : List Id → Id → List Id → ℕ → Type 0
-Discovers ids given found n = (run (honest ids) 0 (discover (bitsOf given)) ≡ (done found, n)) × (selects ids 1 (bitsOf given) ≡ n)
+Discovers ids given found n = (run (honest ids) 0 (discover (bitsOf given)) ≡ (done found, n))
+    × (selects ids 1 (bitsOf given) ≡ n)
 
 pub record Table : Type 0 where
   pub bits-of-05 : bitsOf (0x05 ∷ []) ≡ true ∷ false ∷ true ∷ false ∷ false ∷ false ∷ false ∷ false ∷ []
@@ -63,18 +68,25 @@ pub record Table : Type 0 where
   pub chunks : map chunk (4 ∷ 7 ∷ 1023 ∷ 65535 ∷ []) ≡ 4 ∷ 4 ∷ 1020 ∷ 1024 ∷ []
   pub erases : eraseAddresses (device 5 2) ≡ 0 ∷ 2 ∷ 4 ∷ []
   pub erase-progress : map (eraseProgress (device 5 2)) (eraseAddresses (device 5 2)) ≡ 2 ∷ 4 ∷ 6 ∷ []
-  pub erases-all : log (says 5 2 4) [] erase ≡ asks-Info ∷ (1 ∷ 0 ∷ 0 ∷ 2 ∷ 0 ∷ []) ∷ (2 ∷ 5 ∷ []) ∷ (1 ∷ 2 ∷ 0 ∷ 2 ∷ 0 ∷ []) ∷ (4 ∷ 5 ∷ []) ∷ (1 ∷ 4 ∷ 0 ∷ 2 ∷ 0 ∷ []) ∷ (6 ∷ 5 ∷ []) ∷ []
+  pub erases-all : log (says 5 2 4) [] erase
+      ≡ asks-Info ∷ (1 ∷ 0 ∷ 0 ∷ 2 ∷ 0 ∷ []) ∷ (2 ∷ 5 ∷ []) ∷ (1 ∷ 2 ∷ 0 ∷ 2 ∷ 0 ∷ []) ∷ (4 ∷ 5 ∷ [])
+      ∷ (1 ∷ 4 ∷ 0 ∷ 2 ∷ 0 ∷ []) ∷ (6 ∷ 5 ∷ []) ∷ []
   pub flashes-5 :
       log (says 6 6 4) (1 ∷ 2 ∷ 3 ∷ 4 ∷ 5 ∷ []) (flash 5)
-      ≡ asks-Info ∷ (1 ∷ 0 ∷ 0 ∷ 6 ∷ 0 ∷ []) ∷ (6 ∷ 6 ∷ []) ∷ (2 ∷ 0 ∷ 0 ∷ 1 ∷ 2 ∷ 3 ∷ 4 ∷ []) ∷ (1 ∷ 2 ∷ []) ∷ (2 ∷ 4 ∷ 1 ∷ 5 ∷ 0xFF ∷ 0xFF ∷ 0xFF ∷ []) ∷ (2 ∷ 2 ∷ []) ∷ (3 ∷ 5 ∷ 0 ∷ []) ∷ []
-  pub flashes-none : log (says 6 6 4) [] (flash 0) ≡ asks-Info ∷ (1 ∷ 0 ∷ 0 ∷ 6 ∷ 0 ∷ []) ∷ (6 ∷ 6 ∷ []) ∷ (3 ∷ 0 ∷ 0 ∷ []) ∷ []
+      ≡ asks-Info ∷ (1 ∷ 0 ∷ 0 ∷ 6 ∷ 0 ∷ []) ∷ (6 ∷ 6 ∷ []) ∷ (2 ∷ 0 ∷ 0 ∷ 1 ∷ 2 ∷ 3 ∷ 4 ∷ []) ∷ (1 ∷ 2 ∷ [])
+      ∷ (2 ∷ 4 ∷ 1 ∷ 5 ∷ 0xFF ∷ 0xFF ∷ 0xFF ∷ []) ∷ (2 ∷ 2 ∷ []) ∷ (3 ∷ 5 ∷ 0 ∷ []) ∷ []
+  pub flashes-none : log (says 6 6 4) [] (flash 0)
+      ≡ asks-Info ∷ (1 ∷ 0 ∷ 0 ∷ 6 ∷ 0 ∷ []) ∷ (6 ∷ 6 ∷ []) ∷ (3 ∷ 0 ∷ 0 ∷ []) ∷ []
   pub discovers-00-01 : Discovers ((0x00 ∷ []) ∷ (0x01 ∷ []) ∷ []) [] ((0x00 ∷ []) ∷ (0x01 ∷ []) ∷ []) 8
   pub discovers-01-03 : Discovers ((0x01 ∷ []) ∷ (0x03 ∷ []) ∷ []) [] ((0x01 ∷ []) ∷ (0x03 ∷ []) ∷ []) 9
   pub discovers-7F-FF : Discovers ((0x7F ∷ []) ∷ (0xFF ∷ []) ∷ []) [] ((0x7F ∷ []) ∷ (0xFF ∷ []) ∷ []) 11
   pub discovers-under-00 : Discovers ((0x00 ∷ []) ∷ (0x01 ∷ []) ∷ []) (0x00 ∷ []) ((0x00 ∷ []) ∷ []) 2
 
 pub table : Table
-unfolding log payloadOf accepted transact refuseIf inform eraseOne eraseAll erase prepare repeated persist writeWithin offsets writeAll verify flash each _>>=_ sound informed spansTooFar tooLarge reported incompatible padding le infoOf crcBit crcByte crcFrom check bit bitsOf counting binary packed selectPayload number key chunk steps apart below eraseAddresses Discovery.rows
+unfolding log payloadOf accepted transact refuseIf inform eraseOne eraseAll erase prepare repeated persist
+    writeWithin offsets writeAll verify flash each _>>=_ sound informed spansTooFar tooLarge reported incompatible
+    padding le infoOf crcBit crcByte crcFrom check bit bitsOf counting binary packed selectPayload number key chunk
+    steps apart below eraseAddresses Discovery.rows
 table = record {
   bits-of-05 = refl;
   payload-of-101 = refl;

@@ -1,6 +1,6 @@
--- What meets the premises of the exported calls' promises: an attach under C1 whose link fails, with calls out of turn, over buffers of zeros;
--- refusals of a state that no call left, of buffers that are too short, of an id of 17 bytes and of a text of one digit.
--- Assumes nothing.
+-- What meets the premises of the exported calls' promises: an attach under C1 whose link fails, with calls out of turn,
+-- over buffers of zeros; refusals of a state that no call left, of buffers that are too short, of an id of 17 bytes and
+-- of a text of one digit.
 use Prim.Native.Nat.{ℕ, _%_, _≤_}
 use mathlib.Core.Bool.{true}
 use mathlib.Core.List.{List, [], _∷_, _++_, map}
@@ -23,7 +23,8 @@ use Rattle.client.specs.declared.Started.{Started}
 use Rattle.client.specs.Clients.{running}
 use Rattle.client.specs.Numbers.{numberOf, changesNoState}
 use Rattle.client_start.specs.Start as Code
-use Rattle.refinement.specs.Calls.{Call, startAttach, startDiscover, startInfo, request, record′, linkFailed, paperCall, Answer, paperAnswers}
+use Rattle.refinement.specs.Calls.{Call, startAttach, startDiscover, startInfo, request, record′, linkFailed, paperCall}
+use Rattle.refinement.specs.Calls.{Answer, paperAnswers}
 use Rattle.host_answer.specs.AnswerBytes as Answers
 use Rattle.host_state.specs.State as State
 use Rattle.host_state.specs.State.{loaded}
@@ -33,13 +34,15 @@ use Rattle.host_buffers.specs.Hosts.{codeOf, Requested, toldBy, leaves, handed}
 use Rattle.host_buffers.specs.Exports as Export
 use Rattle.host_theory.specs.ExportedCalls.{exported, made, held, Lending, Fair, exports, readFrom, Coded, behind}
 use Rattle.host_theory.proofs.CallsChain.{exported-held}
-use Rattle.acceptance.proofs.Exports.{exports-agree, exports-coded, exports-behind, refused-untouched, short-untouched, text-untouched, id-untouched}
+use Rattle.acceptance.proofs.Exports.{exports-agree, exports-coded, exports-behind, refused-untouched}
+use Rattle.acceptance.proofs.Exports.{short-untouched, text-untouched, id-untouched}
 
 abbrev lending : Call → Lending
 lending call = record { call = call; answer = replicate 1200 0 }
 
 abbrev calls : List Lending
-calls = lending (startAttach (some (0xC1 ∷ []))) ∷ lending startInfo ∷ lending (request [] (replicate 31 0)) ∷ lending linkFailed ∷ lending (record′ [] (0xA5 ∷ [])) ∷ []
+calls = lending (startAttach (some (0xC1 ∷ []))) ∷ lending startInfo ∷ lending (request [] (replicate 31 0))
+    ∷ lending linkFailed ∷ lending (record′ [] (0xA5 ∷ [])) ∷ []
 
 room : Answers.size ≤ length {A = ℕ} (replicate 1200 0)
 room = omega (arith, length-replicate {A = ℕ} 1200 0)
@@ -60,27 +63,33 @@ fair = (
 )
 
 abbrev answered : Says → ℕ → List ℕ → ℕ → Answer
-answered says rest buffer seed = record { reply = record { says = says; rest = rest; buffer = buffer }; seed = seed; id = none }
+answered says rest buffer seed =
+    record { reply = record { says = says; rest = rest; buffer = buffer }; seed = seed; id = none }
 
 -- The attach goes on; 21; the Select of C1's bits with seed 1, fifteen bytes; 1; 21.
 pub exports-agree-met :
     map readFrom (exports (replicate State.size 0 ++ (7 ∷ [])) calls)
     ≡ answered (onward none) 0 [] 0
     ∷ answered (refused 21 []) 0 [] 0
-    ∷ answered (granted 15) 0 ((0xA5 ∷ 0x05 ∷ 0x00 ∷ 0x00 ∷ 0x00 ∷ 0x00 ∷ 0x00 ∷ 0x00 ∷ 0x03 ∷ 0x00 ∷ 0x01 ∷ 0x08 ∷ 0xC1 ∷ 0x8D ∷ 0x67 ∷ []) ++ replicate 16 0) 1
+    ∷ answered (granted 15) 0 ((0xA5 ∷ 0x05 ∷ 0x00 ∷ 0x00 ∷ 0x00 ∷ 0x00 ∷ 0x00 ∷ 0x00 ∷ 0x03 ∷ 0x00 ∷ 0x01 ∷ 0x08
+    ∷ 0xC1 ∷ 0x8D ∷ 0x67 ∷ []) ++ replicate 16 0) 1
     ∷ answered (refused 1 []) 0 [] 1
     ∷ answered (refused 21 []) 0 [] 1
     ∷ []
-unfolding paperAnswers paperCall Paper.fresh Paper.startAttach Paper.startWith Paper.startInfo Paper.request Paper.grant Paper.handedOut Paper.linkFailed Paper.record′ Paper.proceed Paper.bytesOf attach listen walking _>>=_ ask frameBytes frameBody frameHead le check crcFrom crcByte crcBit selectPayload bitsOf counting bit packed binary
+unfolding paperAnswers paperCall Paper.fresh Paper.startAttach Paper.startWith Paper.startInfo Paper.request
+    Paper.grant Paper.handedOut Paper.linkFailed Paper.record′ Paper.proceed Paper.bytesOf attach listen walking _>>=_
+    ask frameBytes frameBody frameHead le check crcFrom crcByte crcBit selectPayload bitsOf counting bit packed binary
 exports-agree-met = exports-agree (7 ∷ []) calls fair
 
 pub exports-coded-met : All Coded (exports (replicate State.size 0 ++ (7 ∷ [])) calls)
 exports-coded-met = exports-coded (7 ∷ []) calls fair
 
-pub exports-behind-met : map behind (exports (replicate State.size 0 ++ (7 ∷ [])) calls) ≡ map (λ x. (7 ∷ [], drop Answers.size (x .answer))) calls
+pub exports-behind-met : map behind (exports (replicate State.size 0 ++ (7 ∷ [])) calls)
+    ≡ map (λ x. (7 ∷ [], drop Answers.size (x .answer))) calls
 exports-behind-met = exports-behind (7 ∷ []) calls fair
 
--- A state that no call left: its byte 1, whether an id is attached, is 2. A discovery under 17 bytes is refused, whatever runs.
+-- A state that no call left: its byte 1, whether an id is attached, is 2. A discovery under 17 bytes is refused,
+-- whatever runs.
 abbrev odd : List ℕ
 odd = 0 ∷ 2 ∷ replicate 1350 0
 
@@ -88,18 +97,22 @@ whole : State.size ≤ length odd
 whole = omega (arith, length-replicate {A = ℕ} 1350 0)
 
 refuses-17 : changesNoState (exported odd (replicate 1200 0) (startDiscover (replicate 17 0)) .code % 256) ≡ true
-unfolding held handed leaves made toldBy Code.startDiscover Code.badPrefix codeOf noteOf refusalNote refusing numberOf coded
+unfolding held handed leaves made toldBy Code.startDiscover Code.badPrefix codeOf noteOf refusalNote refusing numberOf
+    coded
 refuses-17 =
-    ap (λ (e : Requested). changesNoState (e .code % 256)) (exported-held odd (replicate 1200 0) whole room (startDiscover (replicate 17 0)))
+    ap (λ (e : Requested). changesNoState (e .code % 256))
+    (exported-held odd (replicate 1200 0) whole room (startDiscover (replicate 17 0)))
     ∙ either (λ (t : Started). changesNoState (codeOf (t .says) % 256) ≡ true) (running (loaded odd .turn)) refl refl
 
 pub refused-untouched-met :
-    (exported odd (replicate 1200 0) (startDiscover (replicate 17 0)) .state ≡ odd) × (exported odd (replicate 1200 0) (startDiscover (replicate 17 0)) .buffer ≡ [])
+    (exported odd (replicate 1200 0) (startDiscover (replicate 17 0)) .state ≡ odd)
+    × (exported odd (replicate 1200 0) (startDiscover (replicate 17 0)) .buffer ≡ [])
 refused-untouched-met = refused-untouched odd (replicate 1200 0) (startDiscover (replicate 17 0)) refuses-17
 
 pub short-untouched-met :
     (exported (1 ∷ []) (2 ∷ []) (request [] (3 ∷ [])) .state ≡ 1 ∷ [])
-    × ((exported (1 ∷ []) (2 ∷ []) (request [] (3 ∷ [])) .buffer ≡ 3 ∷ []) × (exported (1 ∷ []) (2 ∷ []) (request [] (3 ∷ [])) .answer ≡ 2 ∷ []))
+    × ((exported (1 ∷ []) (2 ∷ []) (request [] (3 ∷ [])) .buffer ≡ 3 ∷ [])
+    × (exported (1 ∷ []) (2 ∷ []) (request [] (3 ∷ [])) .answer ≡ 2 ∷ []))
 short-untouched-met = short-untouched (1 ∷ []) (2 ∷ []) (request [] (3 ∷ [])) (λ h k. omega arith)
 
 pub text-untouched-met : Export.uidHex (replicate 17 0) (7 ∷ []) .bytes ≡ 7 ∷ []

@@ -1,5 +1,5 @@
--- What meets the premise of condition 3: wires that are honest in the Selects that a discovery sends before its deselect, and not in all.
--- Assumes nothing.
+-- What meets the premise of condition 3: wires that are honest in the Selects that a discovery sends before its
+-- deselect, and not in all.
 use Prim.Native.Nat.{ℕ, suc, _+_, _%_, _≤_}
 use mathlib.Core.Bool.{Bool, true, false, _||_, cond}
 use mathlib.Core.List.{List, [], _∷_, _++_}
@@ -11,9 +11,11 @@ use borrow.Author.Tests.{le-ltb}
 use Rattle.paper.specs.Client.{bytesOf}
 use Rattle.paper.specs.Count.{matching, heardOf, honest, Pods, selects}
 use Rattle.paper.specs.Frame.{byte, le, frameHead, frameBody, frameBytes, skipped, readSynced, read}
-use Rattle.paper.specs.Hearing.{Id, Prefix, bit, bitsOf, counting, begins, before, one, garble, selectPayload, clean, frames, hear}
+use Rattle.paper.specs.Hearing.{Id, Prefix, bit, bitsOf, counting, begins, before, one, garble, selectPayload, clean}
+use Rattle.paper.specs.Hearing.{frames, hear}
 use Rattle.paper.specs.Talk.{select}
-use Rattle.paper.specs.Walk.{_>>=_, long, ask, isNothing, sameId, isOne, confirmRest, confirm, keep, judge, walk, insert, sort, discover, done, run}
+use Rattle.paper.specs.Walk.{_>>=_, long, ask, isNothing, sameId, isOne, confirmRest, confirm, keep, judge, walk}
+use Rattle.paper.specs.Walk.{insert, sort, discover, done, run}
 use Rattle.paper.proofs.Bits.{bits-length}
 use Rattle.theory.proofs.frames.IdBits.{bits-cons}
 use Rattle.theory.proofs.walk.CarriedIds.{Telling, heard-small}
@@ -33,8 +35,8 @@ pod = 0x01 ∷ []
 abbrev under : Prefix
 under = bitsOf pod
 
--- A stray byte to each Select of fewer than 8 bits, of which none is sent, and to the deselect, whose record is not looked
--- at; else that pod.
+-- A stray byte to each Select of fewer than 8 bits, of which none is sent, and to the deselect, whose record is not
+-- looked at; else that pod.
 unfoldable pub garbling : Wire
 garbling k bytes = cond (ltb (byte 11 bytes) 8 || ltb 128 (byte 11 bytes)) (0 ∷ []) (devices (pod ∷ []) k bytes)
 
@@ -42,12 +44,14 @@ count-in : (q : Prefix) (seed : ℕ) → byte 11 (bytesOf (select q) seed []) �
 unfolding bytesOf frameBytes frameBody frameHead selectPayload le
 count-in q seed = refl
 
-garbling-clear : (k : ℕ) (q : Prefix) (seed : ℕ) → 8 ≤ length q → length q ≤ 128 → garbling k (bytesOf (select q) seed []) ≡ devices (pod ∷ []) k (bytesOf (select q) seed [])
+garbling-clear : (k : ℕ) (q : Prefix) (seed : ℕ) → 8 ≤ length q → length q ≤ 128
+    → garbling k (bytesOf (select q) seed []) ≡ devices (pod ∷ []) k (bytesOf (select q) seed [])
 unfolding garbling
 garbling-clear k q seed h g = rw (count-in q seed, le-ltb (length q) 8 h, le-ltb 128 (length q) g)
 
 run-pod : run (honest (pod ∷ [])) 0 (discover under) ≡ (done (pod ∷ []), 2)
-unfolding discover run honest heardOf matching sort insert before walk judge keep confirm confirmRest isOne isNothing ask long _>>=_ bitsOf counting bit begins sameId
+unfolding discover run honest heardOf matching sort insert before walk judge keep confirm confirmRest isOne isNothing
+    ask long _>>=_ bitsOf counting bit begins sameId
 run-pod = refl
 
 alone : matching under (pod ∷ []) ≡ pod ∷ []
@@ -55,7 +59,13 @@ unfolding matching begins bitsOf counting bit
 alone = refl
 
 pods : (S : List Id) → matching under S ≡ pod ∷ [] → Pods 1 (matching under S)
-pods S only = rw only (record { few = omega arith; distinct = (tt, tt); sized = (refl, tt); bytes = ((omega arith, tt), tt); short = omega arith })
+pods S only = rw only (record {
+  few = omega arith;
+  distinct = (tt, tt);
+  sized = (refl, tt);
+  bytes = ((omega arith, tt), tt);
+  within16 = omega arith;
+})
 
 -- Any ids of which that pod alone matches.
 module _ (S : List Id) (only : matching under S ≡ pod ∷ []) where
@@ -65,8 +75,15 @@ module _ (S : List Id) (only : matching under S ≡ pod ∷ []) where
   garbling-honest : (seed : ℕ) → Honest garbling seed under S
   unfolding heardBy
   garbling-honest seed k q l e n =
-      let h : 8 ≤ length q = omega (arith, ap length (begins-splits under q e), length-append under (drop (length under) q), bits-length pod) in
-      ap hear (garbling-clear k q ((seed + suc k) % 256) h n) ∙ pods-honest (pod ∷ []) 1 seed under (pods (pod ∷ []) alone) k q l e n ∙ ap heardOf (same q e)
+      let h : 8 ≤ length q = omega (
+        arith,
+        ap length (begins-splits under q e),
+        length-append under
+            (drop (length under) q),
+        bits-length pod,
+      ) in
+      ap hear (garbling-clear k q ((seed + suc k) % 256) h n)
+      ∙ pods-honest (pod ∷ []) 1 seed under (pods (pod ∷ []) alone) k q l e n ∙ ap heardOf (same q e)
 
   found : sort (matching under S) ≡ pod ∷ []
   unfolding sort insert
@@ -75,12 +92,15 @@ module _ (S : List Id) (only : matching under S ≡ pod ∷ []) where
   -- The count is what was run on the wire of the one pod.
   takes-2 : selects S 1 under ≡ 2
   unfolding honest
-  takes-2 = ap (λ p. p .1) (sym (discover-exact (honest (pod ∷ [])) S 1 under (λ k q l e n. ap heardOf (same q e)) (omega (arith, bits-length pod)) (pods S only)) ∙ run-pod)
+  takes-2 = ap (λ p. p .1) (sym (discover-exact (honest (pod ∷ [])) S 1 under (λ k q l e n. ap heardOf (same q e))
+      (omega (arith, bits-length pod)) (pods S only)) ∙ run-pod)
 
-  finds-pod : (wire : Wire) → Honest wire 250 under S → Finds 250 (pod ∷ []) 2 (discovered selectRoom wire (resting 250 attached) pod)
+  finds-pod : (wire : Wire) → Honest wire 250 under S
+      → Finds 250 (pod ∷ []) 2 (discovered selectRoom wire (resting 250 attached) pod)
   finds-pod wire h =
       rw (← found, ← takes-2)
-      ((Condition3.finds selectRoom (omega arith) 250 (omega arith) attached (omega arith) pod (omega arith) (omega arith, tt) wire S 1 h (pods S only)) .0)
+      ((Condition3.finds selectRoom (omega arith) 250 (omega arith) attached (omega arith) pod (omega arith)
+      (omega arith, tt) wire S 1 h (pods S only)) .0)
 
 -- The pod and nothing else.
 pub garbling-honest-met : Honest garbling 250 under (pod ∷ [])
@@ -91,7 +111,8 @@ garbling-finds-met = finds-pod (pod ∷ []) alone garbling garbling-honest-met
 
 -- That wire is not honest in every Select: the empty prefix is heard as garble.
 pub garbling-not-always : ¬ ((k : ℕ) (q : Prefix) → heardBy garbling 250 k q ≡ heardOf (matching q (pod ∷ [])))
-unfolding heardBy garbling bytesOf frameBytes frameBody frameHead selectPayload le hear frames clean read readSynced skipped heardOf matching begins
+unfolding heardBy garbling bytesOf frameBytes frameBody frameHead selectPayload le hear frames clean read readSynced
+    skipped heardOf matching begins
 garbling-not-always h = let e : garble ≡ one pod = h 0 [] in let z : _≡_ {A = ℕ} 0 1 = cc in omega arith
 
 -- An id of 1,025 bytes, more than a frame carries, which does not match.
@@ -120,7 +141,8 @@ garbling-beside-met = garbling-honest (zeros ∷ pod ∷ []) beside 250
 pub devices-beside-met : Honest (devices (zeros ∷ pod ∷ [])) 250 under (zeros ∷ pod ∷ [])
 devices-beside-met = pods-honest (zeros ∷ pod ∷ []) 1 250 under (pods (zeros ∷ pod ∷ []) beside)
 
-pub devices-finds-met : Finds 250 (pod ∷ []) 2 (discovered selectRoom (devices (zeros ∷ pod ∷ [])) (resting 250 attached) pod)
+pub devices-finds-met : Finds 250 (pod ∷ []) 2
+    (discovered selectRoom (devices (zeros ∷ pod ∷ [])) (resting 250 attached) pod)
 devices-finds-met = finds-pod (zeros ∷ pod ∷ []) beside (devices (zeros ∷ pod ∷ [])) devices-beside-met
 
 -- No wire is honest in every Select of these two: the long id is alone under a zero bit.
@@ -133,11 +155,14 @@ unfolding matching begins bitsOf counting bit
 pod-other = refl
 
 zeros-alone : matching (false ∷ []) (zeros ∷ pod ∷ []) ≡ zeros ∷ []
-zeros-alone = matching-yes (false ∷ []) zeros (pod ∷ []) (rw zeros-bits (zero-first (bitsOf (replicate 1024 0)))) ∙ ap (zeros ∷_) pod-other
+zeros-alone = matching-yes (false ∷ []) zeros (pod ∷ []) (rw zeros-bits (zero-first (bitsOf (replicate 1024 0))))
+    ∙ ap (zeros ∷_) pod-other
 
-pub beside-not-always : (wire : Wire) → ¬ ((k : ℕ) (q : Prefix) → heardBy wire 250 k q ≡ heardOf (matching q (zeros ∷ pod ∷ [])))
+pub beside-not-always : (wire : Wire)
+    → ¬ ((k : ℕ) (q : Prefix) → heardBy wire 250 k q ≡ heardOf (matching q (zeros ∷ pod ∷ [])))
 unfolding heardBy heardOf zeros
 beside-not-always wire h =
     let heard : heardBy wire 250 0 (false ∷ []) ≡ one zeros = h 0 (false ∷ []) ∙ ap heardOf zeros-alone in
-    let small : length zeros ≤ 1024 = subst (Telling (λ x. length x ≤ 1024)) heard (heard-small (wire 0 (bytesOf (select (false ∷ [])) 251 []))) in
+    let small : length zeros ≤ 1024 =
+    subst (Telling (λ x. length x ≤ 1024)) heard (heard-small (wire 0 (bytesOf (select (false ∷ [])) 251 []))) in
     omega (arith, length-replicate {A = ℕ} 1025 0)

@@ -1,5 +1,4 @@
 -- What meets the premises of condition 2: each theorem with a premise, applied to values that meet it.
--- Assumes nothing.
 use Prim.Native.Nat.{ℕ, _≤_}
 use mathlib.Core.Bool.{true}
 use mathlib.Core.List.{List, [], _∷_, _++_}
@@ -7,13 +6,17 @@ use mathlib.Core.Option.{Option, some}
 use mathlib.Core.Path.{_≡_, refl}
 use native.Mathlib.Omega.{arith}
 use lib.ListN.{length, drop, replicate, length-replicate}
-use Rattle.paper.specs.Answers.{ok, answerFrom, answer, sound, informed, spansTooFar, tooLarge, incompatible, key, chunk, padding, steps, apart, below, eraseAddresses}
-use Rattle.paper.specs.Flash.{accepted, transact, refuseIf, inform, eraseOne, eraseAll, prepare, repeated, persist, writeWithin, offsets, writeAll, verify, informOnly, erase, flash, reset}
-use Rattle.paper.specs.Frame.{le, number, crcBit, crcByte, crcFrom, check, Frame, whole, frameHead, frameBody, frameBytes, skipped, rightCheck, readSized, readSynced, read, Info, infoOf}
+use Rattle.paper.specs.Answers.{ok, answerFrom, answer, sound, informed, spansTooFar, tooLarge, incompatible, key}
+use Rattle.paper.specs.Answers.{chunk, padding, steps, apart, below, eraseAddresses}
+use Rattle.paper.specs.Flash.{accepted, transact, refuseIf, inform, eraseOne, eraseAll, prepare, repeated, persist}
+use Rattle.paper.specs.Flash.{writeWithin, offsets, writeAll, verify, informOnly, erase, flash, reset}
+use Rattle.paper.specs.Frame.{le, number, crcBit, crcByte, crcFrom, check, Frame, whole, frameHead, frameBody}
+use Rattle.paper.specs.Frame.{frameBytes, skipped, rightCheck, readSized, readSynced, read, Info, infoOf}
 use Rattle.paper.specs.Hearing.{Id}
 use Rattle.paper.specs.Talk.{_>>=_, each, knows}
 use Rattle.theory.specs.ClientDriven.{Round}
-use Rattle.theory.specs.FlashOrder.{Event, heard, failed, unanswered, readEvent, play, toldBy, toldIn, told, Flashed, Ended, most, erasesMost, flashMost}
+use Rattle.theory.specs.FlashOrder.{Event, heard, failed, unanswered, readEvent, play, toldBy, toldIn, told, Flashed}
+use Rattle.theory.specs.FlashOrder.{Ended, most, erasesMost, flashMost}
 use Rattle.image.specs.Images.{codeInfo}
 use Rattle.client.specs.declared.Client.{Client}
 use Rattle.client.specs.declared.Job.the-variants.{Writing}
@@ -37,9 +40,11 @@ device = record {
   maxPayload = 4;
 }
 
--- What it answers, as bytes: its Info; Ok to an Erase, a Write and a Reset; status 3 to a Write; the check of the image to a Verify.
+-- What it answers, as bytes: its Info; Ok to an Erase, a Write and a Reset; status 3 to a Write; the check of the image
+-- to a Verify.
 abbrev pub informs : List ℕ
-informs = 0xA5 ∷ 0x00 ∷ 0x01 ∷ 0x00 ∷ 0x00 ∷ 0x00 ∷ 0x00 ∷ 0x00 ∷ 0x12 ∷ 0x00 ∷ 0x06 ∷ 0x00 ∷ 0x00 ∷ 0x00 ∷ 0x04 ∷ 0x00 ∷ 0x03 ∷ 0x00 ∷ 0x07 ∷ 0x00 ∷ 0x01 ∷ 0x02 ∷ 0xFF ∷ 0xFF ∷ 0xFF ∷ 0xFF ∷ 0x04 ∷ 0x00 ∷ 0x78 ∷ 0x99 ∷ []
+informs = 0xA5 ∷ 0x00 ∷ 0x01 ∷ 0x00 ∷ 0x00 ∷ 0x00 ∷ 0x00 ∷ 0x00 ∷ 0x12 ∷ 0x00 ∷ 0x06 ∷ 0x00 ∷ 0x00 ∷ 0x00 ∷ 0x04 ∷ 0x00
+    ∷ 0x03 ∷ 0x00 ∷ 0x07 ∷ 0x00 ∷ 0x01 ∷ 0x02 ∷ 0xFF ∷ 0xFF ∷ 0xFF ∷ 0xFF ∷ 0x04 ∷ 0x00 ∷ 0x78 ∷ 0x99 ∷ []
 
 abbrev pub erased : List ℕ
 erased = 0xA5 ∷ 0x01 ∷ 0x01 ∷ 0x00 ∷ 0x00 ∷ 0x00 ∷ 0x00 ∷ 0x00 ∷ 0x00 ∷ 0x00 ∷ 0x80 ∷ 0x52 ∷ []
@@ -74,19 +79,28 @@ attached = some (0xC1 ∷ 0x07 ∷ [])
 
 -- A flash to its end: the Info, two Erases, the first Write twice, the second, the Verify.
 abbrev pub flashed : List Round
-flashed = answers informs ∷ answers erased ∷ answers erased ∷ answers mismatched ∷ answers wrote ∷ answers wrote ∷ answers verified ∷ []
+flashed = answers informs ∷ answers erased ∷ answers erased ∷ answers mismatched ∷ answers wrote ∷ answers wrote
+    ∷ answers verified ∷ []
 
--- The flash above, as events, and links that fail after its end, to as many as its bound: 1, 2 Erases, 17 for each of 2 Writes, and 1.
+-- The flash above, as events, and links that fail after its end, to as many as its bound: 1, 2 Erases, 17 for each of 2
+-- Writes, and 1.
 abbrev flashing : List Event
 flashing =
-    heard image informs ∷ heard image erased ∷ heard image erased ∷ heard image mismatched ∷ heard image wrote ∷ heard image wrote ∷ heard image verified ∷ replicate 31 failed
+    heard image informs ∷ heard image erased ∷ heard image erased ∷ heard image mismatched ∷ heard image wrote
+    ∷ heard image wrote ∷ heard image verified ∷ replicate 31 failed
 
 pub flash-in-order-met : Flashed 5 (play (flash 5) flashing [] .0) (knows device)
-unfolding play readEvent answer answerFrom read readSynced readSized rightCheck skipped number check crcFrom crcByte crcBit accepted transact refuseIf inform eraseOne eraseAll erase prepare repeated persist writeWithin offsets writeAll verify flash each _>>=_ sound informed spansTooFar tooLarge incompatible key padding chunk steps apart below eraseAddresses infoOf
+unfolding play readEvent answer answerFrom read readSynced readSized rightCheck skipped number check crcFrom crcByte
+    crcBit accepted transact refuseIf inform eraseOne eraseAll erase prepare repeated persist writeWithin offsets
+    writeAll verify flash each _>>=_ sound informed spansTooFar tooLarge incompatible key padding chunk steps apart
+    below eraseAddresses infoOf
 flash-in-order-met = Condition2.flash-in-order 5 flashing .1
 
 bound-38 : most (flashMost 5) (told (play (flash 5) flashing [] .0)) ≡ 38
-unfolding most flashMost erasesMost told toldIn toldBy play readEvent answer answerFrom read readSynced readSized rightCheck skipped number check crcFrom crcByte crcBit accepted transact refuseIf inform eraseOne eraseAll erase prepare repeated persist writeWithin offsets writeAll verify flash each _>>=_ sound informed spansTooFar tooLarge incompatible key padding chunk steps apart below eraseAddresses infoOf
+unfolding most flashMost erasesMost told toldIn toldBy play readEvent answer answerFrom read readSynced readSized
+    rightCheck skipped number check crcFrom crcByte crcBit accepted transact refuseIf inform eraseOne eraseAll erase
+    prepare repeated persist writeWithin offsets writeAll verify flash each _>>=_ sound informed spansTooFar tooLarge
+    incompatible key padding chunk steps apart below eraseAddresses infoOf
 bound-38 = refl
 
 pub flash-ends-met : Ended (play (flash 5) flashing [] .1)
@@ -96,11 +110,14 @@ pub info-ends-met : Ended (play informOnly (heard image informs ∷ []) [] .1)
 info-ends-met = Condition2.info-ends (heard image informs ∷ []) .ends (omega arith)
 
 bound-3 : most erasesMost (told (play erase (heard [] informs ∷ heard [] erased ∷ failed ∷ []) [] .0)) ≡ 3
-unfolding most erasesMost told toldIn toldBy play readEvent unanswered answer answerFrom read readSynced readSized rightCheck skipped number check crcFrom crcByte crcBit accepted transact refuseIf inform eraseOne eraseAll erase each _>>=_ sound informed spansTooFar steps apart below eraseAddresses infoOf
+unfolding most erasesMost told toldIn toldBy play readEvent unanswered answer answerFrom read readSynced readSized
+    rightCheck skipped number check crcFrom crcByte crcBit accepted transact refuseIf inform eraseOne eraseAll erase
+    each _>>=_ sound informed spansTooFar steps apart below eraseAddresses infoOf
 bound-3 = refl
 
 pub erase-ends-met : Ended (play erase (heard [] informs ∷ heard [] erased ∷ failed ∷ []) [] .1)
-erase-ends-met = Condition2.erase-ends (heard [] informs ∷ heard [] erased ∷ failed ∷ []) .ends (rw bound-3 (omega arith))
+erase-ends-met = Condition2.erase-ends (heard [] informs ∷ heard [] erased ∷ failed ∷ []) .ends
+    (rw bound-3 (omega arith))
 
 pub reset-ends-met : Ended (play (reset true (some 5) true) (heard [] was-reset ∷ []) [] .1)
 reset-ends-met = Condition2.reset-ends true (some 5) true (heard [] was-reset ∷ []) .ends (omega arith)
@@ -114,19 +131,30 @@ echoed = 0xA5 ∷ 0x00 ∷ 0x00 ∷ 0x00 ∷ 0x00 ∷ 0x00 ∷ 0x00 ∷ 0x00 ∷
 
 pub record-either-way-met : record′ writing image (echoed ++ (0xA5 ∷ 0x05 ∷ [])) ≡ record′ writing image echoed
 unfolding answer answerFrom read readSynced readSized rightCheck skipped number check crcFrom crcByte crcBit
-record-either-way-met = Condition2.record-either-way writing (Writing 5 (codeInfo device) 4 0) refl image echoed (0xA5 ∷ 0x05 ∷ []) (ok []) 24 refl
+record-either-way-met = Condition2.record-either-way writing (Writing 5 (codeInfo device) 4 0) refl image echoed
+    (0xA5 ∷ 0x05 ∷ []) (ok []) 24 refl
 
-pub rest-either-way-met : drop (record′ writing image (echoed ++ (0xA5 ∷ 0x05 ∷ [])) .rest) (echoed ++ (0xA5 ∷ 0x05 ∷ [])) ≡ drop (record′ writing image echoed .rest) echoed ++ (0xA5 ∷ 0x05 ∷ [])
+pub rest-either-way-met : drop (record′ writing image (echoed ++ (0xA5 ∷ 0x05 ∷ [])) .rest)
+    (echoed ++ (0xA5 ∷ 0x05 ∷ [])) ≡ drop (record′ writing image echoed .rest) echoed ++ (0xA5 ∷ 0x05 ∷ [])
 unfolding answer answerFrom read readSynced readSized rightCheck skipped number check crcFrom crcByte crcBit
-rest-either-way-met = Condition2.rest-either-way writing (Writing 5 (codeInfo device) 4 0) refl image echoed (0xA5 ∷ 0x05 ∷ []) (ok []) 24 refl
+rest-either-way-met = Condition2.rest-either-way writing (Writing 5 (codeInfo device) 4 0) refl image echoed
+    (0xA5 ∷ 0x05 ∷ []) (ok []) 24 refl
 
 -- A Select of the bits 1, 0, 1 with seed 1, and a stray byte after it.
 abbrev selects-101 : Frame
 selects-101 = record { command = 5; status = 0; flags = 0; address = 0; payload = 0x01 ∷ 0x03 ∷ 0x05 ∷ [] }
 
-pub frame-read-met : read (0xA5 ∷ 0x05 ∷ 0x00 ∷ 0x00 ∷ 0x00 ∷ 0x00 ∷ 0x00 ∷ 0x00 ∷ 0x03 ∷ 0x00 ∷ 0x01 ∷ 0x03 ∷ 0x05 ∷ 0xBF ∷ 0x22 ∷ 0x99 ∷ []) ≡ whole 0 selects-101
+pub frame-read-met : read (0xA5 ∷ 0x05 ∷ 0x00 ∷ 0x00 ∷ 0x00 ∷ 0x00 ∷ 0x00 ∷ 0x00 ∷ 0x03 ∷ 0x00 ∷ 0x01 ∷ 0x03 ∷ 0x05
+    ∷ 0xBF ∷ 0x22 ∷ 0x99 ∷ []) ≡ whole 0 selects-101
 unfolding frameBytes frameBody frameHead le check crcFrom crcByte crcBit
 frame-read-met =
     Condition2.frame-read selects-101
-    (record { command = omega arith; status = omega arith; flags = omega arith; address = omega arith; payload = (omega arith, (omega arith, (omega arith, tt))); short = omega arith })
+    (record {
+      command = omega arith;
+      status = omega arith;
+      flags = omega arith;
+      address = omega arith;
+      payload = (omega arith, (omega arith, (omega arith, tt)));
+      short = omega arith;
+    })
     (0x99 ∷ [])

@@ -1,6 +1,5 @@
--- Document 01 asks that it is shown: any two results that a contract allows are equal. Of each public call, about its own contract: what is
--- answered, the client after it, and every byte lent.
--- Assumes nothing.
+-- Document 01 asks that it is shown: any two results that a contract allows are equal. Of each public call, about its
+-- own contract: what is answered, the client after it, and every byte lent.
 use mathlib.Core.Path.{_≡_, refl, ap}
 use denote.Ref.{now}
 use Rattle.client.proofs.Client.new as ClientNew
@@ -90,7 +89,8 @@ pub start-set-baud-determined : Determined (record { ended = StartSetBaud.ended;
 start-set-baud-determined M 𝓤 H A mem run κs a g g′ r r′ w w′ = agree 𝓤 r r′ _ (λ e. (e, refl))
 
 pub request-determined : Determined (record { ended = Request.ended; clauses = Request.clauses })
-request-determined M 𝓤 H A mem run κs a g g′ r r′ w w′ = agree 𝓤 _ _ _ (λ e. (ap (λ x. x .answer) e, λ i. (tt, (tt, (e i .bytes, tt)))))
+request-determined M 𝓤 H A mem run κs a g g′ r r′ w w′ =
+    agree 𝓤 _ _ _ (λ e. (ap (λ x. x .answer) e, λ i. (tt, (tt, (e i .bytes, tt)))))
 
 pub record-determined : Determined (record { ended = Record.ended; clauses = Record.clauses })
 record-determined M 𝓤 H A mem run κs a g g′ r r′ w w′ = agree 𝓤 r r′ _ (λ e. (e, refl))
@@ -103,7 +103,8 @@ pub rest-determined : DeterminedBy (record { ended = Rest.ended; clauses = Rest.
 rest-determined M 𝓤 H A mem run κs a g g′ r r′ w w′ = agree 𝓤 (now r) (now r′) _ (λ e. (e, refl))
 
 pub uid-hex-determined : Determined (record { ended = UidHex.ended; clauses = UidHex.clauses })
-uid-hex-determined M 𝓤 H A mem run κs a g g′ r r′ w w′ = agree 𝓤 _ _ _ (λ e. (ap (λ x. x .answer) e, λ i. (tt, (e i .bytes, tt))))
+uid-hex-determined M 𝓤 H A mem run κs a g g′ r r′ w w′ =
+    agree 𝓤 _ _ _ (λ e. (ap (λ x. x .answer) e, λ i. (tt, (e i .bytes, tt))))
 
 pub parse-uid-determined : Determined (record { ended = ParseUid.ended; clauses = ParseUid.clauses })
 parse-uid-determined M 𝓤 H A mem run κs a g g′ r r′ w w′ = agree 𝓤 r r′ _ (λ e. (e, refl))
@@ -118,7 +119,8 @@ pub crc16-determined : Determined (record { ended = Crc16.ended; clauses = Crc16
 crc16-determined M 𝓤 H A mem run κs a g g′ r r′ w w′ = agree 𝓤 r r′ _ (λ e. (e, refl))
 
 pub write-frame-determined : Determined (record { ended = WriteFrame.ended; clauses = WriteFrame.clauses })
-write-frame-determined M 𝓤 H A mem run κs a g g′ r r′ w w′ = agree 𝓤 _ _ _ (λ e. (ap (λ x. x .answer) e, λ i. (tt, (tt, (tt, (e i .bytes, tt))))))
+write-frame-determined M 𝓤 H A mem run κs a g g′ r r′ w w′ =
+    agree 𝓤 _ _ _ (λ e. (ap (λ x. x .answer) e, λ i. (tt, (tt, (tt, (e i .bytes, tt))))))
 
 pub read-determined : Determined (record { ended = Read.ended; clauses = Read.clauses })
 read-determined M 𝓤 H A mem run κs a g g′ r r′ w w′ = agree 𝓤 r r′ _ (λ e. (e, refl))
@@ -130,67 +132,101 @@ pub answer-determined : Determined (record { ended = Answer.ended; clauses = Ans
 answer-determined M 𝓤 H A mem run κs a g g′ r r′ w w′ = agree 𝓤 r r′ _ (λ e. (e, refl))
 
 -- The exported calls.
-pub fahireky-state-size-determined : Determined (record { ended = FahirekyStateSize.ended; clauses = FahirekyStateSize.clauses })
+pub fahireky-state-size-determined : Determined
+    (record { ended = FahirekyStateSize.ended; clauses = FahirekyStateSize.clauses })
 fahireky-state-size-determined M 𝓤 H A mem run κs a g g′ r r′ w w′ = agree 𝓤 r r′ _ (λ e. (e, refl))
 
-pub fahireky-answer-size-determined : Determined (record { ended = FahirekyAnswerSize.ended; clauses = FahirekyAnswerSize.clauses })
+pub fahireky-answer-size-determined : Determined
+    (record { ended = FahirekyAnswerSize.ended; clauses = FahirekyAnswerSize.clauses })
 fahireky-answer-size-determined M 𝓤 H A mem run κs a g g′ r r′ w w′ = agree 𝓤 r r′ _ (λ e. (e, refl))
 
-pub fahireky-start-select-determined : Determined (record { ended = FahirekyStartSelect.ended; clauses = FahirekyStartSelect.clauses })
-fahireky-start-select-determined M 𝓤 H A mem run κs a g g′ r r′ w w′ = agree 𝓤 _ _ _ (λ e. (ap (λ x. x .code) e, λ i. (e i .state, (tt, (tt, (e i .answer, tt))))))
+pub fahireky-start-select-determined : Determined
+    (record { ended = FahirekyStartSelect.ended; clauses = FahirekyStartSelect.clauses })
+fahireky-start-select-determined M 𝓤 H A mem run κs a g g′ r r′ w w′ =
+    agree 𝓤 _ _ _ (λ e. (ap (λ x. x .code) e, λ i. (e i .state, (tt, (tt, (e i .answer, tt))))))
 
-pub fahireky-start-deselect-determined : Determined (record { ended = FahirekyStartDeselect.ended; clauses = FahirekyStartDeselect.clauses })
-fahireky-start-deselect-determined M 𝓤 H A mem run κs a g g′ r r′ w w′ = agree 𝓤 _ _ _ (λ e. (ap (λ x. x .code) e, λ i. (e i .state, (e i .answer, tt))))
+pub fahireky-start-deselect-determined : Determined
+    (record { ended = FahirekyStartDeselect.ended; clauses = FahirekyStartDeselect.clauses })
+fahireky-start-deselect-determined M 𝓤 H A mem run κs a g g′ r r′ w w′ =
+    agree 𝓤 _ _ _ (λ e. (ap (λ x. x .code) e, λ i. (e i .state, (e i .answer, tt))))
 
-pub fahireky-start-attach-determined : Determined (record { ended = FahirekyStartAttach.ended; clauses = FahirekyStartAttach.clauses })
-fahireky-start-attach-determined M 𝓤 H A mem run κs a g g′ r r′ w w′ = agree 𝓤 _ _ _ (λ e. (ap (λ x. x .code) e, λ i. (e i .state, (e i .answer, tt))))
+pub fahireky-start-attach-determined : Determined
+    (record { ended = FahirekyStartAttach.ended; clauses = FahirekyStartAttach.clauses })
+fahireky-start-attach-determined M 𝓤 H A mem run κs a g g′ r r′ w w′ =
+    agree 𝓤 _ _ _ (λ e. (ap (λ x. x .code) e, λ i. (e i .state, (e i .answer, tt))))
 
-pub fahireky-start-attach-to-determined : Determined (record { ended = FahirekyStartAttachTo.ended; clauses = FahirekyStartAttachTo.clauses })
-fahireky-start-attach-to-determined M 𝓤 H A mem run κs a g g′ r r′ w w′ = agree 𝓤 _ _ _ (λ e. (ap (λ x. x .code) e, λ i. (e i .state, (tt, (e i .answer, tt)))))
+pub fahireky-start-attach-to-determined : Determined
+    (record { ended = FahirekyStartAttachTo.ended; clauses = FahirekyStartAttachTo.clauses })
+fahireky-start-attach-to-determined M 𝓤 H A mem run κs a g g′ r r′ w w′ =
+    agree 𝓤 _ _ _ (λ e. (ap (λ x. x .code) e, λ i. (e i .state, (tt, (e i .answer, tt)))))
 
-pub fahireky-start-discover-determined : Determined (record { ended = FahirekyStartDiscover.ended; clauses = FahirekyStartDiscover.clauses })
-fahireky-start-discover-determined M 𝓤 H A mem run κs a g g′ r r′ w w′ = agree 𝓤 _ _ _ (λ e. (ap (λ x. x .code) e, λ i. (e i .state, (tt, (e i .answer, tt)))))
+pub fahireky-start-discover-determined : Determined
+    (record { ended = FahirekyStartDiscover.ended; clauses = FahirekyStartDiscover.clauses })
+fahireky-start-discover-determined M 𝓤 H A mem run κs a g g′ r r′ w w′ =
+    agree 𝓤 _ _ _ (λ e. (ap (λ x. x .code) e, λ i. (e i .state, (tt, (e i .answer, tt)))))
 
-pub fahireky-start-info-determined : Determined (record { ended = FahirekyStartInfo.ended; clauses = FahirekyStartInfo.clauses })
-fahireky-start-info-determined M 𝓤 H A mem run κs a g g′ r r′ w w′ = agree 𝓤 _ _ _ (λ e. (ap (λ x. x .code) e, λ i. (e i .state, (e i .answer, tt))))
+pub fahireky-start-info-determined : Determined
+    (record { ended = FahirekyStartInfo.ended; clauses = FahirekyStartInfo.clauses })
+fahireky-start-info-determined M 𝓤 H A mem run κs a g g′ r r′ w w′ =
+    agree 𝓤 _ _ _ (λ e. (ap (λ x. x .code) e, λ i. (e i .state, (e i .answer, tt))))
 
-pub fahireky-start-erase-determined : Determined (record { ended = FahirekyStartErase.ended; clauses = FahirekyStartErase.clauses })
-fahireky-start-erase-determined M 𝓤 H A mem run κs a g g′ r r′ w w′ = agree 𝓤 _ _ _ (λ e. (ap (λ x. x .code) e, λ i. (e i .state, (e i .answer, tt))))
+pub fahireky-start-erase-determined : Determined
+    (record { ended = FahirekyStartErase.ended; clauses = FahirekyStartErase.clauses })
+fahireky-start-erase-determined M 𝓤 H A mem run κs a g g′ r r′ w w′ =
+    agree 𝓤 _ _ _ (λ e. (ap (λ x. x .code) e, λ i. (e i .state, (e i .answer, tt))))
 
-pub fahireky-start-flash-determined : Determined (record { ended = FahirekyStartFlash.ended; clauses = FahirekyStartFlash.clauses })
-fahireky-start-flash-determined M 𝓤 H A mem run κs a g g′ r r′ w w′ = agree 𝓤 _ _ _ (λ e. (ap (λ x. x .code) e, λ i. (e i .state, (tt, (e i .answer, tt)))))
+pub fahireky-start-flash-determined : Determined
+    (record { ended = FahirekyStartFlash.ended; clauses = FahirekyStartFlash.clauses })
+fahireky-start-flash-determined M 𝓤 H A mem run κs a g g′ r r′ w w′ =
+    agree 𝓤 _ _ _ (λ e. (ap (λ x. x .code) e, λ i. (e i .state, (tt, (e i .answer, tt)))))
 
-pub fahireky-start-reset-determined : Determined (record { ended = FahirekyStartReset.ended; clauses = FahirekyStartReset.clauses })
-fahireky-start-reset-determined M 𝓤 H A mem run κs a g g′ r r′ w w′ = agree 𝓤 _ _ _ (λ e. (ap (λ x. x .code) e, λ i. (e i .state, (tt, (tt, (e i .answer, tt))))))
+pub fahireky-start-reset-determined : Determined
+    (record { ended = FahirekyStartReset.ended; clauses = FahirekyStartReset.clauses })
+fahireky-start-reset-determined M 𝓤 H A mem run κs a g g′ r r′ w w′ =
+    agree 𝓤 _ _ _ (λ e. (ap (λ x. x .code) e, λ i. (e i .state, (tt, (tt, (e i .answer, tt))))))
 
-pub fahireky-start-set-baud-determined : Determined (record { ended = FahirekyStartSetBaud.ended; clauses = FahirekyStartSetBaud.clauses })
-fahireky-start-set-baud-determined M 𝓤 H A mem run κs a g g′ r r′ w w′ = agree 𝓤 _ _ _ (λ e. (ap (λ x. x .code) e, λ i. (e i .state, (tt, (tt, (tt, (e i .answer, tt)))))))
+pub fahireky-start-set-baud-determined : Determined
+    (record { ended = FahirekyStartSetBaud.ended; clauses = FahirekyStartSetBaud.clauses })
+fahireky-start-set-baud-determined M 𝓤 H A mem run κs a g g′ r r′ w w′ =
+    agree 𝓤 _ _ _ (λ e. (ap (λ x. x .code) e, λ i. (e i .state, (tt, (tt, (tt, (e i .answer, tt)))))))
 
-pub fahireky-request-determined : Determined (record { ended = FahirekyRequest.ended; clauses = FahirekyRequest.clauses })
-fahireky-request-determined M 𝓤 H A mem run κs a g g′ r r′ w w′ = agree 𝓤 _ _ _ (λ e. (ap (λ x. x .code) e, λ i. (e i .state, (tt, (e i .buffer, (e i .answer, tt))))))
+pub fahireky-request-determined : Determined
+    (record { ended = FahirekyRequest.ended; clauses = FahirekyRequest.clauses })
+fahireky-request-determined M 𝓤 H A mem run κs a g g′ r r′ w w′ =
+    agree 𝓤 _ _ _ (λ e. (ap (λ x. x .code) e, λ i. (e i .state, (tt, (e i .buffer, (e i .answer, tt))))))
 
 pub fahireky-record-determined : Determined (record { ended = FahirekyRecord.ended; clauses = FahirekyRecord.clauses })
-fahireky-record-determined M 𝓤 H A mem run κs a g g′ r r′ w w′ = agree 𝓤 _ _ _ (λ e. (ap (λ x. x .code) e, λ i. (e i .state, (tt, (tt, (e i .answer, tt))))))
+fahireky-record-determined M 𝓤 H A mem run κs a g g′ r r′ w w′ =
+    agree 𝓤 _ _ _ (λ e. (ap (λ x. x .code) e, λ i. (e i .state, (tt, (tt, (e i .answer, tt))))))
 
-pub fahireky-link-failed-determined : Determined (record { ended = FahirekyLinkFailed.ended; clauses = FahirekyLinkFailed.clauses })
-fahireky-link-failed-determined M 𝓤 H A mem run κs a g g′ r r′ w w′ = agree 𝓤 _ _ _ (λ e. (ap (λ x. x .code) e, λ i. (e i .state, (e i .answer, tt))))
+pub fahireky-link-failed-determined : Determined
+    (record { ended = FahirekyLinkFailed.ended; clauses = FahirekyLinkFailed.clauses })
+fahireky-link-failed-determined M 𝓤 H A mem run κs a g g′ r r′ w w′ =
+    agree 𝓤 _ _ _ (λ e. (ap (λ x. x .code) e, λ i. (e i .state, (e i .answer, tt))))
 
-pub fahireky-attached-determined : Determined (record { ended = FahirekyAttached.ended; clauses = FahirekyAttached.clauses })
-fahireky-attached-determined M 𝓤 H A mem run κs a g g′ r r′ w w′ = agree 𝓤 _ _ _ (λ e. (ap (λ x. x .code) e, λ i. (tt, (e i .bytes, tt))))
+pub fahireky-attached-determined : Determined
+    (record { ended = FahirekyAttached.ended; clauses = FahirekyAttached.clauses })
+fahireky-attached-determined M 𝓤 H A mem run κs a g g′ r r′ w w′ =
+    agree 𝓤 _ _ _ (λ e. (ap (λ x. x .code) e, λ i. (tt, (e i .bytes, tt))))
 
 pub fahireky-hear-determined : Determined (record { ended = FahirekyHear.ended; clauses = FahirekyHear.clauses })
-fahireky-hear-determined M 𝓤 H A mem run κs a g g′ r r′ w w′ = agree 𝓤 _ _ _ (λ e. (ap (λ x. x .code) e, λ i. (tt, (e i .bytes, tt))))
+fahireky-hear-determined M 𝓤 H A mem run κs a g g′ r r′ w w′ =
+    agree 𝓤 _ _ _ (λ e. (ap (λ x. x .code) e, λ i. (tt, (e i .bytes, tt))))
 
 pub fahireky-rest-determined : Determined (record { ended = FahirekyRest.ended; clauses = FahirekyRest.clauses })
 fahireky-rest-determined M 𝓤 H A mem run κs a g g′ r r′ w w′ = agree 𝓤 r r′ _ (λ e. (e, refl))
 
 pub fahireky-uid-hex-determined : Determined (record { ended = FahirekyUidHex.ended; clauses = FahirekyUidHex.clauses })
-fahireky-uid-hex-determined M 𝓤 H A mem run κs a g g′ r r′ w w′ = agree 𝓤 _ _ _ (λ e. (ap (λ x. x .code) e, λ i. (tt, (e i .bytes, tt))))
+fahireky-uid-hex-determined M 𝓤 H A mem run κs a g g′ r r′ w w′ =
+    agree 𝓤 _ _ _ (λ e. (ap (λ x. x .code) e, λ i. (tt, (e i .bytes, tt))))
 
-pub fahireky-parse-uid-determined : Determined (record { ended = FahirekyParseUid.ended; clauses = FahirekyParseUid.clauses })
-fahireky-parse-uid-determined M 𝓤 H A mem run κs a g g′ r r′ w w′ = agree 𝓤 _ _ _ (λ e. (ap (λ x. x .code) e, λ i. (tt, (e i .bytes, tt))))
+pub fahireky-parse-uid-determined : Determined
+    (record { ended = FahirekyParseUid.ended; clauses = FahirekyParseUid.clauses })
+fahireky-parse-uid-determined M 𝓤 H A mem run κs a g g′ r r′ w w′ =
+    agree 𝓤 _ _ _ (λ e. (ap (λ x. x .code) e, λ i. (tt, (e i .bytes, tt))))
 
-pub fahireky-image-compat-determined : Determined (record { ended = FahirekyImageCompat.ended; clauses = FahirekyImageCompat.clauses })
+pub fahireky-image-compat-determined : Determined
+    (record { ended = FahirekyImageCompat.ended; clauses = FahirekyImageCompat.clauses })
 fahireky-image-compat-determined M 𝓤 H A mem run κs a g g′ r r′ w w′ = agree 𝓤 r r′ _ (λ e. (e, refl))
 
 pub fahireky-crc16-determined : Determined (record { ended = FahirekyCrc16.ended; clauses = FahirekyCrc16.clauses })

@@ -1,5 +1,4 @@
 -- What is shown of a log that was reached by feeding pieces is document 01's output of them.
--- Assumes nothing.
 use Prim.Native.Nat.{ℕ, _≤_}
 use mathlib.Core.List.{List}
 use mathlib.Core.Path.{_≡_, _∙_, ap}
@@ -15,16 +14,25 @@ use Rattle.log_feed.specs.Pieces.{Reached, concat}
 use Rattle.log_theory.proofs.Output.{log-output}
 use Rattle.bench_log.specs.Reports.{Reports}
 
-pub reported : (w : Log) (a : Answer) (n : ℕ) (buf₀ buf before after : List ℕ) → length buf₀ ≡ 4096 → Reached (record { log = begun; bytes = buf₀ }) (record { log = w; bytes = buf })
-    → a ≡ answer (lastLine (record { log = w; bytes = buf }) .log .replay) → record { len = n; bytes = after } ≡ placed (text a) before → Reports before n after
+pub reported : (w : Log) (a : Answer) (n : ℕ) (buf₀ buf before after : List ℕ) → length buf₀ ≡ 4096
+    → Reached (record { log = begun; bytes = buf₀ }) (record { log = w; bytes = buf })
+    → a ≡ answer (lastLine (record { log = w; bytes = buf }) .log .replay)
+    → record { len = n; bytes = after } ≡ placed (text a) before → Reports before n after
 reported w a n buf₀ buf before after h r ea e = record {
   fed = r .fed;
   same =
       e
-      ∙ ap (λ (a : Answer). placed (text a) before) (ea ∙ ap (λ (s : Logged). answer (lastLine s .log .replay)) (r .same))
+      ∙ ap (λ (a : Answer). placed (text a) before)
+      (ea ∙ ap (λ (s : Logged). answer (lastLine s .log .replay)) (r .same))
       ∙ ap (λ (t : List ℕ). placed t before) (log-output (r .fed) buf₀ h);
 }
 
 pub report-fits : (before after : List ℕ) (n : ℕ) → Reports before n after → n ≤ length after
 report-fits before after n r =
-    omega (arith, ap (λ (p : Placed). p .len) (r .same), ap (λ (p : Placed). length (p .bytes)) (r .same), length-append (output (concat (r .fed))) (drop (length (output (concat (r .fed)))) before))
+    omega (
+      arith,
+      ap (λ (p : Placed). p .len) (r .same),
+      ap (λ (p : Placed). length (p .bytes))
+          (r .same),
+      length-append (output (concat (r .fed))) (drop (length (output (concat (r .fed)))) before),
+    )

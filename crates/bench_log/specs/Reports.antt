@@ -1,5 +1,4 @@
 -- What stands in the program's output buffer.
--- Assumes nothing.
 use Prim.Native.Nat.{ℕ}
 use mathlib.Core.List.{List}
 use mathlib.Core.Path.{_≡_}

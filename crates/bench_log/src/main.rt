@@ -2,9 +2,9 @@
 ghost use Rattle.log_feed.specs.FeedMachine.{Logged, begun};
 ghost use Rattle.log_feed.specs.Pieces.{Reached};
 ghost use Rattle.bench_log.specs.Reports.{Reports};
-use log_feed::events::Log;
 use libc::STDIN_FILENO;
 use libc::STDOUT_FILENO;
+use log_feed::events::Log;
 
 struct Pumped {
     more: bool,
@@ -13,7 +13,8 @@ struct Pumped {
 
 // One read, and what it brought. A read that fails counts as the end of the input.
 fn pump(log: Log, page: &mut [u8], buf: &mut [u8]) -> Pumped
-    ensures { λ r. ⌜ Reached (record { log = log; bytes = now (buf .entry) }) (record { log = r .log; bytes = now (buf .exit) }) ⌝ }
+    ensures { λ r. ⌜ Reached (record { log = log; bytes = now (buf .entry) })
+        (record { log = r .log; bytes = now (buf .exit) }) ⌝ }
 {
     let got = libc::read(STDIN_FILENO, page);
     if got <= 0 {
@@ -27,10 +28,11 @@ fn pump(log: Log, page: &mut [u8], buf: &mut [u8]) -> Pumped
     }
 }
 
-// A proved loop has to end, and nothing says that the input does. So the turns are counted down, from 2^64 - 1, and each is a read of a byte
-// or more.
+// A proved loop has to end, and nothing says that the input does. So the turns are counted down, from 2^64 - 1, and
+// each is a read of a byte or more.
 fn pump_all(page: &mut [u8], buf: &mut [u8]) -> Log
-    ensures { λ r. ⌜ Reached (record { log = begun; bytes = now (buf .entry) }) (record { log = r; bytes = now (buf .exit) }) ⌝ }
+    ensures { λ r. ⌜ Reached (record { log = begun; bytes = now (buf .entry) })
+        (record { log = r; bytes = now (buf .exit) }) ⌝ }
 {
     let mut log = log_feed::begun();
     let mut turns = u64::MAX;

@@ -1,5 +1,4 @@
 -- The ways through the client's moves, from the facts that the code has.
--- Assumes nothing.
 use Prim.Native.Nat.{ℕ}
 use mathlib.Core.Bool.{Bool, true, false, not, cond}
 use lib.Dec.{eqb}
@@ -33,7 +32,8 @@ use Rattle.client.specs.declared.Touch.the-variants.{Same, Gives, Clears
 use Rattle.client.specs.declared.Change.{Change}
 use Rattle.client.specs.declared.Verdict.{Verdict}
 use Rattle.client.specs.Numbers.{numberOf, changesNoState}
-use Rattle.client.specs.Clients.{onTurn, begun, turned, fresh, idle, holding, cleared, attached, running, differs, otherFor, otherImage, refuses, over, stops, onward}
+use Rattle.client.specs.Clients.{onTurn, begun, turned, fresh, idle, holding, cleared, attached, running, differs}
+use Rattle.client.specs.Clients.{otherFor, otherImage, refuses, over, stops, onward}
 use Rattle.client.specs.Verdicts.{clientOf, renewed, startedOf, still, changed, given, toldOf}
 
 -- A turn that is known.
@@ -48,7 +48,8 @@ module _ {A : Type 0} (t : Turn) (a : A) (f g : Phase → A) where
   at-waiting p e = rw e
 
 -- Clients.
-pub fresh-is : (x : Id) (w : Walk) → x ≡ noId → w ≡ noWalk → record { seed = 0; attached = false; id = x; turn = Idle; prefix = x; bits = 0; walk = w } ≡ fresh
+pub fresh-is : (x : Id) (w : Walk) → x ≡ noId → w ≡ noWalk
+    → record { seed = 0; attached = false; id = x; turn = Idle; prefix = x; bits = 0; walk = w } ≡ fresh
 unfolding fresh
 fresh-is x w e f = rw (e, f)
 
@@ -109,48 +110,63 @@ unfolding otherImage
 other-demand n b p j e f = rw e f
 
 -- Fronts, and what is decided on one.
-pub no-walk-is : (p : Place) (t : Table) (w : Walk) → walkOf p noTable ≡ noWalk → t ≡ noTable → w ≡ walkOf p t → w ≡ noWalk
+pub no-walk-is : (p : Place) (t : Table) (w : Walk) → walkOf p noTable ≡ noWalk → t ≡ noTable → w ≡ walkOf p t
+    → w ≡ noWalk
 no-walk-is p t w e f g = g ∙ rw f e
 
-pub still-is : (touch : Touch) (p : Place) (x : Id) → walkOf p noTable ≡ noWalk → x ≡ noId → record { touch = touch; place = p; entry = record { id = x } } ≡ still touch
+pub still-is : (touch : Touch) (p : Place) (x : Id) → walkOf p noTable ≡ noWalk → x ≡ noId
+    → record { touch = touch; place = p; entry = record { id = x } } ≡ still touch
 still-is touch p x e f = rw (f, ap placeOf e)
 
 module _ (f g : Front) where
-  pub idle-is : (x : Id) → x ≡ noId → ((w : Walk) → clientOf g w ≡ begun (clientOf f w) Idle x 0 w) → (w : Walk) → clientOf g noWalk ≡ idle (clientOf f w)
+  pub idle-is : (x : Id) → x ≡ noId → ((w : Walk) → clientOf g w ≡ begun (clientOf f w) Idle x 0 w) → (w : Walk)
+      → clientOf g noWalk ≡ idle (clientOf f w)
   unfolding idle
   idle-is x e h w = rw e at h noWalk
 
-  pub cleared-is : (x : Id) → x ≡ noId → ((w : Walk) → clientOf g w ≡ holding (clientOf f w) false x) → (w : Walk) → clientOf g w ≡ cleared (clientOf f w)
+  pub cleared-is : (x : Id) → x ≡ noId → ((w : Walk) → clientOf g w ≡ holding (clientOf f w) false x) → (w : Walk)
+      → clientOf g w ≡ cleared (clientOf f w)
   unfolding cleared
   cleared-is x e h w = rw e at h w
 
-  pub onward-is : (p : Phase) (x : Id) (change : Change) (at : ℕ) → x ≡ noId → ((w : Walk) → clientOf g w ≡ turned (clientOf f w) (Ready p)) → (w : Walk) → given change w ≡ noTable
-      → toldOf (record { says = Onward; front = g; change = change; rest = at; progress = None; id = x }) w ≡ onward (clientOf f w) p (changed change w) at
+  pub onward-is : (p : Phase) (x : Id) (change : Change) (at : ℕ) → x ≡ noId
+      → ((w : Walk) → clientOf g w ≡ turned (clientOf f w) (Ready p)) → (w : Walk) → given change w ≡ noTable
+      → toldOf (record { says = Onward; front = g; change = change; rest = at; progress = None; id = x }) w
+      ≡ onward (clientOf f w) p (changed change w) at
   unfolding onward
   onward-is p x change at k h w e = rw (k, e, h (changed change w))
 
-  pub ends-is : (s : Says) (x : Id) (touch : Touch) (change : Change) (at : ℕ) → change ≡ still touch → ((w : Walk) → clientOf g noWalk ≡ idle (clientOf f w)) → (w : Walk) → changed (still touch) w ≡ noWalk
-      → toldOf (record { says = s; front = g; change = change; rest = at; progress = None; id = x }) w ≡ over (clientOf f w) s x (given (still touch) w) at
+  pub ends-is : (s : Says) (x : Id) (touch : Touch) (change : Change) (at : ℕ) → change ≡ still touch
+      → ((w : Walk) → clientOf g noWalk ≡ idle (clientOf f w)) → (w : Walk) → changed (still touch) w ≡ noWalk
+      → toldOf (record { says = s; front = g; change = change; rest = at; progress = None; id = x }) w
+      ≡ over (clientOf f w) s x (given (still touch) w) at
   unfolding over
   ends-is s x touch change at k h w e = rw (k, e, h w)
 
 module _ (f : Front) (s : Says) (x : Id) (at : ℕ) (r : Verdict) (b : Bool) where
-  pub over-gives : b ≡ true → ((w : Walk) → noWalk ≡ noWalk → toldOf r w ≡ over (clientOf f w) s x (giving (w .found)) at) → (w : Walk) → toldOf r w ≡ over (clientOf f w) s x (cond b (giving (w .found)) noTable) at
+  pub over-gives : b ≡ true → ((w : Walk) → noWalk ≡ noWalk
+      → toldOf r w ≡ over (clientOf f w) s x (giving (w .found)) at) → (w : Walk)
+      → toldOf r w ≡ over (clientOf f w) s x (cond b (giving (w .found)) noTable) at
   over-gives e h w = rw e (h w refl)
 
-  pub over-clears : b ≡ false → ((w : Walk) → noWalk ≡ noWalk → toldOf r w ≡ over (clientOf f w) s x noTable at) → (w : Walk) → toldOf r w ≡ over (clientOf f w) s x (cond b (giving (w .found)) noTable) at
+  pub over-clears : b ≡ false → ((w : Walk) → noWalk ≡ noWalk → toldOf r w ≡ over (clientOf f w) s x noTable at)
+      → (w : Walk) → toldOf r w ≡ over (clientOf f w) s x (cond b (giving (w .found)) noTable) at
   over-clears e h w = rw e (h w refl)
 
 module _ (f : Front) where
   pub refuses-is : (q : Refusal) (x : Id) (change : Change) → x ≡ noId → change ≡ still Same → (w : Walk)
-      → toldOf (record { says = Refused q; front = f; change = change; rest = 0; progress = None; id = x }) w ≡ refuses (clientOf f w) q
+      → toldOf (record { says = Refused q; front = f; change = change; rest = 0; progress = None; id = x }) w
+      ≡ refuses (clientOf f w) q
   refuses-is q x change e k w = rw (e, k)
 
-  pub stops-is : (s : Says) (x : Id) (at : ℕ) (r : Verdict) → x ≡ noId → ((w : Walk) → toldOf r w ≡ over (clientOf f w) s x noTable at) → (w : Walk) → toldOf r w ≡ stops (clientOf f w) s at
+  pub stops-is : (s : Says) (x : Id) (at : ℕ) (r : Verdict) → x ≡ noId
+      → ((w : Walk) → toldOf r w ≡ over (clientOf f w) s x noTable at) → (w : Walk)
+      → toldOf r w ≡ stops (clientOf f w) s at
   stops-is s x at r e h w = rw e at h w
 
   pub stays-is : (p : Phase) (change : Change) (at : ℕ) (r : Verdict) → change ≡ still Same
-      → ((w : Walk) → given change w ≡ noTable → toldOf r w ≡ onward (clientOf f w) p (changed change w) at) → (w : Walk) → toldOf r w ≡ onward (clientOf f w) p w at
+      → ((w : Walk) → given change w ≡ noTable → toldOf r w ≡ onward (clientOf f w) p (changed change w) at)
+      → (w : Walk) → toldOf r w ≡ onward (clientOf f w) p w at
   stays-is p change at r e h w = go (rw e at h w)
     where
       go : (noTable ≡ noTable → toldOf r w ≡ onward (clientOf f w) p w at) → toldOf r w ≡ onward (clientOf f w) p w at
@@ -160,8 +176,10 @@ module _ (b : Bool) (x : Id) (w : Walk) where
   pub walk-stays : b ≡ false → w ≡ renewed b x w
   walk-stays e = rw e
 
-  pub walk-begins : (p : Place) (t : Table) (r : Walk) → b ≡ true → walkOf p noTable ≡ begin x → t ≡ noTable → r ≡ walkOf p t → r ≡ renewed b x w
+  pub walk-begins : (p : Place) (t : Table) (r : Walk) → b ≡ true → walkOf p noTable ≡ begin x → t ≡ noTable
+      → r ≡ walkOf p t → r ≡ renewed b x w
   walk-begins p t r e h f g = g ∙ rw (f, e) h
 
-pub started-is : (o : Opening) (w v : Walk) (c : Client) → v ≡ renewed (o .begins) (o .from) w → c ≡ clientOf (o .front) v → record { says = o .says; client = c } ≡ startedOf o w
+pub started-is : (o : Opening) (w v : Walk) (c : Client) → v ≡ renewed (o .begins) (o .from) w
+    → c ≡ clientOf (o .front) v → record { says = o .says; client = c } ≡ startedOf o w
 started-is o w v c e f = rw (f, e)

@@ -1,5 +1,4 @@
 -- The client's record: of every value, also one that no sequence of calls reaches.
--- Assumes nothing.
 use Prim.Native.Nat.{ℕ}
 use mathlib.Core.Bool.{Bool, true, false, not}
 use lib.Dec.{eqb}
@@ -50,7 +49,8 @@ onPurpose Tell t c l = t
 onPurpose Clear t c l = c
 onPurpose (Load n) t c l = l n
 
-abbrev pub onJob {ℓ} : {A : Type ℓ} → Job → (Purpose → A) → (Purpose → Info → ℕ → A) → (ℕ → Info → ℕ → ℕ → A) → (ℕ → Info → A) → (Reset → A) → A
+abbrev pub onJob {ℓ} : {A : Type ℓ} → Job → (Purpose → A) → (Purpose → Info → ℕ → A) → (ℕ → Info → ℕ → ℕ → A)
+    → (ℕ → Info → A) → (Reset → A) → A
 onJob (Informing why) i e w v r = i why
 onJob (Erasing why info address) i e w v r = e why info address
 onJob (Writing n info offset retries) i e w v r = w n info offset retries
@@ -67,14 +67,23 @@ unfoldable pub differs : Purpose → ℕ → Bool
 differs why n = onPurpose why false false (λ m. not (eqb m n))
 
 unfoldable pub otherFor : Job → ℕ → Bool
-otherFor j n = onJob j (λ why. differs why n) (λ why info address. differs why n) (λ m info offset retries. not (eqb m n)) (λ m info. not (eqb m n)) (λ reset. false)
+otherFor j n = onJob j (λ why. differs why n) (λ why info address. differs why n)
+    (λ m info offset retries. not (eqb m n)) (λ m info. not (eqb m n)) (λ reset. false)
 
 unfoldable pub otherImage : Phase → ℕ → Bool
 otherImage p n = onPhase p (λ s. false) (λ j. otherFor j n) (λ reset. false)
 
 -- Clients made of others.
 abbrev pub begun : Client → Turn → Id → ℕ → Walk → Client
-begun c t x bits w = record { seed = c .seed; attached = c .attached; id = c .id; turn = t; prefix = x; bits = bits; walk = w }
+begun c t x bits w = record {
+  seed = c .seed;
+  attached = c .attached;
+  id = c .id;
+  turn = t;
+  prefix = x;
+  bits = bits;
+  walk = w;
+}
 
 unfoldable pub fresh : Client
 fresh = record { seed = 0; attached = false; id = noId; turn = Idle; prefix = noId; bits = 0; walk = noWalk }
@@ -86,7 +95,15 @@ abbrev pub turned : Client → Turn → Client
 turned c t = begun c t (c .prefix) (c .bits) (c .walk)
 
 abbrev pub holding : Client → Bool → Id → Client
-holding c any x = record { seed = c .seed; attached = any; id = x; turn = c .turn; prefix = c .prefix; bits = c .bits; walk = c .walk }
+holding c any x = record {
+  seed = c .seed;
+  attached = any;
+  id = x;
+  turn = c .turn;
+  prefix = c .prefix;
+  bits = c .bits;
+  walk = c .walk;
+}
 
 unfoldable pub cleared : Client → Client
 cleared c = holding c false noId
@@ -110,8 +127,23 @@ abbrev pub stops : Client → Says → ℕ → Told
 stops c says at = over c says noId noTable at
 
 unfoldable pub onward : Client → Phase → Walk → ℕ → Told
-onward c p w at = record { says = Onward; client = begun c (Ready p) (c .prefix) (c .bits) w; rest = at; progress = None; id = noId; found = noTable }
+onward c p w at = record {
+  says = Onward;
+  client = begun c (Ready p) (c .prefix)
+      (c .bits) w;
+  rest = at;
+  progress = None;
+  id = noId;
+  found = noTable;
+}
 
 -- With progress made.
 abbrev pub making : Told → Progress → Told
-making t progress = record { says = t .says; client = t .client; rest = t .rest; progress = progress; id = t .id; found = t .found }
+making t progress = record {
+  says = t .says;
+  client = t .client;
+  rest = t .rest;
+  progress = progress;
+  id = t .id;
+  found = t .found;
+}

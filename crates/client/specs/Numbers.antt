@@ -1,14 +1,14 @@
--- Document 01, "Refusal numbers": the number of each refusal and what it carries; and the code's answers read as document 01's.
--- Assumes nothing.
+-- Document 01, "Refusal numbers": the number of each refusal and what it carries; and the code's answers read as
+-- document 01's.
 use Prim.Native.Nat.{ℕ}
 use mathlib.Core.Bool.{Bool, _||_, cond}
 use mathlib.Core.List.{List, [], _∷_, map}
 use mathlib.Core.Option.{Option, none, some}
 use lib.Dec.{eqb}
 use lib.ListN.{replicate}
-use Rattle.paper.specs.Client as Paper
+use Rattle.paper.specs.Client as PaperClient
 use Rattle.paper.specs.Client.{refused, granted, closing, onward, over}
-use Rattle.paper.specs.Hearing as Paper₂
+use Rattle.paper.specs.Hearing as PaperHearing
 use Rattle.paper.specs.Hearing.{nothing, one, unaddressed, garble}
 use Rattle.paper.specs.Talk.{quiet, heard, attached, found, knows}
 use Rattle.ids.specs.declared.Id.{Id}
@@ -23,7 +23,11 @@ use Rattle.image.specs.Images.{paperInfo}
 use Rattle.client.specs.declared.Outcome.{Outcome}
 use Rattle.client.specs.declared.Outcome.the-variants as Code
 use Rattle.client.specs.declared.Refusal.{Refusal}
-use Rattle.client.specs.declared.Refusal.the-variants.{Io, Device, FirmwareTooLarge, CrcMismatch, BadInfo, Incompatible, NoDevice, SeveralDevices, NoSuchUid, AmbiguousUid, NotAddressable, DuplicateUid, BadPrefix, LongId, TableFull, ShortBuffer, RetriesSpent, ShortVerify, SpansTooFar, OtherImage, OutOfTurn}
+use Rattle.client.specs.declared.Refusal.the-variants.{Io, Device, FirmwareTooLarge, CrcMismatch, BadInfo}
+use Rattle.client.specs.declared.Refusal.the-variants.{Incompatible, NoDevice, SeveralDevices, NoSuchUid}
+use Rattle.client.specs.declared.Refusal.the-variants.{AmbiguousUid, NotAddressable, DuplicateUid, BadPrefix}
+use Rattle.client.specs.declared.Refusal.the-variants.{LongId, TableFull, ShortBuffer, RetriesSpent, ShortVerify}
+use Rattle.client.specs.declared.Refusal.the-variants.{SpansTooFar, OtherImage, OutOfTurn}
 use Rattle.client.specs.declared.Progress.{Progress}
 use Rattle.client.specs.declared.Progress.the-variants.{None, Made}
 use Rattle.client.specs.declared.Says.{Says}
@@ -86,19 +90,21 @@ carriedBy OtherImage x = []
 carriedBy OutOfTurn x = []
 
 -- The ids of a table, row for row.
-unfoldable pub idsOf : Table → List Paper₂.Id
+unfoldable pub idsOf : Table → List PaperHearing.Id
 idsOf t = map (λ e. idOf (e .id)) (rows t 0 (t .count))
 
--- What was heard, with the id beside it. Too long is read as an id of 17 bytes, which no answer of document 01's holds: it is refused.
-unfoldable pub heardFrom : Heard → Id → Paper₂.Heard
+-- What was heard, with the id beside it. Too long is read as an id of 17 bytes, which no answer of document 01's holds:
+-- it is refused.
+unfoldable pub heardFrom : Heard → Id → PaperHearing.Heard
 heardFrom h x = onHeard h nothing (one (idOf x)) (one (replicate 17 0)) unaddressed garble
 
 unfoldable pub progressOf : Progress → Option (ℕ × ℕ)
 progressOf None = none
 progressOf (Made done total) = some (done, total)
 
--- An outcome, with the progress, the id and the ids beside it. "outcome 23" is a number of document 01's, and of the code's outcomes.
-unfoldable pub endOf : Outcome → Progress → Id → Table → Paper.Says
+-- An outcome, with the progress, the id and the ids beside it. "outcome 23" is a number of document 01's, and of the
+-- code's outcomes.
+unfoldable pub endOf : Outcome → Progress → Id → Table → PaperClient.Says
 endOf Code.Quiet p x t = over (progressOf p) quiet
 endOf (Code.Heard h) p x t = over (progressOf p) (heard (heardFrom h x))
 endOf (Code.Attached any) p x t = over (progressOf p) (attached (cond any (some (idOf x)) none))
@@ -106,7 +112,7 @@ endOf Code.Found p x t = over (progressOf p) (found (idsOf t))
 endOf (Code.Knows info) p x t = over (progressOf p) (knows (paperInfo info))
 endOf Code.Unaddressed p x t = refused 23 []
 
-unfoldable pub saysOf : Says → Progress → Id → Table → Paper.Says
+unfoldable pub saysOf : Says → Progress → Id → Table → PaperClient.Says
 saysOf (Granted n) p x t = granted n
 saysOf (Closing n) p x t = closing n
 saysOf Onward p x t = onward (progressOf p)

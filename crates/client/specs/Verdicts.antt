@@ -1,5 +1,4 @@
 -- What a call that was decided without the walk makes of a client with a walk.
--- Assumes nothing.
 use mathlib.Core.Bool.{Bool, cond}
 use Rattle.ids.specs.declared.Id.{Id}
 use Rattle.ids.specs.Ids.{noId}
@@ -19,10 +18,25 @@ use Rattle.client.specs.declared.Told.{Told}
 
 -- All of a client but its walk, and a client of the two.
 abbrev pub frontOf : Client → Front
-frontOf c = record { seed = c .seed; attached = c .attached; id = c .id; turn = c .turn; prefix = c .prefix; bits = c .bits }
+frontOf c = record {
+  seed = c .seed;
+  attached = c .attached;
+  id = c .id;
+  turn = c .turn;
+  prefix = c .prefix;
+  bits = c .bits;
+}
 
 abbrev pub clientOf : Front → Walk → Client
-clientOf f w = record { seed = f .seed; attached = f .attached; id = f .id; turn = f .turn; prefix = f .prefix; bits = f .bits; walk = w }
+clientOf f w = record {
+  seed = f .seed;
+  attached = f .attached;
+  id = f .id;
+  turn = f .turn;
+  prefix = f .prefix;
+  bits = f .bits;
+  walk = w;
+}
 
 -- The walk after a start or a request, and the answer by value.
 abbrev pub renewed : Bool → Id → Walk → Walk
@@ -40,7 +54,8 @@ onTouch Gives s m k g c = g
 onTouch Clears s m k g c = c
 
 abbrev pub changed : Change → Walk → Walk
-changed x w = onTouch (x .touch) w (walkOf (x .place) (w .found)) (walkOf (x .place) (keeping (w .found) (x .entry))) noWalk noWalk
+changed x w = onTouch (x .touch) w (walkOf (x .place) (w .found))
+    (walkOf (x .place) (keeping (w .found) (x .entry))) noWalk noWalk
 
 abbrev pub given : Change → Walk → Table
 given x w = onTouch (x .touch) noTable noTable noTable (giving (w .found)) noTable

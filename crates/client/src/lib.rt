@@ -1,19 +1,21 @@
-// The client's record, its front (all of it but the walk), and what a call decides on the front: what is said, and what becomes of the walk.
+// The client's record, its front (all of it but the walk), and what a call decides on the front: what is said, and what
+// becomes of the walk.
 use hearing::Heard;
 use ids::Id;
 use image::Compat;
 use image::Info;
-use walk_table::Entry;
-use walk_table::Table;
 use walk::Place;
 use walk::Walk;
+use walk_table::Entry;
+use walk_table::Table;
 ghost use mathlib.Core.Path.{_≡_};
 ghost use mathlib.Core.Bool.{cond};
 ghost use Rattle.walk_table.specs.Rows.{noTable, giving};
 ghost use Rattle.walk.specs.declared.Walk.{Walk};
 ghost use Rattle.walk.specs.Moves.{noWalk};
 ghost use Rattle.client.specs.Numbers.{numberOf, changesNoState};
-ghost use Rattle.client.specs.Clients.{fresh, running, differs, otherFor, otherImage, idle, turned, begun, refuse, refuses, over, stops, onward, making, cleared, holding, attached};
+ghost use Rattle.client.specs.Clients.{fresh, running, differs, otherFor, otherImage, idle, turned, begun};
+ghost use Rattle.client.specs.Clients.{refuse, refuses, over, stops, onward, making, cleared, holding, attached};
 ghost use Rattle.client.specs.Verdicts.{frontOf, clientOf, renewed, startedOf, still, changed, given, toldOf};
 
 // What a Select is for; given says whether a prefix was.
@@ -39,7 +41,8 @@ pub struct Reset {
     pub baud: u8,
 }
 
-// What a request with one answer is for. An Erase has its address; a Write the image's length, its offset, and how often it was repeated.
+// What a request with one answer is for. An Erase has its address; a Write the image's length, its offset, and how
+// often it was repeated.
 pub enum Job {
     Informing(Purpose),
     Erasing(Purpose, Info, u32),
@@ -113,8 +116,8 @@ pub enum Progress {
     Made(u64, u64),
 }
 
-// A request of so many bytes stands in the buffer, and its answer is awaited; one stands there, and the operation has ended; the operation
-// goes on; it has ended; the call was refused.
+// A request of so many bytes stands in the buffer, and its answer is awaited; one stands there, and the operation has
+// ended; the operation goes on; it has ended; the call was refused.
 pub enum Says {
     Granted(usize),
     Closing(usize),
@@ -129,7 +132,8 @@ pub struct Started {
     pub client: Client,
 }
 
-// The answer to a record: where its unread rest begins, the progress made, and the id or prefix and the ids that the answer speaks of.
+// The answer to a record: where its unread rest begins, the progress made, and the id or prefix and the ids that the
+// answer speaks of.
 pub struct Told {
     pub says: Says,
     pub client: Client,
@@ -149,8 +153,8 @@ pub struct Front {
     pub bits: u8,
 }
 
-// A start or a request, decided without the walk: whether it begins one anew, and under which prefix. An operation that walks nothing has
-// an empty one.
+// A start or a request, decided without the walk: whether it begins one anew, and under which prefix. An operation that
+// walks nothing has an empty one.
 pub struct Opening {
     pub says: Says,
     pub front: Front,
@@ -158,7 +162,8 @@ pub struct Opening {
     pub from: Id,
 }
 
-// What a record does to the walk: nothing; it moves on; it moves on with an entry kept; it ends and its list is given; it ends.
+// What a record does to the walk: nothing; it moves on; it moves on with an entry kept; it ends and its list is given;
+// it ends.
 pub enum Touch {
     Same,
     Moves,
@@ -440,7 +445,8 @@ impl Front {
 
     // The operation has ended, and its walk.
     fn ends(self, says: Says, id: Id, touch: Touch, at: usize) -> Verdict
-        ensures { λ r. ⌜ ((w : Walk) → changed (still touch) w ≡ noWalk → toldOf r w ≡ over (clientOf self w) says id (given (still touch) w) at) ⌝ }
+        ensures { λ r. ⌜ ((w : Walk) → changed (still touch) w ≡ noWalk
+            → toldOf r w ≡ over (clientOf self w) says id (given (still touch) w) at) ⌝ }
     {
         let front = self.idle();
         let change = still(touch);
@@ -456,7 +462,8 @@ impl Front {
 
     // The operation has ended; its list is given or not.
     pub fn over(self, says: Says, id: Id, gives: bool, at: usize) -> Verdict
-        ensures { λ r. ⌜ ((w : Walk) → toldOf r w ≡ over (clientOf self w) says id (cond gives (giving (w .found)) noTable) at) ⌝ }
+        ensures { λ r. ⌜ ((w : Walk) → toldOf r w
+            ≡ over (clientOf self w) says id (cond gives (giving (w .found)) noTable) at) ⌝ }
     {
         if gives {
             return self.ends(says, id, Touch::Gives, at);
@@ -473,7 +480,8 @@ impl Front {
 
     // The operation goes on, and no list is given.
     pub fn onward(self, phase: Phase, change: Change, at: usize) -> Verdict
-        ensures { λ r. ⌜ ((w : Walk) → given change w ≡ noTable → toldOf r w ≡ onward (clientOf self w) phase (changed change w) at) ⌝ }
+        ensures { λ r. ⌜ ((w : Walk) → given change w ≡ noTable
+            → toldOf r w ≡ onward (clientOf self w) phase (changed change w) at) ⌝ }
     {
         let front = self.turned(Turn::Ready(phase));
         let id = Id::none();

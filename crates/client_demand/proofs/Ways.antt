@@ -1,5 +1,4 @@
 -- The ways through the writers of requests, from the facts that the code has.
--- Assumes nothing.
 use Prim.Native.Nat.{ℕ, _+_, _-_, _/_, _%_, _^_, _<_, _≤_}
 use mathlib.Core.Bool.{Bool, true, false, cond}
 use mathlib.Core.List.{List, [], _∷_, _++_}
@@ -14,7 +13,8 @@ use Rattle.paper.specs.Frame.{le, Info, frameHead, frameBody, frameBytes}
 use Rattle.paper.specs.Hearing.{onSome}
 use Rattle.paper.specs.Answers.{chunk, padded}
 use Rattle.paper.specs.Talk.{piece}
-use Rattle.paper.specs.Flash.{plain, infoRequest, eraseRequest, writeSize, writeFlags, writeRequest, verifyRequest, resetFlags}
+use Rattle.paper.specs.Flash.{plain, infoRequest, eraseRequest, writeSize, writeFlags, writeRequest, verifyRequest}
+use Rattle.paper.specs.Flash.{resetFlags}
 use Rattle.paper.specs.Client.{payloadOf, demandFrame}
 use Rattle.paper.proofs.Chunks.{chunk-most, write-size}
 use Rattle.paper.proofs.Words.{le-cut}
@@ -32,7 +32,14 @@ use Rattle.client_demand.specs.Demands.{headFor, flagsOf, resetOf, deman
 
 -- A frame has four bytes of its address.
 placed-cut : (h : Head) (address : ℕ) (load buf : List ℕ) → h .address ≡ address % 2 ^ 32
-    → placed (frameBytes (frameOf h load)) buf ≡ placed (frameBytes (record { command = h .command; status = h .status; flags = h .flags; address = address; payload = load })) buf
+    → placed (frameBytes (frameOf h load)) buf
+    ≡ placed (frameBytes (record {
+      command = h .command;
+      status = h .status;
+      flags = h .flags;
+      address = address;
+      payload = load;
+    })) buf
 unfolding frameBytes frameBody frameHead
 placed-cut h address load buf e = rw (e, le-cut 4 address)
 
@@ -62,7 +69,8 @@ module _ (n o k : ℕ) where
       go (no l) = lt-leb (n - o) k (omega arith) ∙ sym (lt-leb n (o + k) (omega arith))
 
 -- The bytes of a Write fit a frame.
-pub write-fits : (info : Info) (o : ℕ) (image : List ℕ) (k held : ℕ) (bytes : List ℕ) → k ≡ writeSize info (length image) o → held ≡ imageBytes (length image) o k → bytes ≡ part o k image
+pub write-fits : (info : Info) (o : ℕ) (image : List ℕ) (k held : ℕ) (bytes : List ℕ)
+    → k ≡ writeSize info (length image) o → held ≡ imageBytes (length image) o k → bytes ≡ part o k image
     → length bytes + (k - held) ≤ 1024
 write-fits info o image k held bytes ek eheld eb =
     rw eb
@@ -77,19 +85,22 @@ write-fits info o image k held bytes ek eheld eb =
     ))
 
 module _ (r : Placed) (h : Head) (buf after : List ℕ) where
-  pub sent : (command flags address : ℕ) → h ≡ headFor command flags address → record { answer = r; bytes = after } ≡ placed (frameBytes (frameOf h [])) buf
+  pub sent : (command flags address : ℕ) → h ≡ headFor command flags address
+      → record { answer = r; bytes = after } ≡ placed (frameBytes (frameOf h [])) buf
       → record { answer = r; bytes = after } ≡ placed (frameBytes (demandFrame (plain command flags address []) [])) buf
   unfolding payloadOf
   sent command flags address eh e = rw eh at e
 
-  pub sent-verify : (n : ℕ) → h ≡ headFor 3 0 (n % 2 ^ 32) → record { answer = r; bytes = after } ≡ placed (frameBytes (frameOf h [])) buf
+  pub sent-verify : (n : ℕ) → h ≡ headFor 3 0 (n % 2 ^ 32)
+      → record { answer = r; bytes = after } ≡ placed (frameBytes (frameOf h [])) buf
       → record { answer = r; bytes = after } ≡ placed (frameBytes (demandFrame (verifyRequest n) [])) buf
   unfolding payloadOf
   sent-verify n eh e = (rw eh at e) ∙ placed-cut (headFor 3 0 (n % 2 ^ 32)) n [] buf refl
 
   pub sent-erase : (info : Code.Info) (address e : ℕ) → e ≡ info .«erase_size» → h ≡ headFor 1 0 address
       → record { answer = r; bytes = after } ≡ placed (frameBytes (frameOf h (e % 256 ∷ e / 256 % 256 ∷ []))) buf
-      → record { answer = r; bytes = after } ≡ placed (frameBytes (demandFrame (eraseRequest (paperInfo info) address) [])) buf
+      → record { answer = r; bytes = after }
+      ≡ placed (frameBytes (demandFrame (eraseRequest (paperInfo info) address) [])) buf
   unfolding payloadOf le
   sent-erase info address e ee eh q = rw (eh, ee) at q
 
@@ -97,7 +108,8 @@ module _ (r : Placed) (h : Head) (buf after : List ℕ) where
     abbrev n : ℕ
     n = length image
 
-    load-is : (k held : ℕ) → held ≡ imageBytes n o k → part o k image ++ replicate (k - held) 0xFF ≡ payloadOf (piece o k) image
+    load-is : (k held : ℕ) → held ≡ imageBytes n o k
+        → part o k image ++ replicate (k - held) 0xFF ≡ payloadOf (piece o k) image
     unfolding payloadOf
     load-is k held e = ap (λ (p : ℕ). part o k image ++ replicate p 0xFF) (pad-is n o k held e)
 
@@ -105,17 +117,23 @@ module _ (r : Placed) (h : Head) (buf after : List ℕ) where
     unfolding isLast
     flags-are last flags el ef = ef ∙ ap (λ (b : Bool). cond b 1 0) (el ∙ ends (padded n) o (chunk (info .maxPayload)))
 
-    pub sent-write : (k held flags : ℕ) (last : Bool) (bytes : List ℕ) → k ≡ writeSize info n o → held ≡ imageBytes n o k → last ≡ isLast info n o → flags ≡ cond last 1 0
-        → bytes ≡ part o k image → h ≡ headFor 2 flags (o % 2 ^ 32) → record { answer = r; bytes = after } ≡ placed (frameBytes (frameOf h (bytes ++ replicate (k - held) 0xFF))) buf
+    pub sent-write : (k held flags : ℕ) (last : Bool) (bytes : List ℕ) → k ≡ writeSize info n o
+        → held ≡ imageBytes n o k → last ≡ isLast info n o → flags ≡ cond last 1 0
+        → bytes ≡ part o k image → h ≡ headFor 2 flags (o % 2 ^ 32)
+        → record { answer = r; bytes = after }
+        ≡ placed (frameBytes (frameOf h (bytes ++ replicate (k - held) 0xFF))) buf
         → record { answer = r; bytes = after } ≡ placed (frameBytes (demandFrame (writeRequest info n o) image)) buf
     sent-write k held flags last bytes ek eheld el ef eb eh e =
         e
         ∙ ap₂ (λ (x : Head) (load : List ℕ). placed (frameBytes (frameOf x load)) buf) eh
-        (ap (λ (b : List ℕ). b ++ replicate (k - held) 0xFF) eb ∙ load-is k held eheld ∙ ap (λ (size : ℕ). payloadOf (piece o size) image) ek)
+        (ap (λ (b : List ℕ). b ++ replicate (k - held) 0xFF) eb ∙ load-is k held eheld
+        ∙ ap (λ (size : ℕ). payloadOf (piece o size) image) ek)
         ∙ placed-cut (headFor 2 flags (o % 2 ^ 32)) o (payloadOf (piece o (writeSize info n o)) image) buf refl
-        ∙ ap (λ (f : ℕ). placed (frameBytes (frameOf (headFor 2 f o) (payloadOf (piece o (writeSize info n o)) image))) buf) (flags-are last flags el ef)
+        ∙ ap (λ (f : ℕ). placed (frameBytes (frameOf (headFor 2 f o) (payloadOf (piece o (writeSize info n o)) image)))
+        buf) (flags-are last flags el ef)
 
-module _ (reset : Reset) (into baud : ℕ) (ei : into ≡ cond (reset .bootloader) 1 0) (eb : baud ≡ cond (reset .given) 2 0) where
+module _ (reset : Reset) (into baud : ℕ) (ei : into ≡ cond (reset .bootloader) 1 0)
+    (eb : baud ≡ cond (reset .given) 2 0) where
   pub flags-fit : into + baud < 256
   flags-fit = rw (ei, eb) (go (reset .bootloader) (reset .given))
     where
@@ -129,15 +147,18 @@ module _ (reset : Reset) (into baud : ℕ) (ei : into ≡ cond (reset .bootloade
   unfolding flagsOf resetFlags
   flags-sum = rw (ei, eb) (go (reset .given))
     where
-      go : (b : Bool) → cond (reset .bootloader) 1 0 + cond b 2 0 ≡ cond (reset .bootloader) 1 0 + onSome (cond b (some (reset .baud)) none) 0 (λ given. 2)
+      go : (b : Bool) → cond (reset .bootloader) 1 0 + cond b 2 0
+          ≡ cond (reset .bootloader) 1 0 + onSome (cond b (some (reset .baud)) none) 0 (λ given. 2)
       go true = refl
       go false = refl
 
-pub sent-reset : (r : Placed) (h : Head) (buf after : List ℕ) (reset : Reset) (flags address : ℕ) → flags ≡ flagsOf reset → address ≡ cond (reset .given) (reset .baud) 0
+pub sent-reset : (r : Placed) (h : Head) (buf after : List ℕ) (reset : Reset) (flags address : ℕ)
+    → flags ≡ flagsOf reset → address ≡ cond (reset .given) (reset .baud) 0
     → h ≡ headFor 4 flags address → record { answer = r; bytes = after } ≡ placed (frameBytes (frameOf h [])) buf
     → record { answer = r; bytes = after } ≡ placed (frameBytes (demandFrame (resetOf reset) [])) buf
 unfolding flagsOf
-sent-reset r h buf after reset flags address ef ea eh e = sent r h buf after 4 _ _ (eh ∙ ap₂ (headFor 4) ef (ea ∙ go (reset .given))) e
+sent-reset r h buf after reset flags address ef ea eh e =
+    sent r h buf after 4 _ _ (eh ∙ ap₂ (headFor 4) ef (ea ∙ go (reset .given))) e
   where
     go : (b : Bool) → cond b (reset .baud) 0 ≡ onSome (cond b (some (reset .baud)) none) 0 (λ given. given)
     go true = refl
@@ -145,25 +166,31 @@ sent-reset r h buf after reset flags address ef ea eh e = sent r h buf after 4 _
 
 -- The request of a job.
 module _ (j : Job) (image buf : List ℕ) (o : Placing) where
-  pub demand-info : (why : Purpose) → j ≡ Informing why → o ≡ placed (frameBytes (demandFrame infoRequest [])) buf → o ≡ placed (frameBytes (demandFrame (demandOf j (length image)) image)) buf
+  pub demand-info : (why : Purpose) → j ≡ Informing why → o ≡ placed (frameBytes (demandFrame infoRequest [])) buf
+      → o ≡ placed (frameBytes (demandFrame (demandOf j (length image)) image)) buf
   unfolding demandOf payloadOf
   demand-info why ej e = rw ej e
 
   pub demand-erase : (why : Purpose) (info : Code.Info) (address : ℕ) → j ≡ Erasing why info address
-      → o ≡ placed (frameBytes (demandFrame (eraseRequest (paperInfo info) address) [])) buf → o ≡ placed (frameBytes (demandFrame (demandOf j (length image)) image)) buf
+      → o ≡ placed (frameBytes (demandFrame (eraseRequest (paperInfo info) address) [])) buf
+      → o ≡ placed (frameBytes (demandFrame (demandOf j (length image)) image)) buf
   unfolding demandOf payloadOf
   demand-erase why info address ej e = rw ej e
 
   pub demand-write : (m : ℕ) (info : Code.Info) (offset retries : ℕ) → j ≡ Writing m info offset retries
-      → o ≡ placed (frameBytes (demandFrame (writeRequest (paperInfo info) (length image) offset) image)) buf → o ≡ placed (frameBytes (demandFrame (demandOf j (length image)) image)) buf
+      → o ≡ placed (frameBytes (demandFrame (writeRequest (paperInfo info) (length image) offset) image)) buf
+      → o ≡ placed (frameBytes (demandFrame (demandOf j (length image)) image)) buf
   unfolding demandOf
   demand-write m info offset retries ej e = rw ej e
 
   pub demand-verify : (m : ℕ) (info : Code.Info) → j ≡ Verifying m info
-      → o ≡ placed (frameBytes (demandFrame (verifyRequest (length image)) [])) buf → o ≡ placed (frameBytes (demandFrame (demandOf j (length image)) image)) buf
+      → o ≡ placed (frameBytes (demandFrame (verifyRequest (length image)) [])) buf
+      → o ≡ placed (frameBytes (demandFrame (demandOf j (length image)) image)) buf
   unfolding demandOf payloadOf
   demand-verify m info ej e = rw ej e
 
-  pub demand-reset : (reset : Reset) → j ≡ Resetting reset → o ≡ placed (frameBytes (demandFrame (resetOf reset) [])) buf → o ≡ placed (frameBytes (demandFrame (demandOf j (length image)) image)) buf
+  pub demand-reset : (reset : Reset) → j ≡ Resetting reset
+      → o ≡ placed (frameBytes (demandFrame (resetOf reset) [])) buf
+      → o ≡ placed (frameBytes (demandFrame (demandOf j (length image)) image)) buf
   unfolding demandOf payloadOf
   demand-reset reset ej e = rw ej e

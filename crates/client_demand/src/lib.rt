@@ -38,7 +38,8 @@ fn flag(on: bool, value: u8) -> u8
 }
 
 pub fn write_info(buf: &mut [u8]) -> Placed
-    ensures { λ r. ⌜ record { answer = r; bytes = now (buf .exit) } ≡ placed (frameBytes (demandFrame infoRequest [])) (now (buf .entry)) ⌝ }
+    ensures { λ r. ⌜ record { answer = r; bytes = now (buf .exit) }
+        ≡ placed (frameBytes (demandFrame infoRequest [])) (now (buf .entry)) ⌝ }
 {
     let none = [0u8; 1];
     frame::place_frame(head(wire::INFO, 0, 0), &none[..0], 0, buf)
@@ -46,7 +47,8 @@ pub fn write_info(buf: &mut [u8]) -> Placed
 
 // The payload is the erase size.
 pub fn write_erase(info: Info, address: u32, buf: &mut [u8]) -> Placed
-    ensures { λ r. ⌜ record { answer = r; bytes = now (buf .exit) } ≡ placed (frameBytes (demandFrame (eraseRequest (paperInfo info) address) [])) (now (buf .entry)) ⌝ }
+    ensures { λ r. ⌜ record { answer = r; bytes = now (buf .exit) }
+        ≡ placed (frameBytes (demandFrame (eraseRequest (paperInfo info) address) [])) (now (buf .entry)) ⌝ }
 {
     let e = info.erase_size;
     let size = [(e % 0x100) as u8, (e / 0x100 % 0x100) as u8];
@@ -55,7 +57,9 @@ pub fn write_erase(info: Info, address: u32, buf: &mut [u8]) -> Placed
 
 // The image from the offset to the chunk's end, then FF; FLUSH on the last.
 pub fn write_write(info: Info, offset: u64, image: &[u8], buf: &mut [u8]) -> Placed
-    ensures { λ r. ⌜ record { answer = r; bytes = now (buf .exit) } ≡ placed (frameBytes (demandFrame (writeRequest (paperInfo info) (length (now (image .entry))) offset) (now (image .entry)))) (now (buf .entry)) ⌝ }
+    ensures { λ r. ⌜ record { answer = r; bytes = now (buf .exit) }
+        ≡ placed (frameBytes (demandFrame (writeRequest (paperInfo info) (length (now (image .entry))) offset)
+        (now (image .entry)))) (now (buf .entry)) ⌝ }
 {
     let n = image.len();
     let size = image::writes::size(info, n, offset);
@@ -72,7 +76,8 @@ pub fn write_write(info: Info, offset: u64, image: &[u8], buf: &mut [u8]) -> Pla
 
 // The address is the image's length.
 pub fn write_verify(n: usize, buf: &mut [u8]) -> Placed
-    ensures { λ r. ⌜ record { answer = r; bytes = now (buf .exit) } ≡ placed (frameBytes (demandFrame (verifyRequest n) [])) (now (buf .entry)) ⌝ }
+    ensures { λ r. ⌜ record { answer = r; bytes = now (buf .exit) }
+        ≡ placed (frameBytes (demandFrame (verifyRequest n) [])) (now (buf .entry)) ⌝ }
 {
     let none = [0u8; 1];
     frame::place_frame(
@@ -101,7 +106,8 @@ fn address_of(reset: Reset) -> u32
 }
 
 pub fn write_reset(reset: Reset, buf: &mut [u8]) -> Placed
-    ensures { λ r. ⌜ record { answer = r; bytes = now (buf .exit) } ≡ placed (frameBytes (demandFrame (resetOf reset) [])) (now (buf .entry)) ⌝ }
+    ensures { λ r. ⌜ record { answer = r; bytes = now (buf .exit) }
+        ≡ placed (frameBytes (demandFrame (resetOf reset) [])) (now (buf .entry)) ⌝ }
 {
     let none = [0u8; 1];
     let flags = reset_flags(reset);
@@ -115,7 +121,9 @@ pub fn write_reset(reset: Reset, buf: &mut [u8]) -> Placed
 
 // The request of a job, with the image lent.
 pub fn write_demand(job: Job, image: &[u8], buf: &mut [u8]) -> Placed
-    ensures { λ r. ⌜ record { answer = r; bytes = now (buf .exit) } ≡ placed (frameBytes (demandFrame (demandOf job (length (now (image .entry)))) (now (image .entry)))) (now (buf .entry)) ⌝ }
+    ensures { λ r. ⌜ record { answer = r; bytes = now (buf .exit) }
+        ≡ placed (frameBytes (demandFrame (demandOf job (length (now (image .entry)))) (now (image .entry))))
+        (now (buf .entry)) ⌝ }
 {
     match job {
         Job::Informing(_) => write_info(buf),

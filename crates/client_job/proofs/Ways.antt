@@ -1,5 +1,4 @@
 -- The ways through what a job makes of its answer, from the facts that the code has.
--- Assumes nothing.
 use Prim.Native.Nat.{ℕ, _+_, _*_, _^_, _<_, _≤_}
 use mathlib.Core.Bool.{Bool, true, false}
 use mathlib.Core.List.{List, [], _∷_}
@@ -35,7 +34,8 @@ use Rattle.client.specs.declared.Reset.{Reset}
 use Rattle.client_job.specs.declared.Then.{Then}
 use Rattle.client_job.specs.declared.Then.the-variants.{On, Over, Refused}
 use Rattle.client_job.specs.declared.Next.{Next}
-use Rattle.client_job.specs.Job.{quietly, refusing, erases, judged, prepared, informed, writes, cleared, erased, wrote, repeated, verified, accepted, declined}
+use Rattle.client_job.specs.Job.{quietly, refusing, erases, judged, prepared, informed, writes, cleared, erased}
+use Rattle.client_job.specs.Job.{wrote, repeated, verified, accepted, declined}
 
 module _ (b : Bool) (why : Purpose) (info : Info) (e : b ≡ spansTooFar (paperInfo info)) where
   pub spans : b ≡ true → Refused Refusal.SpansTooFar ≡ erases why info
@@ -47,12 +47,14 @@ module _ (b : Bool) (why : Purpose) (info : Info) (e : b ≡ spansTooFar (paperI
   first-erase h = rw (sym e ∙ h)
 
 module _ (n : ℕ) (info : Info) (image : List ℕ) (l : Bool) (el : l ≡ tooLarge (paperInfo info) n) where
-  pub large : (r : ℕ) → l ≡ true → r ≡ reported n → Refused (Refusal.FirmwareTooLarge r (info .capacity)) ≡ judged n info image
+  pub large : (r : ℕ) → l ≡ true → r ≡ reported n
+      → Refused (Refusal.FirmwareTooLarge r (info .capacity)) ≡ judged n info image
   unfolding judged
   large r h e = rw (sym el ∙ h, e)
 
   module _ (i : Bool) (ei : i ≡ incompatible (paperInfo info) image) (h : l ≡ false) where
-    pub other-key : (k : Compat) → i ≡ true → k ≡ shownKey (key image) → Refused (Refusal.Incompatible (info .compat) k) ≡ judged n info image
+    pub other-key : (k : Compat) → i ≡ true → k ≡ shownKey (key image)
+        → Refused (Refusal.Incompatible (info .compat) k) ≡ judged n info image
     unfolding judged
     other-key k g e = rw (sym el ∙ h, sym ei ∙ g, e)
 
@@ -74,7 +76,8 @@ module _ (why : Purpose) (info : Info) (image : List ℕ) where
   prepared-load r n h e = rw h e
 
 module _ (why : Purpose) (payload image : List ℕ) (i : Informed) (e : i ≡ shownInfo (Paper.informed payload)) where
-  pub informed-sound : (r : Then) (info : Info) → i ≡ Sound info → r ≡ prepared why info image → r ≡ informed why payload image
+  pub informed-sound : (r : Then) (info : Info) → i ≡ Sound info → r ≡ prepared why info image
+      → r ≡ informed why payload image
   unfolding informed
   informed-sound r info h q = rw (sym e ∙ h) q
 
@@ -106,28 +109,39 @@ module _ (why : Purpose) (info : Info) where
 
   module _ (address : ℕ) (a : Erase) (e : a ≡ eraseAfter (paperInfo info) address) where
     pub erased-on : (next : ℕ) → a ≡ At next
-        → _≡_ {A = Next} (record { progress = Made (eraseProgress (paperInfo info) address) (info .capacity); then = On (Erasing why info next) }) (erased why info address)
+        → _≡_ {A = Next} (record {
+          progress = Made (eraseProgress (paperInfo info) address) (info .capacity);
+          then = On
+              (Erasing why info next);
+        }) (erased why info address)
     unfolding erased
     erased-on next h = rw (sym e ∙ h)
 
     pub erased-last : (r : Then) → a ≡ Done → r ≡ cleared why info
-        → _≡_ {A = Next} (record { progress = Made (eraseProgress (paperInfo info) address) (info .capacity); then = r }) (erased why info address)
+        → _≡_ {A = Next} (record {
+          progress = Made (eraseProgress (paperInfo info) address)
+              (info .capacity);
+          then = r;
+        }) (erased why info address)
     unfolding erased
     erased-last r h q = rw (sym e ∙ h, q)
 
-module _ (info : Info) (offset : ℕ) (image : List ℕ) (l : Bool) (el : l ≡ isLast (paperInfo info) (length image) offset) where
+module _ (info : Info) (offset : ℕ) (image : List ℕ) (l : Bool)
+    (el : l ≡ isLast (paperInfo info) (length image) offset) where
   module _ (c : ℕ) (ec : c ≡ chunk (info .«max_payload»)) (h : l ≡ false) where
     pub next-fits : length image * 1 < 2 ^ 63 → Fits w64 (offset + c)
     unfolding isLast Paper.padding
     next-fits s = omega (arith, leb-false (left (length image) offset) (chunk (info .«max_payload»)) (sym el ∙ h))
 
   module _ (d m : ℕ) (ed : d ≡ chunksTo (paperInfo info) offset) (em : m ≡ chunks (paperInfo info) (length image)) where
-    pub wrote-last : l ≡ true → _≡_ {A = Next} (record { progress = Made d m; then = On (Verifying (length image) info) }) (wrote info offset image)
+    pub wrote-last : l ≡ true → _≡_ {A = Next}
+        (record { progress = Made d m; then = On (Verifying (length image) info) }) (wrote info offset image)
     unfolding wrote
     wrote-last h = rw (sym el ∙ h, ed, em)
 
     pub wrote-on : (c : ℕ) → c ≡ chunk (info .«max_payload») → l ≡ false
-        → _≡_ {A = Next} (record { progress = Made d m; then = On (Writing (length image) info (offset + c) 0) }) (wrote info offset image)
+        → _≡_ {A = Next} (record { progress = Made d m; then = On (Writing (length image) info (offset + c) 0) })
+        (wrote info offset image)
     unfolding wrote
     wrote-on c ec h = rw (sym el ∙ h, ed, em, ec)
 
@@ -152,32 +166,44 @@ module _ (info : Info) (payload image : List ℕ) where
 
     pub other-check : (x ≡ y → ⊥) → Refused (Refusal.CrcMismatch x y) ≡ verified info payload image
     unfolding verified check
-    other-check e = rw (le-ltb (length payload) 2 h, ex, ey, ne-eqb (crcFrom 0xFFFF image) (field 0 2 payload) (λ q. e (ex ∙ q ∙ sym ey)))
+    other-check e = rw (
+      le-ltb (length payload) 2 h,
+      ex,
+      ey,
+      ne-eqb (crcFrom 0xFFFF image) (field 0 2 payload)
+          (λ q. e (ex ∙ q ∙ sym ey)),
+    )
 
 module _ (j : Job) (payload image : List ℕ) (r : Next) where
-  pub accepted-informing : (why : Purpose) (t : Then) → j ≡ Informing why → t ≡ informed why payload image → r ≡ quietly t → r ≡ accepted j payload image
+  pub accepted-informing : (why : Purpose) (t : Then) → j ≡ Informing why → t ≡ informed why payload image
+      → r ≡ quietly t → r ≡ accepted j payload image
   unfolding accepted
   accepted-informing why t h e q = rw h (rw e at q)
 
-  pub accepted-erasing : (why : Purpose) (info : Info) (a : ℕ) → j ≡ Erasing why info a → r ≡ erased why info a → r ≡ accepted j payload image
+  pub accepted-erasing : (why : Purpose) (info : Info) (a : ℕ) → j ≡ Erasing why info a → r ≡ erased why info a
+      → r ≡ accepted j payload image
   unfolding accepted
   accepted-erasing why info a h e = rw h e
 
-  pub accepted-writing : (n : ℕ) (info : Info) (o k : ℕ) → j ≡ Writing n info o k → r ≡ wrote info o image → r ≡ accepted j payload image
+  pub accepted-writing : (n : ℕ) (info : Info) (o k : ℕ) → j ≡ Writing n info o k → r ≡ wrote info o image
+      → r ≡ accepted j payload image
   unfolding accepted
   accepted-writing n info o k h e = rw h e
 
-  pub accepted-verifying : (n : ℕ) (info : Info) (t : Then) → j ≡ Verifying n info → t ≡ verified info payload image → r ≡ quietly t → r ≡ accepted j payload image
+  pub accepted-verifying : (n : ℕ) (info : Info) (t : Then) → j ≡ Verifying n info → t ≡ verified info payload image
+      → r ≡ quietly t → r ≡ accepted j payload image
   unfolding accepted
   accepted-verifying n info t h e q = rw h (rw e at q)
 
-  pub accepted-resetting : (reset : Reset) → j ≡ Resetting reset → r ≡ quietly (Over Quiet) → r ≡ accepted j payload image
+  pub accepted-resetting : (reset : Reset) → j ≡ Resetting reset → r ≡ quietly (Over Quiet)
+      → r ≡ accepted j payload image
   unfolding accepted
   accepted-resetting reset h e = rw h e
 
 module _ (s : ℕ) (r : Next) where
   -- Every job but a Write.
-  pub declined-other : (j : Job) → OneOf (0 ∷ 1 ∷ 3 ∷ 4 ∷ []) (tagOf the-type j) → r ≡ refusing (Refusal.Device s) → r ≡ declined j s
+  pub declined-other : (j : Job) → OneOf (0 ∷ 1 ∷ 3 ∷ 4 ∷ []) (tagOf the-type j) → r ≡ refusing (Refusal.Device s)
+      → r ≡ declined j s
   unfolding declined
   declined-other (Informing why) u e = e
   declined-other (Erasing why info a) u e = e

@@ -1,5 +1,4 @@
 -- What each job makes of the one answer to its request.
--- Assumes nothing.
 use Prim.Native.Nat.{ℕ, suc, _+_}
 use mathlib.Core.Bool.{cond}
 use mathlib.Core.List.{List}
@@ -64,7 +63,8 @@ unfoldable pub prepared : Purpose → Info → List ℕ → Then
 prepared why info image = onPurpose why (Over (Knows info)) (erases Clear info) (λ n. judged n info image)
 
 unfoldable pub informed : Purpose → List ℕ → List ℕ → Then
-informed why payload image = onInformed (shownInfo (Paper.informed payload)) (λ info. prepared why info image) (Refused Refusal.BadInfo)
+informed why payload image = onInformed (shownInfo (Paper.informed payload)) (λ info. prepared why info image)
+    (Refused Refusal.BadInfo)
 
 -- "M empty image: no Write".
 unfoldable pub writes : ℕ → Info → Then
@@ -76,7 +76,11 @@ cleared why info = onPurpose why (Over (Knows info)) (Over (Knows info)) (λ n. 
 unfoldable pub erased : Purpose → Info → ℕ → Next
 erased why info address =
     onErase (eraseAfter (paperInfo info) address)
-    (λ next. record { progress = Made (eraseProgress (paperInfo info) address) (info .capacity); then = On (Erasing why info next) })
+    (λ next. record {
+      progress = Made (eraseProgress (paperInfo info) address) (info .capacity);
+      then = On
+          (Erasing why info next);
+    })
     (record { progress = Made (eraseProgress (paperInfo info) address) (info .capacity); then = cleared why info })
 
 unfoldable pub wrote : Info → ℕ → List ℕ → Next
@@ -89,12 +93,14 @@ wrote info offset image = record {
 
 -- "the 17th in a row for one offset gives 17."
 unfoldable pub repeated : ℕ → Info → ℕ → ℕ → Then
-repeated n info offset retries = cond (ltb retries 16) (On (Writing n info offset (suc retries))) (Refused Refusal.RetriesSpent)
+repeated n info offset retries =
+    cond (ltb retries 16) (On (Writing n info offset (suc retries))) (Refused Refusal.RetriesSpent)
 
 unfoldable pub verified : Info → List ℕ → List ℕ → Then
 verified info payload image =
     cond (ltb (length payload) 2) (Refused Refusal.ShortVerify)
-    (cond (eqb (check image) (field 0 2 payload)) (Over (Knows info)) (Refused (Refusal.CrcMismatch (check image) (field 0 2 payload))))
+    (cond (eqb (check image) (field 0 2 payload)) (Over (Knows info))
+    (Refused (Refusal.CrcMismatch (check image) (field 0 2 payload))))
 
 -- "Ok" with a payload.
 unfoldable pub accepted : Job → List ℕ → List ℕ → Next
@@ -112,6 +118,7 @@ declined j status =
     onJob j
     (λ why. refusing (Refusal.Device status))
     (λ why info address. refusing (Refusal.Device status))
-    (λ n info offset retries. cond (eqb status 3) (quietly (repeated n info offset retries)) (refusing (Refusal.Device status)))
+    (λ n info offset retries. cond (eqb status 3) (quietly (repeated n info offset retries))
+    (refusing (Refusal.Device status)))
     (λ n info. refusing (Refusal.Device status))
     (λ reset. refusing (Refusal.Device status))

@@ -8,7 +8,8 @@ use image::Erase;
 use image::Info;
 use image::Informed;
 ghost use mathlib.Core.Path.{_≡_};
-ghost use Rattle.client_job.specs.Job.{quietly, refusing, erases, judged, prepared, informed, writes, cleared, erased, wrote, repeated, verified, accepted, declined};
+ghost use Rattle.client_job.specs.Job.{quietly, refusing, erases, judged, prepared, informed, writes, cleared};
+ghost use Rattle.client_job.specs.Job.{erased, wrote, repeated, verified, accepted, declined};
 
 // The operation goes on with another job, has ended, or is refused.
 pub enum Then {
@@ -130,7 +131,10 @@ fn wrote(info: Info, offset: u64, image: &[u8]) -> Next
     ensures { λ r. ⌜ r ≡ wrote info offset (now (image .entry)) ⌝ }
 {
     let n = image.len();
-    let progress = Progress::Made(image::writes::chunks_to(info, offset), image::writes::chunks(info, n));
+    let progress = Progress::Made(
+        image::writes::chunks_to(info, offset),
+        image::writes::chunks(info, n),
+    );
     if image::writes::last(info, n, offset) {
         return Next {
             progress,

@@ -1,5 +1,4 @@
 -- What the one answer makes of the client.
--- Assumes nothing.
 use Prim.Native.Nat.{ℕ}
 use mathlib.Core.List.{List}
 use lib.ListN.{length}

@@ -1,5 +1,4 @@
 -- What a record, or a failed link, makes of the client, and what is answered.
--- Assumes nothing.
 use Prim.Native.Nat.{ℕ}
 use mathlib.Core.Bool.{Bool, true, false, cond}
 use mathlib.Core.List.{List}
@@ -22,7 +21,9 @@ use Rattle.client.specs.declared.Search.the-variants.{Backing, Walking}
 use Rattle.client.specs.declared.Phase.{Phase}
 use Rattle.client.specs.declared.Phase.the-variants.{Select}
 use Rattle.client.specs.declared.Client.{Client}
-use Rattle.client.specs.declared.Refusal.the-variants.{Io, NoDevice, SeveralDevices, NoSuchUid, AmbiguousUid, NotAddressable, DuplicateUid, LongId, TableFull, OtherImage, OutOfTurn}
+use Rattle.client.specs.declared.Refusal.the-variants.{Io, NoDevice, SeveralDevices, NoSuchUid, AmbiguousUid}
+use Rattle.client.specs.declared.Refusal.the-variants.{NotAddressable, DuplicateUid, LongId, TableFull, OtherImage}
+use Rattle.client.specs.declared.Refusal.the-variants.{OutOfTurn}
 use Rattle.client.specs.declared.Outcome.the-variants as Outcome
 use Rattle.client.specs.declared.Says.{Says}
 use Rattle.client.specs.declared.Says.the-variants.{Over, Refused}
@@ -37,7 +38,8 @@ onGoes (Stopped end) on done stopped = stopped end
 unfoldable pub attaches : Client → Bool → Id → ℕ → Told
 attaches c any x at = over (holding c any x) (Over (Outcome.Attached any)) x noTable at
 
--- "One: attached. Unaddressed: success with no id if no prefix was given, else 11. Nothing: 9 with a prefix, 7 without. Garble: deselect."
+-- "One: attached. Unaddressed: success with no id if no prefix was given, else 11. Nothing: 9 with a prefix, 7 without.
+-- Garble: deselect."
 unfoldable pub met : Client → Bool → Heard → Id → ℕ → Told
 met c given h x at =
     onHeard h
@@ -50,7 +52,8 @@ met c given h x at =
 -- "then 10 with a prefix, 8 without."
 unfoldable pub backed : Client → Bool → ℕ → Told
 backed c given at =
-    cond given (over (cleared c) (Refused AmbiguousUid) (c .prefix) noTable at) (stops (cleared c) (Refused SeveralDevices) at)
+    cond given (over (cleared c) (Refused AmbiguousUid) (c .prefix) noTable at)
+    (stops (cleared c) (Refused SeveralDevices) at)
 
 unfoldable pub stopOf : End → Says
 stopOf End.DuplicateUid = Refused DuplicateUid

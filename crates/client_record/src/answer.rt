@@ -1,4 +1,5 @@
-// What the record that answers a request with one answer makes of the client, decided on its front: the walk stays, or ends.
+// What the record that answers a request with one answer makes of the client, decided on its front: the walk stays, or
+// ends.
 use client::Front;
 use client::Job;
 use client::Phase;

@@ -1,7 +1,8 @@
 // Telling the client what was heard after its request, or that the link failed.
-// It is decided on the client's front, the walk's place and how many ids the list holds (`decide`, `fails`); by value (`record`,
-// `link_failed`) it is that, and the walk.
+// It is decided on the client's front, the walk's place and how many ids the list holds (`decide`, `fails`); by value
+// (`record`, `link_failed`) it is that, and the walk.
 pub mod answer;
+
 use client::Change;
 use client::Client;
 use client::Front;
@@ -16,12 +17,12 @@ use client::Turn;
 use client::Verdict;
 use hearing::Heard;
 use ids::Id;
+use walk::Place;
+use walk::Walk;
 use walk_step::End;
 use walk_step::Move;
 use walk_step::Way;
 use walk_table::Table;
-use walk::Place;
-use walk::Walk;
 ghost use mathlib.Core.Path.{_≡_};
 ghost use mathlib.Core.Bool.{true, false};
 ghost use Rattle.paper.specs.Answers.{rest};
@@ -31,7 +32,8 @@ ghost use Rattle.walk.specs.Moves.{walkOf};
 ghost use Rattle.walk_step.specs.Joined.{joined};
 ghost use Rattle.client.specs.Clients.{onTurn};
 ghost use Rattle.client.specs.Verdicts.{clientOf, changed, given, toldOf};
-ghost use Rattle.client_record.specs.Record.{attaches, stopOf, met, backed, walked, probed, hears, answeredTo, record′, linkFailed};
+ghost use Rattle.client_record.specs.Record.{attaches, stopOf, met, backed, walked, probed, hears, answeredTo};
+ghost use Rattle.client_record.specs.Record.{record′, linkFailed};
 
 // Attached to a pod, or to the one that has no id.
 fn attaches(f: Front, any: bool, id: Id, at: usize) -> Verdict
@@ -91,7 +93,8 @@ fn backed(f: Front, given: bool, at: usize) -> Verdict
 
 // What a discovery makes of the walk's next step.
 fn walked(f: Front, m: Move, at: usize) -> Verdict
-    ensures { λ r. ⌜ ((w : Walk) → toldOf r w ≡ walked (clientOf f w) (joined m (w .found) .goes) (joined m (w .found) .walk) at) ⌝ }
+    ensures { λ r. ⌜ ((w : Walk) → toldOf r w
+        ≡ walked (clientOf f w) (joined m (w .found) .goes) (joined m (w .found) .walk) at) ⌝ }
 {
     let way = m.way;
     let place = m.place;
@@ -131,7 +134,8 @@ fn probed(f: Front, h: Heard, id: Id, at: usize) -> Verdict
 
 // What a Select's record makes of the client.
 fn hears(f: Front, p: Place, count: usize, search: Search, h: Heard, id: Id, at: usize) -> Verdict
-    ensures { λ r. ⌜ ((t : Table) → t .count ≡ count → toldOf r (walkOf p t) ≡ hears (clientOf f (walkOf p t)) search h id at) ⌝ }
+    ensures { λ r. ⌜ ((t : Table) → t .count ≡ count
+        → toldOf r (walkOf p t) ≡ hears (clientOf f (walkOf p t)) search h id at) ⌝ }
 {
     match search {
         Search::Probing => probed(f, h, id, at),
@@ -144,7 +148,9 @@ fn hears(f: Front, p: Place, count: usize, search: Search, h: Heard, id: Id, at:
 
 // What the record of a phase's request makes of the client. A request that is not awaited is never out.
 fn answered(f: Front, p: Place, count: usize, phase: Phase, image: &[u8], bytes: &[u8]) -> Verdict
-    ensures { λ r. ⌜ ((t : Table) → t .count ≡ count → toldOf r (walkOf p t) ≡ answeredTo (clientOf f (walkOf p t)) phase (now (image .entry)) (now (bytes .entry))) ⌝ }
+    ensures { λ r. ⌜ ((t : Table) → t .count ≡ count
+        → toldOf r (walkOf p t) ≡ answeredTo (clientOf f (walkOf p t)) phase (now (image .entry)) (now (bytes .entry)))
+        ⌝ }
 {
     match phase {
         Phase::Select(search) => {
@@ -158,9 +164,11 @@ fn answered(f: Front, p: Place, count: usize, phase: Phase, image: &[u8], bytes:
     }
 }
 
-// A record of what was heard after the request, with the image lent, decided on the front, the place and the list's count.
+// A record of what was heard after the request, with the image lent, decided on the front, the place and the list's
+// count.
 pub fn decide(f: Front, p: Place, count: usize, image: &[u8], bytes: &[u8]) -> Verdict
-    ensures { λ r. ⌜ ((t : Table) → t .count ≡ count → toldOf r (walkOf p t) ≡ record′ (clientOf f (walkOf p t)) (now (image .entry)) (now (bytes .entry))) ⌝ }
+    ensures { λ r. ⌜ ((t : Table) → t .count ≡ count
+        → toldOf r (walkOf p t) ≡ record′ (clientOf f (walkOf p t)) (now (image .entry)) (now (bytes .entry))) ⌝ }
 {
     let t = f.turn;
     match t {

@@ -1,5 +1,4 @@
 -- The ways through asking for a request, from the facts that the code has.
--- Assumes nothing.
 use Prim.Native.Nat.{ℕ, _*_, _%_}
 use mathlib.Core.Bool.{Bool, true, false, cond}
 use mathlib.Core.List.{List, _++_}
@@ -37,7 +36,8 @@ use Rattle.client.specs.declared.Started.{Started}
 use Rattle.client.specs.Clients.{otherImage, idle, turned, refuse}
 use Rattle.client.specs.Verdicts.{frontOf, clientOf, startedOf}
 use Rattle.client.proofs.Ways.{at-idle, at-ready, at-waiting}
-use Rattle.client_request.specs.Request.{asks, nextSeed, seeded, searchFrame, frameOf, handing, handed, granted, Asking, withheld, granting, askedFor, request}
+use Rattle.client_request.specs.Request.{asks, nextSeed, seeded, searchFrame, frameOf, handing, handed, granted}
+use Rattle.client_request.specs.Request.{Asking, withheld, granting, askedFor, request}
 
 -- The client of a front and of a place with a list.
 abbrev here : Front → Place → Table → Client
@@ -45,47 +45,64 @@ here f p t = clientOf f (walkOf p t)
 
 -- Asking.
 module _ (f : Front) (p : Place) (s : Search) where
-  pub asks-as : (r : Ask) (q : Search) → s ≡ q → ((t : Table) → r ≡ asks (here f p t) q) → (t : Table) → r ≡ asks (here f p t) s
+  pub asks-as : (r : Ask) (q : Search) → s ≡ q → ((t : Table) → r ≡ asks (here f p t) q) → (t : Table)
+      → r ≡ asks (here f p t) s
   asks-as r q e h t = rw e (h t)
 
-  pub asks-seeking : (given : Bool) (n : ℕ) → s ≡ Seeking given → n ≡ length (idOf (f .prefix)) → (t : Table) → record { bits = f .prefix .bytes; count = 8 * n } ≡ asks (here f p t) s
+  pub asks-seeking : (given : Bool) (n : ℕ) → s ≡ Seeking given → n ≡ length (idOf (f .prefix)) → (t : Table)
+      → record { bits = f .prefix .bytes; count = 8 * n } ≡ asks (here f p t) s
   unfolding asks
   asks-seeking given n e en t = rw (e, en)
 
 -- Handing out.
 module _ (f g : Front) (p : Phase) (n : ℕ) (x : Id) where
-  pub handed-select : (s : Search) (seed : ℕ) → p ≡ Select s → ((w : Walk) → clientOf g w ≡ turned (clientOf f w) (Waiting p)) → seed ≡ nextSeed (f .seed) → (w : Walk)
-      → startedOf (record { says = Granted n; front = frontOf (seeded (clientOf g w) seed); begins = false; from = x }) w ≡ record { says = handing p n; client = handed (clientOf f w) p }
+  pub handed-select : (s : Search) (seed : ℕ) → p ≡ Select s
+      → ((w : Walk) → clientOf g w ≡ turned (clientOf f w) (Waiting p)) → seed ≡ nextSeed (f .seed) → (w : Walk)
+      → startedOf (record { says = Granted n; front = frontOf (seeded (clientOf g w) seed); begins = false; from = x })
+      w ≡ record { says = handing p n; client = handed (clientOf f w) p }
   unfolding handing handed
-  handed-select s seed ep e es w = rw (ep, es) (ap (λ (c : Client). record { says = Granted n; client = seeded c (nextSeed (f .seed)) }) (rw ep at e w))
+  handed-select s seed ep e es w =
+      rw (ep, es) (ap (λ (c : Client). record { says = Granted n; client = seeded c (nextSeed (f .seed)) })
+      (rw ep at e w))
 
-  pub handed-demand : (j : Job) → p ≡ Demand j → ((w : Walk) → clientOf g w ≡ turned (clientOf f w) (Waiting p)) → (w : Walk)
-      → startedOf (record { says = Granted n; front = g; begins = false; from = x }) w ≡ record { says = handing p n; client = handed (clientOf f w) p }
+  pub handed-demand : (j : Job) → p ≡ Demand j → ((w : Walk) → clientOf g w ≡ turned (clientOf f w) (Waiting p))
+      → (w : Walk)
+      → startedOf (record { says = Granted n; front = g; begins = false; from = x }) w
+      ≡ record { says = handing p n; client = handed (clientOf f w) p }
   unfolding handing handed
   handed-demand j ep e w = rw ep (ap (λ (c : Client). record { says = Granted n; client = c }) (rw ep at e w))
 
-  pub handed-leave : (reset : Reset) → p ≡ Leave reset → ((w : Walk) → clientOf g noWalk ≡ idle (clientOf f w)) → x ≡ noId → (w : Walk)
-      → startedOf (record { says = Closing n; front = g; begins = true; from = x }) w ≡ record { says = handing p n; client = handed (clientOf f w) p }
+  pub handed-leave : (reset : Reset) → p ≡ Leave reset → ((w : Walk) → clientOf g noWalk ≡ idle (clientOf f w))
+      → x ≡ noId → (w : Walk)
+      → startedOf (record { says = Closing n; front = g; begins = true; from = x }) w
+      ≡ record { says = handing p n; client = handed (clientOf f w) p }
   unfolding handing handed
   handed-leave reset ep e ex w = rw (ep, ex, begin-none, e w)
 
-pub granted-as : (f : Front) (p : Phase) (r : Opening) (v q : Placed) → v ≡ q → ((w : Walk) → startedOf r w ≡ granted (clientOf f w) p q) → (w : Walk) → startedOf r w ≡ granted (clientOf f w) p v
+pub granted-as : (f : Front) (p : Phase) (r : Opening) (v q : Placed) → v ≡ q
+    → ((w : Walk) → startedOf r w ≡ granted (clientOf f w) p q) → (w : Walk)
+    → startedOf r w ≡ granted (clientOf f w) p v
 granted-as f p r v q e h w = rw e (h w)
 
 -- Writing.
 module _ (f : Front) (p : Place) (w : Placed) (buffer after : List ℕ) where
-  pub search-written : (s : Search) (a : Ask) (seed : ℕ) → ((t : Table) → a ≡ asks (here f p t) s) → seed ≡ nextSeed (f .seed)
-      → record { answer = w; bytes = after } ≡ placed (frameBytes (selectFrame seed (asked (a .bits) (a .count % 256)))) buffer
+  pub search-written : (s : Search) (a : Ask) (seed : ℕ) → ((t : Table) → a ≡ asks (here f p t) s)
+      → seed ≡ nextSeed (f .seed)
+      → record { answer = w; bytes = after }
+      ≡ placed (frameBytes (selectFrame seed (asked (a .bits) (a .count % 256)))) buffer
       → (t : Table) → record { answer = w; bytes = after } ≡ placed (frameBytes (searchFrame (here f p t) s)) buffer
   unfolding searchFrame
   search-written s a seed ea es ew t = rw (ea t, es) at ew
 
-  pub request-as : (image : List ℕ) (ph q : Phase) → ph ≡ q → ((t : Table) → record { answer = w; bytes = after } ≡ placed (frameBytes (frameOf (here f p t) q image)) buffer)
+  pub request-as : (image : List ℕ) (ph q : Phase) → ph ≡ q
+      → ((t : Table) → record { answer = w; bytes = after } ≡ placed (frameBytes (frameOf (here f p t) q image)) buffer)
       → (t : Table) → record { answer = w; bytes = after } ≡ placed (frameBytes (frameOf (here f p t) ph image)) buffer
   request-as image ph q e h t = rw e (h t)
 
 -- What a writer placed, as what asking answers.
-placing : (c : Client) (p : Phase) (bytes buffer : List ℕ) → record { answer = granted c p (placed bytes buffer .answer); bytes = placed bytes buffer .bytes } ≡ granting c p bytes buffer
+placing : (c : Client) (p : Phase) (bytes buffer : List ℕ)
+    → record { answer = granted c p (placed bytes buffer .answer); bytes = placed bytes buffer .bytes }
+    ≡ granting c p bytes buffer
 unfolding placed granting granted
 placing c p bytes buffer = go (ltb (length buffer) (length bytes))
   where
@@ -96,15 +113,26 @@ placing c p bytes buffer = go (ltb (length buffer) (length bytes))
     short = record { answer = Placed.Short (length bytes); bytes = buffer }
 
     go : (b : Bool)
-        → _≡_ {A = Asking} (record { answer = granted c p (cond b short done .answer); bytes = cond b short done .bytes })
-        (cond b (withheld c (ShortBuffer (length bytes)) buffer) (record { answer = record { says = handing p (length bytes); client = handed c p }; bytes = bytes ++ drop (length bytes) buffer }))
+        → _≡_ {A = Asking} (record {
+          answer = granted c p
+              (cond b short done .answer);
+          bytes = cond b short done .bytes;
+        })
+        (cond b (withheld c (ShortBuffer (length bytes)) buffer)
+        (record {
+          answer = record { says = handing p (length bytes); client = handed c p };
+          bytes = bytes
+              ++ drop (length bytes) buffer;
+        }))
     go true = refl
     go false = refl
 
 -- The first premise shows the search what was placed.
-pub asked-made : (f : Front) (p : Place) (r : Opening) (ph : Phase) (v : Placed) (image buffer after : List ℕ) → startedOf r noWalk ≡ granted (clientOf f noWalk) ph v
+pub asked-made : (f : Front) (p : Place) (r : Opening) (ph : Phase) (v : Placed) (image buffer after : List ℕ)
+    → startedOf r noWalk ≡ granted (clientOf f noWalk) ph v
     → ((t : Table) → record { answer = v; bytes = after } ≡ placed (frameBytes (frameOf (here f p t) ph image)) buffer)
-    → ((w : Walk) → startedOf r w ≡ granted (clientOf f w) ph v) → (t : Table) → record { answer = startedOf r (walkOf p t); bytes = after } ≡ askedFor (here f p t) ph image buffer
+    → ((w : Walk) → startedOf r w ≡ granted (clientOf f w) ph v) → (t : Table)
+    → record { answer = startedOf r (walkOf p t); bytes = after } ≡ askedFor (here f p t) ph image buffer
 unfolding askedFor
 asked-made f p r ph v image buffer after k ew e t =
     ap (λ (x : Started). record { answer = x; bytes = after }) (e (walkOf p t))
@@ -112,26 +140,35 @@ asked-made f p r ph v image buffer after k ew e t =
     ∙ placing (here f p t) ph (frameBytes (frameOf (here f p t) ph image)) buffer
 
 module _ (f : Front) (p : Place) (r : Opening) (image buffer : List ℕ) where
-  pub ask-idle : f .turn ≡ Idle → ((w : Walk) → startedOf r w ≡ refuse (clientOf f w) OutOfTurn) → (t : Table) → record { answer = startedOf r (walkOf p t); bytes = buffer } ≡ request (here f p t) image buffer
+  pub ask-idle : f .turn ≡ Idle → ((w : Walk) → startedOf r w ≡ refuse (clientOf f w) OutOfTurn) → (t : Table)
+      → record { answer = startedOf r (walkOf p t); bytes = buffer } ≡ request (here f p t) image buffer
   unfolding request
-  ask-idle e h t = ap (λ (s : Started). record { answer = s; bytes = buffer }) (h (walkOf p t)) ∙ at-idle (f .turn) _ _ _ e
+  ask-idle e h t = ap (λ (s : Started). record { answer = s; bytes = buffer }) (h (walkOf p t))
+      ∙ at-idle (f .turn) _ _ _ e
 
   pub ask-out : (ph : Phase) → f .turn ≡ Waiting ph → ((w : Walk) → startedOf r w ≡ refuse (clientOf f w) OutOfTurn)
       → (t : Table) → record { answer = startedOf r (walkOf p t); bytes = buffer } ≡ request (here f p t) image buffer
   unfolding request
-  ask-out ph e h t = ap (λ (s : Started). record { answer = s; bytes = buffer }) (h (walkOf p t)) ∙ at-waiting (f .turn) _ _ _ ph e
+  ask-out ph e h t = ap (λ (s : Started). record { answer = s; bytes = buffer }) (h (walkOf p t))
+      ∙ at-waiting (f .turn) _ _ _ ph e
 
   module _ (ph : Phase) (b : Bool) (e : f .turn ≡ Ready ph) (eb : b ≡ otherImage ph (length image)) where
-    pub ask-other : b ≡ true → ((w : Walk) → startedOf r w ≡ refuse (clientOf f w) OtherImage) → (t : Table) → record { answer = startedOf r (walkOf p t); bytes = buffer } ≡ request (here f p t) image buffer
+    pub ask-other : b ≡ true → ((w : Walk) → startedOf r w ≡ refuse (clientOf f w) OtherImage) → (t : Table)
+        → record { answer = startedOf r (walkOf p t); bytes = buffer } ≡ request (here f p t) image buffer
     unfolding request
-    ask-other k h t = cond-yes _ _ _ _ (sym eb ∙ k) (ap (λ (s : Started). record { answer = s; bytes = buffer }) (h (walkOf p t))) ∙ at-ready (f .turn) _ _ _ ph e
+    ask-other k h t = cond-yes _ _ _ _ (sym eb ∙ k)
+        (ap (λ (s : Started). record { answer = s; bytes = buffer }) (h (walkOf p t))) ∙ at-ready (f .turn) _ _ _ ph e
 
-    pub ask-made : (after : List ℕ) → b ≡ false → ((t : Table) → record { answer = startedOf r (walkOf p t); bytes = after } ≡ askedFor (here f p t) ph image buffer)
+    pub ask-made : (after : List ℕ) → b ≡ false
+        → ((t : Table) → record { answer = startedOf r (walkOf p t); bytes = after }
+        ≡ askedFor (here f p t) ph image buffer)
         → (t : Table) → record { answer = startedOf r (walkOf p t); bytes = after } ≡ request (here f p t) image buffer
     unfolding request
     ask-made after k h t = cond-no _ _ _ _ (sym eb ∙ k) (h t) ∙ at-ready (f .turn) _ _ _ ph e
 
 -- By value: what is decided on the client's front and its walk's place, with the walk.
-pub request-is : (c : Client) (f : Front) (p : Place) (o : Opening) (r : Started) (image buffer after : List ℕ) → f ≡ frontOf c → p ≡ placeOf (c .walk)
-    → ((t : Table) → record { answer = startedOf o (walkOf p t); bytes = after } ≡ request (here f p t) image buffer) → r ≡ startedOf o (c .walk) → record { answer = r; bytes = after } ≡ request c image buffer
+pub request-is : (c : Client) (f : Front) (p : Place) (o : Opening) (r : Started) (image buffer after : List ℕ)
+    → f ≡ frontOf c → p ≡ placeOf (c .walk)
+    → ((t : Table) → record { answer = startedOf o (walkOf p t); bytes = after } ≡ request (here f p t) image buffer)
+    → r ≡ startedOf o (c .walk) → record { answer = r; bytes = after } ≡ request c image buffer
 request-is c f p o r image buffer after e g h k = rw k (rw (e, g) at h (c .walk .found))

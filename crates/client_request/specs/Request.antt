@@ -1,5 +1,4 @@
 -- What asking for a request answers, leaves and writes.
--- Assumes nothing.
 use Prim.Native.Nat.{ℕ, _+_, _*_, _%_}
 use mathlib.Core.Bool.{cond}
 use mathlib.Core.List.{List, [], _++_}
@@ -42,7 +41,15 @@ nextSeed seed = (seed + 1) % 256
 
 -- With another seed.
 abbrev pub seeded : Client → ℕ → Client
-seeded c seed = record { seed = seed; attached = c .attached; id = c .id; turn = c .turn; prefix = c .prefix; bits = c .bits; walk = c .walk }
+seeded c seed = record {
+  seed = seed;
+  attached = c .attached;
+  id = c .id;
+  turn = c .turn;
+  prefix = c .prefix;
+  bits = c .bits;
+  walk = c .walk;
+}
 
 -- The request of a phase, as document 01's frame.
 unfoldable pub searchFrame : Client → Search → Frame
@@ -50,9 +57,11 @@ searchFrame c s = selectFrame (nextSeed (c .seed)) (asked (asks c s .bits) (asks
 
 unfoldable pub frameOf : Client → Phase → List ℕ → Frame
 frameOf c p image =
-    onPhase p (λ s. searchFrame c s) (λ j. demandFrame (demandOf j (length image)) image) (λ reset. demandFrame (resetOf reset) [])
+    onPhase p (λ s. searchFrame c s) (λ j. demandFrame (demandOf j (length image)) image)
+    (λ reset. demandFrame (resetOf reset) [])
 
--- "In boot the reply is awaited; otherwise the operation succeeds on handing out the request": what is said of one of n bytes.
+-- "In boot the reply is awaited; otherwise the operation succeeds on handing out the request": what is said of one of n
+-- bytes.
 unfoldable pub handing : Phase → ℕ → Says
 handing p n = onPhase p (λ s. Granted n) (λ j. Granted n) (λ reset. Closing n)
 
@@ -77,11 +86,16 @@ pub record Asking : Type 0 where
 abbrev pub withheld : Client → Refusal → List ℕ → Asking
 withheld c r buffer = record { answer = refuse c r; bytes = buffer }
 
--- "A granted request fills its own length of the buffer and changes no byte after it"; else "request .. buffer too short .. length needed".
+-- "A granted request fills its own length of the buffer and changes no byte after it"; else "request .. buffer too
+-- short .. length needed".
 unfoldable pub granting : Client → Phase → List ℕ → List ℕ → Asking
 granting c p bytes buffer =
     cond (ltb (length buffer) (length bytes)) (withheld c (ShortBuffer (length bytes)) buffer)
-    (record { answer = record { says = handing p (length bytes); client = handed c p }; bytes = bytes ++ drop (length bytes) buffer })
+    (record {
+      answer = record { says = handing p (length bytes); client = handed c p };
+      bytes = bytes
+          ++ drop (length bytes) buffer;
+    })
 
 unfoldable pub askedFor : Client → Phase → List ℕ → List ℕ → Asking
 askedFor c p image buffer = granting c p (frameBytes (frameOf c p image)) buffer

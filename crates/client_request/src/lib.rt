@@ -20,7 +20,8 @@ ghost use Rattle.walk_table.specs.declared.Table.{Table};
 ghost use Rattle.walk.specs.declared.Walk.{Walk};
 ghost use Rattle.walk.specs.Moves.{walkOf};
 ghost use Rattle.client.specs.Verdicts.{clientOf, startedOf};
-ghost use Rattle.client_request.specs.Request.{asks, nextSeed, searchFrame, frameOf, handing, handed, granted, askedFor, request};
+ghost use Rattle.client_request.specs.Request.{asks, nextSeed, searchFrame, frameOf, handing, handed, granted};
+ghost use Rattle.client_request.specs.Request.{askedFor, request};
 
 fn next_seed(seed: u8) -> u8
     ensures { λ r. ⌜ r ≡ nextSeed seed ⌝ }
@@ -49,10 +50,11 @@ fn asks(f: Front, p: Place, search: Search) -> Ask
     }
 }
 
-// The client once its request of n bytes is handed out. A Select's seed is the client's from then on. One whose answer is not awaited ends
-// the operation.
+// The client once its request of n bytes is handed out. A Select's seed is the client's from then on. One whose answer
+// is not awaited ends the operation.
 fn handed(f: Front, phase: Phase, n: usize) -> Opening
-    ensures { λ r. ⌜ ((w : Walk) → startedOf r w ≡ record { says = handing phase n; client = handed (clientOf f w) phase }) ⌝ }
+    ensures { λ r. ⌜ ((w : Walk) → startedOf r w
+        ≡ record { says = handing phase n; client = handed (clientOf f w) phase }) ⌝ }
 {
     let from = Id::none();
     match phase {
@@ -99,7 +101,8 @@ fn granted(f: Front, phase: Phase, placed: Placed) -> Opening
 
 // The Select of a search, with the next seed.
 fn write_search(f: Front, p: Place, search: Search, buffer: &mut [u8]) -> Placed
-    ensures { λ r. ⌜ ((t : Table) → record { answer = r; bytes = now (buffer .exit) } ≡ placed (frameBytes (searchFrame (clientOf f (walkOf p t)) search)) (now (buffer .entry))) ⌝ }
+    ensures { λ r. ⌜ ((t : Table) → record { answer = r; bytes = now (buffer .exit) }
+        ≡ placed (frameBytes (searchFrame (clientOf f (walkOf p t)) search)) (now (buffer .entry))) ⌝ }
 {
     let a = asks(f, p, search);
     let bits = a.bits;
@@ -108,7 +111,8 @@ fn write_search(f: Front, p: Place, search: Search, buffer: &mut [u8]) -> Placed
 
 // The request of a phase.
 fn write_request(f: Front, p: Place, phase: Phase, image: &[u8], buffer: &mut [u8]) -> Placed
-    ensures { λ r. ⌜ ((t : Table) → record { answer = r; bytes = now (buffer .exit) } ≡ placed (frameBytes (frameOf (clientOf f (walkOf p t)) phase (now (image .entry)))) (now (buffer .entry))) ⌝ }
+    ensures { λ r. ⌜ ((t : Table) → record { answer = r; bytes = now (buffer .exit) }
+        ≡ placed (frameBytes (frameOf (clientOf f (walkOf p t)) phase (now (image .entry)))) (now (buffer .entry))) ⌝ }
 {
     match phase {
         Phase::Select(search) => write_search(f, p, search, buffer),
@@ -119,7 +123,8 @@ fn write_request(f: Front, p: Place, phase: Phase, image: &[u8], buffer: &mut [u
 
 // The request of a phase, handed out where the buffer holds it.
 fn asked(f: Front, p: Place, phase: Phase, image: &[u8], buffer: &mut [u8]) -> Opening
-    ensures { λ r. ⌜ ((t : Table) → record { answer = startedOf r (walkOf p t); bytes = now (buffer .exit) } ≡ askedFor (clientOf f (walkOf p t)) phase (now (image .entry)) (now (buffer .entry))) ⌝ }
+    ensures { λ r. ⌜ ((t : Table) → record { answer = startedOf r (walkOf p t); bytes = now (buffer .exit) }
+        ≡ askedFor (clientOf f (walkOf p t)) phase (now (image .entry)) (now (buffer .entry))) ⌝ }
 {
     let placed = write_request(f, p, phase, image, buffer);
     granted(f, phase, placed)
@@ -127,7 +132,8 @@ fn asked(f: Front, p: Place, phase: Phase, image: &[u8], buffer: &mut [u8]) -> O
 
 // The next request, decided on the front and the place, with the image lent, written to the front of the buffer.
 pub fn ask(f: Front, p: Place, image: &[u8], buffer: &mut [u8]) -> Opening
-    ensures { λ r. ⌜ ((t : Table) → record { answer = startedOf r (walkOf p t); bytes = now (buffer .exit) } ≡ request (clientOf f (walkOf p t)) (now (image .entry)) (now (buffer .entry))) ⌝ }
+    ensures { λ r. ⌜ ((t : Table) → record { answer = startedOf r (walkOf p t); bytes = now (buffer .exit) }
+        ≡ request (clientOf f (walkOf p t)) (now (image .entry)) (now (buffer .entry))) ⌝ }
 {
     let t = f.turn;
     match t {
@@ -144,7 +150,8 @@ pub fn ask(f: Front, p: Place, image: &[u8], buffer: &mut [u8]) -> Opening
 
 // The next request, by value.
 pub fn request(c: Client, image: &[u8], buffer: &mut [u8]) -> Started
-    ensures { λ r. ⌜ record { answer = r; bytes = now (buffer .exit) } ≡ request c (now (image .entry)) (now (buffer .entry)) ⌝ }
+    ensures { λ r. ⌜ record { answer = r; bytes = now (buffer .exit) }
+        ≡ request c (now (image .entry)) (now (buffer .entry)) ⌝ }
 {
     let w = c.walk;
     ask(c.front(), w.place(), image, buffer).started(w)

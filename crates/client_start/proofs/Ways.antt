@@ -1,5 +1,4 @@
 -- The ways through the starts, from the facts that the code has.
--- Assumes nothing.
 use Prim.Native.Nat.{ℕ, _*_, _<_, _≤_}
 use mathlib.Core.Bool.{Bool, true, false}
 use mathlib.Core.List.{List}
@@ -24,7 +23,8 @@ use Rattle.client.specs.declared.Says.the-variants.{Onward}
 use Rattle.client.specs.declared.Started.{Started}
 use Rattle.client.specs.Clients.{begun, running, refuse}
 use Rattle.client.specs.Verdicts.{frontOf, clientOf, startedOf}
-use Rattle.client_start.specs.Start.{starts, demands, badPrefix, startSelect, startDeselect, startAttach, startAttachTo, startDiscover}
+use Rattle.client_start.specs.Start.{starts, demands, badPrefix, startSelect, startDeselect, startAttach}
+use Rattle.client_start.specs.Start.{startAttachTo, startDiscover}
 
 -- What is decided on a front is a definition of the client, whatever its walk.
 abbrev Opens : Front → Opening → (Client → Started) → Type 0
@@ -32,7 +32,8 @@ Opens f r d = (w : Walk) → startedOf r w ≡ d (clientOf f w)
 
 module _ (f : Front) (b : Bool) (eb : b ≡ running (f .turn)) where
   module _ (r : Opening) where
-    pub starts-late : (p : Phase) (x : Id) (bits : ℕ) (v : Walk) → b ≡ true → Opens f r (λ c. refuse c OutOfTurn) → Opens f r (λ c. starts c p x bits v)
+    pub starts-late : (p : Phase) (x : Id) (bits : ℕ) (v : Walk) → b ≡ true → Opens f r (λ c. refuse c OutOfTurn)
+        → Opens f r (λ c. starts c p x bits v)
     unfolding starts
     starts-late p x bits v h e w = rw (← eb, h) (e w)
 
@@ -44,7 +45,8 @@ module _ (f : Front) (b : Bool) (eb : b ≡ running (f .turn)) where
     unfolding badPrefix
     bad-bad h e w = rw (← eb, h) (e w)
 
-  pub starts-now : (g : Front) (p : Phase) (x y : Id) (bits : ℕ) → b ≡ false → ((w : Walk) → clientOf g w ≡ begun (clientOf f w) (Ready p) x bits w)
+  pub starts-now : (g : Front) (p : Phase) (x y : Id) (bits : ℕ) → b ≡ false
+      → ((w : Walk) → clientOf g w ≡ begun (clientOf f w) (Ready p) x bits w)
       → Opens f (record { says = Onward; front = g; begins = true; from = y }) (λ c. starts c p x bits (begin y))
   unfolding starts
   starts-now g p x y bits h e w = rw (← eb, h, e (begin y))
@@ -54,20 +56,24 @@ module _ (f : Front) (bytes : List ℕ) (r : Opening) where
   unfolding startSelect
   select-over bits h e w = rw (lt-ltb 16 (length bytes) h) (e w)
 
-  pub select-few : (bits : ℕ) → length bytes ≤ 16 → 8 * length bytes < bits → Opens f r badPrefix → Opens f r (λ c. startSelect c bytes bits)
+  pub select-few : (bits : ℕ) → length bytes ≤ 16 → 8 * length bytes < bits → Opens f r badPrefix
+      → Opens f r (λ c. startSelect c bytes bits)
   unfolding startSelect
   select-few bits h k e w = rw (le-ltb 16 (length bytes) h, lt-ltb (8 * length bytes) bits k) (e w)
 
-  pub select-starts : (bits : ℕ) (x n : Id) → length bytes ≤ 16 → bits ≤ 8 * length bytes → x ≡ idFrom bytes → n ≡ noId → Opens f r (λ c. starts c (Select Probing) x bits (begin n))
+  pub select-starts : (bits : ℕ) (x n : Id) → length bytes ≤ 16 → bits ≤ 8 * length bytes → x ≡ idFrom bytes → n ≡ noId
+      → Opens f r (λ c. starts c (Select Probing) x bits (begin n))
       → Opens f r (λ c. startSelect c bytes bits)
   unfolding startSelect
-  select-starts bits x n h k ex en e w = rw (le-ltb 16 (length bytes) h, le-ltb (8 * length bytes) bits k) (rw (ex, en, begin-none) at e w)
+  select-starts bits x n h k ex en e w =
+      rw (le-ltb 16 (length bytes) h, le-ltb (8 * length bytes) bits k) (rw (ex, en, begin-none) at e w)
 
   pub attach-over : 16 < length bytes → Opens f r badPrefix → Opens f r (λ c. startAttachTo c bytes)
   unfolding startAttachTo
   attach-over h e w = rw (lt-ltb 16 (length bytes) h) (e w)
 
-  pub attach-starts : (x n : Id) → length bytes ≤ 16 → x ≡ idFrom bytes → n ≡ noId → Opens f r (λ c. starts c (Select (Seeking true)) x 0 (begin n)) → Opens f r (λ c. startAttachTo c bytes)
+  pub attach-starts : (x n : Id) → length bytes ≤ 16 → x ≡ idFrom bytes → n ≡ noId
+      → Opens f r (λ c. starts c (Select (Seeking true)) x 0 (begin n)) → Opens f r (λ c. startAttachTo c bytes)
   unfolding startAttachTo
   attach-starts x n h ex en e w = rw (le-ltb 16 (length bytes) h) (rw (ex, en, begin-none) at e w)
 
@@ -75,7 +81,8 @@ module _ (f : Front) (bytes : List ℕ) (r : Opening) where
   unfolding startDiscover
   discover-over h e w = rw (lt-ltb 16 (length bytes) h) (e w)
 
-  pub discover-starts : (x n : Id) → length bytes ≤ 16 → x ≡ idFrom bytes → n ≡ noId → Opens f r (λ c. starts c (Select (Walking Asked)) n 0 (begin x)) → Opens f r (λ c. startDiscover c bytes)
+  pub discover-starts : (x n : Id) → length bytes ≤ 16 → x ≡ idFrom bytes → n ≡ noId
+      → Opens f r (λ c. starts c (Select (Walking Asked)) n 0 (begin x)) → Opens f r (λ c. startDiscover c bytes)
   unfolding startDiscover
   discover-starts x n h ex en e w = rw (le-ltb 16 (length bytes) h) (rw (ex, en) at e w)
 
@@ -93,17 +100,21 @@ module _ (f : Front) (r : Opening) (x n : Id) (ex : x ≡ noId) (en : n ≡ noId
   demands-starts p e w = rw (ex, en, begin-none) at e w
 
 -- By value: what is decided on the client's front, with its walk.
-pub by-value : (d : Client → Started) (c : Client) (f : Front) (o : Opening) (r : Started) → f ≡ frontOf c → r ≡ startedOf o (c .walk) → Opens f o d → r ≡ d c
+pub by-value : (d : Client → Started) (c : Client) (f : Front) (o : Opening) (r : Started) → f ≡ frontOf c
+    → r ≡ startedOf o (c .walk) → Opens f o d → r ≡ d c
 by-value d c f o r e k h = k ∙ h (c .walk) ∙ ap (λ (g : Front). d (clientOf g (c .walk))) e
 
 module _ {A : Type 0} where
-  pub by-value₁ : (d : Client → A → Started) (x : A) (c : Client) (f : Front) (o : Opening) (r : Started) → f ≡ frontOf c → r ≡ startedOf o (c .walk) → Opens f o (λ c. d c x) → r ≡ d c x
+  pub by-value₁ : (d : Client → A → Started) (x : A) (c : Client) (f : Front) (o : Opening) (r : Started)
+      → f ≡ frontOf c → r ≡ startedOf o (c .walk) → Opens f o (λ c. d c x) → r ≡ d c x
   by-value₁ d x = by-value (λ c. d c x)
 
-  pub by-value₂ : {B : Type 0} (d : Client → A → B → Started) (x : A) (y : B) (c : Client) (f : Front) (o : Opening) (r : Started)
+  pub by-value₂ : {B : Type 0} (d : Client → A → B → Started) (x : A) (y : B) (c : Client) (f : Front) (o : Opening)
+      (r : Started)
       → f ≡ frontOf c → r ≡ startedOf o (c .walk) → Opens f o (λ c. d c x y) → r ≡ d c x y
   by-value₂ d x y = by-value (λ c. d c x y)
 
-  pub by-value₃ : {B C : Type 0} (d : Client → A → B → C → Started) (x : A) (y : B) (z : C) (c : Client) (f : Front) (o : Opening) (r : Started)
+  pub by-value₃ : {B C : Type 0} (d : Client → A → B → C → Started) (x : A) (y : B) (z : C) (c : Client) (f : Front)
+      (o : Opening) (r : Started)
       → f ≡ frontOf c → r ≡ startedOf o (c .walk) → Opens f o (λ c. d c x y z) → r ≡ d c x y z
   by-value₃ d x y z = by-value (λ c. d c x y z)

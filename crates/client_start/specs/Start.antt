@@ -1,5 +1,4 @@
 -- What each start answers and leaves.
--- Assumes nothing.
 use Prim.Native.Nat.{ℕ, _*_}
 use mathlib.Core.Bool.{Bool, true, false, cond}
 use mathlib.Core.List.{List}
@@ -24,7 +23,8 @@ use Rattle.client.specs.declared.Started.{Started}
 use Rattle.client.specs.Clients.{begun, running, refuse}
 
 unfoldable pub starts : Client → Phase → Id → ℕ → Walk → Started
-starts c p x bits w = cond (running (c .turn)) (refuse c OutOfTurn) (record { says = Onward; client = begun c (Ready p) x bits w })
+starts c p x bits w = cond (running (c .turn)) (refuse c OutOfTurn)
+    (record { says = Onward; client = begun c (Ready p) x bits w })
 
 unfoldable pub demands : Client → Phase → Started
 demands c p = starts c p noId 0 noWalk
@@ -44,10 +44,12 @@ unfoldable pub startAttach : Client → Started
 startAttach c = starts c (Select (Seeking false)) noId 0 noWalk
 
 unfoldable pub startAttachTo : Client → List ℕ → Started
-startAttachTo c bytes = cond (ltb 16 (length bytes)) (badPrefix c) (starts c (Select (Seeking true)) (idFrom bytes) 0 noWalk)
+startAttachTo c bytes = cond (ltb 16 (length bytes)) (badPrefix c)
+    (starts c (Select (Seeking true)) (idFrom bytes) 0 noWalk)
 
 unfoldable pub startDiscover : Client → List ℕ → Started
-startDiscover c bytes = cond (ltb 16 (length bytes)) (badPrefix c) (starts c (Select (Walking Asked)) noId 0 (begin (idFrom bytes)))
+startDiscover c bytes = cond (ltb 16 (length bytes)) (badPrefix c)
+    (starts c (Select (Walking Asked)) noId 0 (begin (idFrom bytes)))
 
 unfoldable pub startInfo : Client → Started
 startInfo c = demands c (Demand (Informing Tell))

@@ -17,7 +17,9 @@ ghost use mathlib.Core.Path.{_≡_};
 ghost use Rattle.walk.specs.declared.Walk.{Walk};
 ghost use Rattle.walk.specs.Moves.{begin};
 ghost use Rattle.client.specs.Verdicts.{clientOf, startedOf};
-ghost use Rattle.client_start.specs.Start.{starts, demands, badPrefix, startSelect, startDeselect, startAttach, startAttachTo, startDiscover, startInfo, startErase, startFlash, resets, startReset, startSetBaud};
+ghost use Rattle.client_start.specs.Start.{starts, demands, badPrefix, startSelect, startDeselect, startAttach};
+ghost use Rattle.client_start.specs.Start.{startAttachTo, startDiscover, startInfo, startErase, startFlash};
+ghost use Rattle.client_start.specs.Start.{resets, startReset, startSetBaud};
 
 // An operation begins with its first request, and a walk from a prefix, unless one runs.
 fn starts(f: Front, phase: Phase, prefix: Id, bits: u8, from: Id) -> Opening

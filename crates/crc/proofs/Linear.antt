@@ -1,5 +1,5 @@
--- Eight and sixteen steps of the register in closed form: each takes a sum apart, so it is known by what it makes of each bit.
--- Assumes nothing.
+-- Eight and sixteen steps of the register in closed form: each takes a sum apart, so it is known by what it makes of
+-- each bit.
 use Prim.Native.Nat.{ℕ, zero, suc, _+_, _-_, _*_, _/_, _%_, _^_, _<_}
 use mathlib.Core.Bool.{cond}
 use mathlib.Core.List.{List, [], _∷_}
@@ -26,7 +26,8 @@ digit P p q x = go (x % 2) (omega arith)
 differ-swap : (x y z : ℕ) → differ (differ (x % 2) (y % 2)) (z % 2) ≡ differ (differ (x % 2) (z % 2)) (y % 2)
 differ-swap x y z =
     digit (λ p. differ (differ p (y % 2)) (z % 2) ≡ differ (differ p (z % 2)) (y % 2))
-    (digit (λ q. differ q (z % 2) ≡ differ (z % 2) q) (digit (λ r. r ≡ differ r 0) refl refl z) (digit (λ r. differ 1 r ≡ differ r 1) refl refl z) y)
+    (digit (λ q. differ q (z % 2) ≡ differ (z % 2) q) (digit (λ r. r ≡ differ r 0) refl refl z)
+    (digit (λ r. differ 1 r ≡ differ r 1) refl refl z) y)
     (digit (λ q. differ (differ 1 q) (z % 2) ≡ differ (differ 1 (z % 2)) q)
     (digit (λ r. differ 1 r ≡ differ (differ 1 r) 0) refl refl z)
     (digit (λ r. r ≡ differ (differ 1 r) 1) refl refl z) y)
@@ -41,14 +42,18 @@ xor-odd a b = omega (arith, xor-step a b, differ-lt a b)
 xor-swap : (a b p : ℕ) → bitXor (bitXor a b) p ≡ bitXor (bitXor a p) b
 xor-swap =
     bin-ind (λ (a : ℕ). (b p : ℕ) → bitXor (bitXor a b) p ≡ bitXor (bitXor a p) b) (λ b p. xor-comm b p)
-    (λ a ih b p. digits a b p ∙ ap₂ (λ (x y : ℕ). x * 2 + y) (ih (b / 2) (p / 2)) (differ-swap a b p) ∙ sym (digits a p b))
+    (λ a ih b p. digits a b p ∙ ap₂ (λ (x y : ℕ). x * 2 + y) (ih (b / 2) (p / 2)) (differ-swap a b p)
+    ∙ sym (digits a p b))
   where
-    digits : (a b p : ℕ) → bitXor (bitXor a b) p ≡ bitXor (bitXor (a / 2) (b / 2)) (p / 2) * 2 + differ (differ (a % 2) (b % 2)) (p % 2)
+    digits : (a b p : ℕ) → bitXor (bitXor a b) p
+        ≡ bitXor (bitXor (a / 2) (b / 2)) (p / 2) * 2 + differ (differ (a % 2) (b % 2)) (p % 2)
     digits a b p =
-        xor-step (bitXor a b) p ∙ ap₂ (λ (x y : ℕ). bitXor x (p / 2) * 2 + differ y (p % 2)) (xor-shr a b 1) (xor-odd a b)
+        xor-step (bitXor a b) p ∙ ap₂ (λ (x y : ℕ). bitXor x (p / 2) * 2 + differ y (p % 2)) (xor-shr a b 1)
+        (xor-odd a b)
 
 pub swap-sums : (a b c d : ℕ) → bitXor (bitXor a b) (bitXor c d) ≡ bitXor (bitXor a c) (bitXor b d)
-swap-sums a b c d = sym (together (bitXor a b) c d) ∙ ap (λ (x : ℕ). bitXor x d) (xor-swap a b c) ∙ together (bitXor a c) b d
+swap-sums a b c d = sym (together (bitXor a b) c d) ∙ ap (λ (x : ℕ). bitXor x d) (xor-swap a b c)
+    ∙ together (bitXor a c) b d
   where
     together : (a b c : ℕ) → bitXor (bitXor a b) c ≡ bitXor a (bitXor b c)
     together a b c = ap (λ (x : ℕ). bitXor x c) (xor-comm a b) ∙ xor-swap b a c ∙ xor-comm (bitXor b c) a
@@ -63,7 +68,12 @@ abbrev same : Linear
 same = record { of = λ x. x; apart = λ x y. refl; fits = λ x h. h }
 
 abbrev shr : ℕ → Linear
-shr k = record { of = λ x. x / 2 ^ k; apart = λ x y. xor-shr x y k; fits = λ x h. lt-of-le-of-lt (div-le-self x (2 ^ k)) h }
+shr k = record {
+  of = λ x. x / 2 ^ k;
+  apart = λ x y. xor-shr x y k;
+  fits = λ x h. lt-of-le-of-lt
+      (div-le-self x (2 ^ k)) h;
+}
 
 abbrev shl : ℕ → Linear
 shl k =
@@ -116,7 +126,8 @@ by-bits f g (suc n) e x h = go (by-bits f g n (ap (drop 1) e)) (decLt x (2 ^ n))
 
         cut : (f : Linear) → f .of x ≡ bitXor (f .of (2 ^ n)) (f .of (x - 2 ^ n))
         cut f =
-            let e : bitXor (2 ^ n) (x - 2 ^ n) ≡ x = (rw (one-mul (2 ^ n)) at (xor-shifted 1 n (x - 2 ^ n) rest)) ∙ omega arith in
+            let e : bitXor (2 ^ n) (x - 2 ^ n) ≡ x =
+            (rw (one-mul (2 ^ n)) at (xor-shifted 1 n (x - 2 ^ n) rest)) ∙ omega arith in
             ap (f .of) (sym e) ∙ f .apart (2 ^ n) (x - 2 ^ n)
 
 abbrev spread : Linear
@@ -142,7 +153,8 @@ is-step x h = go (decLt x 0x8000)
     go : Dec (x < 0x8000) → cond (ltb x 0x8000) (x * 2) (bitXor (x * 2 % 0x10000) 0x1021) ≡ step .of x
     go (yes l) =
         let low : x / 2 ^ 15 ≡ 0 = omega arith in
-        rw (lt-ltb x 0x8000 l) (omega arith ∙ sym (xor-zero-r (x * 2 ^ 1 % 2 ^ 16)) ∙ ap (λ (y : ℕ). bitXor (x * 2 ^ 1 % 2 ^ 16) (spread .of y)) (sym low))
+        rw (lt-ltb x 0x8000 l) (omega arith ∙ sym (xor-zero-r (x * 2 ^ 1 % 2 ^ 16))
+        ∙ ap (λ (y : ℕ). bitXor (x * 2 ^ 1 % 2 ^ 16) (spread .of y)) (sym low))
     go (no l) =
         let top : x / 2 ^ 15 ≡ 1 = omega arith in
         rw (le-ltb x 0x8000 (omega arith)) (ap (λ (y : ℕ). bitXor (x * 2 ^ 1 % 2 ^ 16) (spread .of y)) (sym top))
@@ -157,7 +169,8 @@ module _ (c b : ℕ) (hc : c < 2 ^ 16) (hb : b < 256) where
 
   is-eight : crcByte c b ≡ eight .of entered
   unfolding crcByte
-  is-eight = is-twice _ (twice (twice step)) (is-twice _ (twice step) (is-twice crcBit step is-step)) entered fits-entered
+  is-eight = is-twice _ (twice (twice step))
+      (is-twice _ (twice step) (is-twice crcBit step is-step)) entered fits-entered
 
   abbrev byte : Linear
   byte = sum (after spread (after (sum same (shr 4)) (shr 8))) (shl 8)
@@ -169,10 +182,13 @@ module _ (c b : ℕ) (hc : c < 2 ^ 16) (hb : b < 256) where
   low : entered * 2 ^ 8 % 2 ^ 16 ≡ c * 2 ^ 8 % 2 ^ 16
   low = shl 8 .apart c (b * 256) ∙ ap (bitXor (c * 2 ^ 8 % 2 ^ 16)) (omega arith) ∙ xor-zero-r (c * 2 ^ 8 % 2 ^ 16)
 
-  pub closed : bitXor (spread .of (bitXor (bitXor (c / 2 ^ 8) b) (bitXor (c / 2 ^ 8) b / 2 ^ 4))) (c * 2 ^ 8 % 2 ^ 16) ≡ crcByte c b
+  pub closed : bitXor (spread .of (bitXor (bitXor (c / 2 ^ 8) b) (bitXor (c / 2 ^ 8) b / 2 ^ 4))) (c * 2 ^ 8 % 2 ^ 16)
+      ≡ crcByte c b
   closed =
-      let top : bitXor (c / 2 ^ 8) b ≡ entered / 2 ^ 8 = sym (xor-shr c (b * 256) 8 ∙ ap (bitXor (c / 2 ^ 8)) (omega arith)) in
-      ap₂ (λ (x y : ℕ). bitXor (spread .of (bitXor x (x / 2 ^ 4))) y) top (sym low) ∙ sym (is-byte entered fits-entered) ∙ sym is-eight
+      let top : bitXor (c / 2 ^ 8) b ≡ entered / 2 ^ 8 =
+      sym (xor-shr c (b * 256) 8 ∙ ap (bitXor (c / 2 ^ 8)) (omega arith)) in
+      ap₂ (λ (x y : ℕ). bitXor (spread .of (bitXor x (x / 2 ^ 4))) y) top (sym low)
+      ∙ sym (is-byte entered fits-entered) ∙ sym is-eight
 
 -- Two bytes: the second, eight steps before it enters, stands at the bottom.
 abbrev onto : Linear

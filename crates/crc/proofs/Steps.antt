@@ -1,5 +1,4 @@
 -- The check of bytes two bytes further, and at its end.
--- Assumes nothing.
 use Prim.Native.Nat.{ℕ, suc, _+_, _<_, _≤_}
 use mathlib.Core.List.{List}
 use mathlib.Core.Path.{_≡_}
@@ -9,7 +8,8 @@ use lib.Seq.{drop-cons}
 use Rattle.paper.specs.Frame.{crcByte, crcFrom}
 
 module _ (s : List ℕ) (start c i : ℕ) (q : crcFrom c (drop i s) ≡ crcFrom start s) where
-  pub further : (r : ℕ) → i + 1 < length s → r ≡ crcByte (crcByte c (getD s i 0)) (getD s (i + 1) 0) → crcFrom r (drop (i + 2) s) ≡ crcFrom start s
+  pub further : (r : ℕ) → i + 1 < length s → r ≡ crcByte (crcByte c (getD s i 0)) (getD s (i + 1) 0)
+      → crcFrom r (drop (i + 2) s) ≡ crcFrom start s
   unfolding crcFrom
   further r h e =
       let one : i + 1 ≡ suc i = omega arith in

@@ -1,5 +1,4 @@
 -- Each exported call on a state that holds a client leaves what the client's own call gives.
--- Assumes nothing.
 use Prim.Native.Nat.{ℕ, _≤_}
 use mathlib.Core.Bool.{Bool, true, false, cond}
 use mathlib.Core.List.{List, _++_}
@@ -30,7 +29,9 @@ module _ (c : Client) (h : Fits c) (more a : List ℕ) (room : Answer.size ≤ l
   pub tells-saved : (f : Client → Told) → tells f (saved c ++ more) a ≡ leaves (f c) (saved c ++ more) a
   unfolding tells
   tells-saved f =
-      sym (lent-enough (length (saved c ++ more)) (length a) (λ (code : ℕ). record { code = code; state = saved c ++ more; answer = a }) (leaves (f (loaded (saved c ++ more))) (saved c ++ more) a) whole room)
+      sym (lent-enough (length (saved c ++ more)) (length a)
+      (λ (code : ℕ). record { code = code; state = saved c ++ more; answer = a })
+      (leaves (f (loaded (saved c ++ more))) (saved c ++ more) a) whole room)
       ∙ ap (λ (d : Client). leaves (f d) (saved c ++ more) a) (loaded-saved c h more)
 
   -- A start.
@@ -39,17 +40,21 @@ module _ (c : Client) (h : Fits c) (more a : List ℕ) (room : Answer.size ≤ l
   starts-saved f = tells-saved (λ (d : Client). toldBy (f d))
 
   -- A request.
-  pub requests-saved : (image b : List ℕ) → requests image (saved c ++ more) b a ≡ asks (request c image b) (saved c ++ more) a
+  pub requests-saved : (image b : List ℕ)
+      → requests image (saved c ++ more) b a ≡ asks (request c image b) (saved c ++ more) a
   unfolding requests
   requests-saved image b =
-      sym (lent-enough (length (saved c ++ more)) (length a) (λ (code : ℕ). record { code = code; state = saved c ++ more; buffer = b; answer = a }) (asks (request (loaded (saved c ++ more)) image b) (saved c ++ more) a) whole room)
+      sym (lent-enough (length (saved c ++ more)) (length a)
+      (λ (code : ℕ). record { code = code; state = saved c ++ more; buffer = b; answer = a })
+      (asks (request (loaded (saved c ++ more)) image b) (saved c ++ more) a) whole room)
       ∙ ap (λ (d : Client). asks (request d image b) (saved c ++ more) a) (loaded-saved c h more)
 
   -- The attached id.
   pub views-saved : views (saved c ++ more) a ≡ showsAttached (attached c) a
   unfolding views
   views-saved =
-      sym (lent-enough (length (saved c ++ more)) (length a) (λ (code : ℕ). record { code = code; bytes = a }) (showsAttached (attached (loaded (saved c ++ more))) a) whole room)
+      sym (lent-enough (length (saved c ++ more)) (length a) (λ (code : ℕ). record { code = code; bytes = a })
+      (showsAttached (attached (loaded (saved c ++ more))) a) whole room)
       ∙ ap (λ (d : Client). showsAttached (attached d) a) (loaded-saved c h more)
 
 -- The rest from where it begins.
@@ -59,4 +64,5 @@ rest-from bytes at = go (ltb at (length bytes)) refl
   where
     go : (b : Bool) → ltb at (length bytes) ≡ b → drop (cond b at (length bytes)) bytes ≡ rest bytes at
     go true e = refl
-    go false e = drop-of-length-le bytes {i = length bytes} (omega arith) ∙ sym (drop-of-length-le bytes {i = at} (ltb-false at (length bytes) e))
+    go false e = drop-of-length-le bytes {i = length bytes} (omega arith)
+        ∙ sym (drop-of-length-le bytes {i = at} (ltb-false at (length bytes) e))

@@ -1,4 +1,5 @@
-// Every call of the client over numbers and byte slices, for a host to link. The client lives in a buffer that the host lends, and each answer is written into another.
+// Every call of the client over numbers and byte slices, for a host to link. The client lives in a buffer that the host
+// lends, and each answer is written into another.
 use client::Outcome;
 use client::Says;
 ghost use mathlib.Core.Path.{_≡_};
@@ -25,7 +26,8 @@ pub extern "C" fn fahireky_start_select(
     bits: usize,
     answer: &mut [u8],
 ) -> u64
-    ensures { λ r. ⌜ record { code = r; state = now (state .exit); answer = now (answer .exit) } ≡ Export.startSelect (now (state .entry)) (now (prefix .entry)) bits (now (answer .entry)) ⌝ }
+    ensures { λ r. ⌜ record { code = r; state = now (state .exit); answer = now (answer .exit) }
+        ≡ Export.startSelect (now (state .entry)) (now (prefix .entry)) bits (now (answer .entry)) ⌝ }
 {
     let lack = host_buffers::lacks(state.len(), answer.len());
     if lack != 0 {
@@ -37,7 +39,8 @@ pub extern "C" fn fahireky_start_select(
 
 #[no_mangle]
 pub extern "C" fn fahireky_start_deselect(state: &mut [u8], answer: &mut [u8]) -> u64
-    ensures { λ r. ⌜ record { code = r; state = now (state .exit); answer = now (answer .exit) } ≡ Export.startDeselect (now (state .entry)) (now (answer .entry)) ⌝ }
+    ensures { λ r. ⌜ record { code = r; state = now (state .exit); answer = now (answer .exit) }
+        ≡ Export.startDeselect (now (state .entry)) (now (answer .entry)) ⌝ }
 {
     let lack = host_buffers::lacks(state.len(), answer.len());
     if lack != 0 {
@@ -49,7 +52,8 @@ pub extern "C" fn fahireky_start_deselect(state: &mut [u8], answer: &mut [u8]) -
 
 #[no_mangle]
 pub extern "C" fn fahireky_start_attach(state: &mut [u8], answer: &mut [u8]) -> u64
-    ensures { λ r. ⌜ record { code = r; state = now (state .exit); answer = now (answer .exit) } ≡ Export.startAttach (now (state .entry)) (now (answer .entry)) ⌝ }
+    ensures { λ r. ⌜ record { code = r; state = now (state .exit); answer = now (answer .exit) }
+        ≡ Export.startAttach (now (state .entry)) (now (answer .entry)) ⌝ }
 {
     let lack = host_buffers::lacks(state.len(), answer.len());
     if lack != 0 {
@@ -65,7 +69,8 @@ pub extern "C" fn fahireky_start_attach_to(
     prefix: &[u8],
     answer: &mut [u8],
 ) -> u64
-    ensures { λ r. ⌜ record { code = r; state = now (state .exit); answer = now (answer .exit) } ≡ Export.startAttachTo (now (state .entry)) (now (prefix .entry)) (now (answer .entry)) ⌝ }
+    ensures { λ r. ⌜ record { code = r; state = now (state .exit); answer = now (answer .exit) }
+        ≡ Export.startAttachTo (now (state .entry)) (now (prefix .entry)) (now (answer .entry)) ⌝ }
 {
     let lack = host_buffers::lacks(state.len(), answer.len());
     if lack != 0 {
@@ -77,7 +82,8 @@ pub extern "C" fn fahireky_start_attach_to(
 
 #[no_mangle]
 pub extern "C" fn fahireky_start_discover(state: &mut [u8], prefix: &[u8], answer: &mut [u8]) -> u64
-    ensures { λ r. ⌜ record { code = r; state = now (state .exit); answer = now (answer .exit) } ≡ Export.startDiscover (now (state .entry)) (now (prefix .entry)) (now (answer .entry)) ⌝ }
+    ensures { λ r. ⌜ record { code = r; state = now (state .exit); answer = now (answer .exit) }
+        ≡ Export.startDiscover (now (state .entry)) (now (prefix .entry)) (now (answer .entry)) ⌝ }
 {
     let lack = host_buffers::lacks(state.len(), answer.len());
     if lack != 0 {
@@ -89,7 +95,8 @@ pub extern "C" fn fahireky_start_discover(state: &mut [u8], prefix: &[u8], answe
 
 #[no_mangle]
 pub extern "C" fn fahireky_start_info(state: &mut [u8], answer: &mut [u8]) -> u64
-    ensures { λ r. ⌜ record { code = r; state = now (state .exit); answer = now (answer .exit) } ≡ Export.startInfo (now (state .entry)) (now (answer .entry)) ⌝ }
+    ensures { λ r. ⌜ record { code = r; state = now (state .exit); answer = now (answer .exit) }
+        ≡ Export.startInfo (now (state .entry)) (now (answer .entry)) ⌝ }
 {
     let lack = host_buffers::lacks(state.len(), answer.len());
     if lack != 0 {
@@ -101,7 +108,8 @@ pub extern "C" fn fahireky_start_info(state: &mut [u8], answer: &mut [u8]) -> u6
 
 #[no_mangle]
 pub extern "C" fn fahireky_start_erase(state: &mut [u8], answer: &mut [u8]) -> u64
-    ensures { λ r. ⌜ record { code = r; state = now (state .exit); answer = now (answer .exit) } ≡ Export.startErase (now (state .entry)) (now (answer .entry)) ⌝ }
+    ensures { λ r. ⌜ record { code = r; state = now (state .exit); answer = now (answer .exit) }
+        ≡ Export.startErase (now (state .entry)) (now (answer .entry)) ⌝ }
 {
     let lack = host_buffers::lacks(state.len(), answer.len());
     if lack != 0 {
@@ -113,7 +121,8 @@ pub extern "C" fn fahireky_start_erase(state: &mut [u8], answer: &mut [u8]) -> u
 
 #[no_mangle]
 pub extern "C" fn fahireky_start_flash(state: &mut [u8], image: &[u8], answer: &mut [u8]) -> u64
-    ensures { λ r. ⌜ record { code = r; state = now (state .exit); answer = now (answer .exit) } ≡ Export.startFlash (now (state .entry)) (now (image .entry)) (now (answer .entry)) ⌝ }
+    ensures { λ r. ⌜ record { code = r; state = now (state .exit); answer = now (answer .exit) }
+        ≡ Export.startFlash (now (state .entry)) (now (image .entry)) (now (answer .entry)) ⌝ }
 {
     let lack = host_buffers::lacks(state.len(), answer.len());
     if lack != 0 {
@@ -130,14 +139,19 @@ pub extern "C" fn fahireky_start_reset(
     in_boot: bool,
     answer: &mut [u8],
 ) -> u64
-    ensures { λ r. ⌜ record { code = r; state = now (state .exit); answer = now (answer .exit) } ≡ Export.startReset (now (state .entry)) bootloader «in_boot» (now (answer .entry)) ⌝ }
+    ensures { λ r. ⌜ record { code = r; state = now (state .exit); answer = now (answer .exit) }
+        ≡ Export.startReset (now (state .entry)) bootloader «in_boot» (now (answer .entry)) ⌝ }
 {
     let lack = host_buffers::lacks(state.len(), answer.len());
     if lack != 0 {
         return lack;
     }
     let f = host_state::load_front(state);
-    host_buffers::started(client_start::open_reset(f, bootloader, in_boot), state, answer)
+    host_buffers::started(
+        client_start::open_reset(f, bootloader, in_boot),
+        state,
+        answer,
+    )
 }
 
 #[no_mangle]
@@ -148,7 +162,8 @@ pub extern "C" fn fahireky_start_set_baud(
     in_boot: bool,
     answer: &mut [u8],
 ) -> u64
-    ensures { λ r. ⌜ record { code = r; state = now (state .exit); answer = now (answer .exit) } ≡ Export.startSetBaud (now (state .entry)) baud bootloader «in_boot» (now (answer .entry)) ⌝ }
+    ensures { λ r. ⌜ record { code = r; state = now (state .exit); answer = now (answer .exit) }
+        ≡ Export.startSetBaud (now (state .entry)) baud bootloader «in_boot» (now (answer .entry)) ⌝ }
 {
     let lack = host_buffers::lacks(state.len(), answer.len());
     if lack != 0 {
@@ -170,7 +185,14 @@ pub extern "C" fn fahireky_request(
     buffer: &mut [u8],
     answer: &mut [u8],
 ) -> u64
-    ensures { λ r. ⌜ record { code = r; state = now (state .exit); buffer = now (buffer .exit); answer = now (answer .exit) } ≡ Export.request (now (state .entry)) (now (image .entry)) (now (buffer .entry)) (now (answer .entry)) ⌝ }
+    ensures { λ r. ⌜ record {
+      code = r;
+      state = now (state .exit);
+      buffer = now (buffer .exit);
+      answer = now
+          (answer .exit);
+    } ≡ Export.request (now (state .entry)) (now (image .entry)) (now (buffer .entry))
+        (now (answer .entry)) ⌝ }
 {
     let lack = host_buffers::lacks(state.len(), answer.len());
     if lack != 0 {
@@ -190,7 +212,8 @@ pub extern "C" fn fahireky_record(
     bytes: &[u8],
     answer: &mut [u8],
 ) -> u64
-    ensures { λ r. ⌜ record { code = r; state = now (state .exit); answer = now (answer .exit) } ≡ Export.record′ (now (state .entry)) (now (image .entry)) (now (bytes .entry)) (now (answer .entry)) ⌝ }
+    ensures { λ r. ⌜ record { code = r; state = now (state .exit); answer = now (answer .exit) }
+        ≡ Export.record′ (now (state .entry)) (now (image .entry)) (now (bytes .entry)) (now (answer .entry)) ⌝ }
 {
     let lack = host_buffers::lacks(state.len(), answer.len());
     if lack != 0 {
@@ -204,7 +227,8 @@ pub extern "C" fn fahireky_record(
 
 #[no_mangle]
 pub extern "C" fn fahireky_link_failed(state: &mut [u8], answer: &mut [u8]) -> u64
-    ensures { λ r. ⌜ record { code = r; state = now (state .exit); answer = now (answer .exit) } ≡ Export.linkFailed (now (state .entry)) (now (answer .entry)) ⌝ }
+    ensures { λ r. ⌜ record { code = r; state = now (state .exit); answer = now (answer .exit) }
+        ≡ Export.linkFailed (now (state .entry)) (now (answer .entry)) ⌝ }
 {
     let lack = host_buffers::lacks(state.len(), answer.len());
     if lack != 0 {
@@ -217,7 +241,8 @@ pub extern "C" fn fahireky_link_failed(state: &mut [u8], answer: &mut [u8]) -> u
 // The attached id, if there is one.
 #[no_mangle]
 pub extern "C" fn fahireky_attached(state: &[u8], answer: &mut [u8]) -> u64
-    ensures { λ r. ⌜ record { code = r; bytes = now (answer .exit) } ≡ Export.attached (now (state .entry)) (now (answer .entry)) ⌝ }
+    ensures { λ r. ⌜ record { code = r; bytes = now (answer .exit) }
+        ≡ Export.attached (now (state .entry)) (now (answer .entry)) ⌝ }
 {
     let lack = host_buffers::lacks(state.len(), answer.len());
     if lack != 0 {
@@ -231,7 +256,8 @@ pub extern "C" fn fahireky_attached(state: &[u8], answer: &mut [u8]) -> u64
 // What a Select hears in its record.
 #[no_mangle]
 pub extern "C" fn fahireky_hear(bytes: &[u8], answer: &mut [u8]) -> u64
-    ensures { λ r. ⌜ record { code = r; bytes = now (answer .exit) } ≡ Export.hear (now (bytes .entry)) (now (answer .entry)) ⌝ }
+    ensures { λ r. ⌜ record { code = r; bytes = now (answer .exit) }
+        ≡ Export.hear (now (bytes .entry)) (now (answer .entry)) ⌝ }
 {
     let lack = host_buffers::lacks(host_state::size(), answer.len());
     if lack != 0 {
@@ -257,14 +283,16 @@ pub extern "C" fn fahireky_rest(bytes: &[u8], place: usize) -> usize
 
 #[no_mangle]
 pub extern "C" fn fahireky_uid_hex(id: &[u8], text: &mut [u8]) -> u64
-    ensures { λ r. ⌜ record { code = r; bytes = now (text .exit) } ≡ Export.uidHex (now (id .entry)) (now (text .entry)) ⌝ }
+    ensures { λ r. ⌜ record { code = r; bytes = now (text .exit) }
+        ≡ Export.uidHex (now (id .entry)) (now (text .entry)) ⌝ }
 {
     host_buffers::codes::written_code(text::uid_hex(id, text))
 }
 
 #[no_mangle]
 pub extern "C" fn fahireky_parse_uid(text: &[u8], id: &mut [u8]) -> u64
-    ensures { λ r. ⌜ record { code = r; bytes = now (id .exit) } ≡ Export.parseUid (now (text .entry)) (now (id .entry)) ⌝ }
+    ensures { λ r. ⌜ record { code = r; bytes = now (id .exit) }
+        ≡ Export.parseUid (now (text .entry)) (now (id .entry)) ⌝ }
 {
     host_buffers::codes::read_uid(text::parse_uid(text), id)
 }

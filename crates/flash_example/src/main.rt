@@ -1,5 +1,5 @@
-// A flash driven to its end over a pod that answers Ok: document 01's example of an image of 5 bytes in a capacity of 6.
-// tests/vectors.py computes what this must print.
+// A flash driven to its end over a pod that answers Ok: document 01's example of an image of 5 bytes in a capacity of
+// 6. tests/vectors.py computes what this must print.
 use client::Client;
 use client::Outcome;
 use client::Progress;

@@ -1,5 +1,4 @@
 -- A frame put together from its head, a payload in the part lent from byte 10 on, and its check.
--- Assumes nothing.
 use Prim.Native.Nat.{ℕ, _+_, _-_, _<_, _≤_}
 use mathlib.Core.List.{List, _++_, append-assoc}
 use mathlib.Core.Path.{_≡_, sym, _∙_, ap, ap₂}
@@ -37,7 +36,8 @@ module _ (h : Head) (load buf : List ℕ) (n : ℕ) (en : length load ≡ n) whe
   unfolding placed
   too-short k = rw (frame-is, lt-ltb (length buf) (n + 12) k)
 
-  module _ (d₁ d₂ d₃ : List ℕ) (e₁ : d₁ ≡ headOf h n ++ drop 10 buf) (e₂ : d₂ ≡ load ++ drop n (take (length d₁ - 10) (drop 10 d₁))) where
+  module _ (d₁ d₂ d₃ : List ℕ) (e₁ : d₁ ≡ headOf h n ++ drop 10 buf)
+      (e₂ : d₂ ≡ load ++ drop n (take (length d₁ - 10) (drop 10 d₁))) where
     abbrev filled : List ℕ
     filled = putMid 10 (length d₁ - 10) d₁ d₂
 
@@ -46,7 +46,8 @@ module _ (h : Head) (load buf : List ℕ) (n : ℕ) (en : length load ≡ n) whe
     filled-is =
         mid-all 10 d₁ d₂
         ∙ ap₂ (λ (x y : List ℕ). x ++ y) (ap (take 10) head ∙ take-at (frameHead f) (drop 10 buf) 10 (head-length f))
-        (e₂ ∙ ap (λ (r : List ℕ). load ++ drop n r) (part-all 10 d₁ ∙ ap (drop 10) head ∙ drop-at (frameHead f) (drop 10 buf) 10 (head-length f))
+        (e₂ ∙ ap (λ (r : List ℕ). load ++ drop n r)
+        (part-all 10 d₁ ∙ ap (drop 10) head ∙ drop-at (frameHead f) (drop 10 buf) 10 (head-length f))
         ∙ ap (λ (r : List ℕ). load ++ r) (drop-drop n 10 buf ∙ ap (λ (k : ℕ). drop k buf) (add-comm 10 n)))
         ∙ sym (append-assoc (frameHead f) load (drop (n + 10) buf))
       where

@@ -1,5 +1,4 @@
 -- The head as a frame, and what a writer answers and leaves in the buffer.
--- Assumes nothing.
 use Prim.Native.Nat.{ℕ}
 use mathlib.Core.Bool.{cond}
 use mathlib.Core.List.{List, [], _∷_, _++_}
@@ -13,7 +12,13 @@ use Rattle.wire.specs.declared.Written.the-variants as Written
 use Rattle.frame.specs.declared.Head.{Head}
 
 abbrev pub frameOf : Head → List ℕ → Frame
-frameOf h payload = record { command = h .command; status = h .status; flags = h .flags; address = h .address; payload = payload }
+frameOf h payload = record {
+  command = h .command;
+  status = h .status;
+  flags = h .flags;
+  address = h .address;
+  payload = payload;
+}
 
 -- The bytes before a payload of n bytes.
 abbrev pub tagOf : Head → List ℕ
@@ -51,4 +56,5 @@ outcome p = record { answer = answerOf (p .answer); bytes = p .bytes }
 
 -- A payload of over 1,024 bytes is written in no buffer.
 unfoldable pub written : Frame → List ℕ → Outcome
-written f buffer = cond (ltb most (length (f .payload))) (record { answer = Written.TooLong; bytes = buffer }) (outcome (placed (frameBytes f) buffer))
+written f buffer = cond (ltb most (length (f .payload))) (record { answer = Written.TooLong; bytes = buffer })
+    (outcome (placed (frameBytes f) buffer))

@@ -39,7 +39,8 @@ pub fn put_head(buf: &mut [u8], head: Head, n: u16)
 // The payload writer: bytes, then FF so many times.
 pub fn put_padded(dst: &mut [u8], bytes: &[u8], pad: usize)
     requires { ⌜ length (now bytes) + pad ≤ length (now dst) ⌝ }
-    ensures { λ _. ⌜ now (dst .exit) ≡ (now (bytes .entry) ++ replicate pad 0xFF) ++ drop (length (now (bytes .entry)) + pad) (now (dst .entry)) ⌝ }
+    ensures { λ _. ⌜ now (dst .exit)
+        ≡ (now (bytes .entry) ++ replicate pad 0xFF) ++ drop (length (now (bytes .entry)) + pad) (now (dst .entry)) ⌝ }
 {
     let n = bytes.len();
     wire::copy(dst, bytes);
@@ -49,7 +50,8 @@ pub fn put_padded(dst: &mut [u8], bytes: &[u8], pad: usize)
 // The check behind the first n bytes.
 pub fn seal(buf: &mut [u8], n: usize)
     requires { ⌜ n + 2 ≤ length (now buf) ⌝ }
-    ensures { λ _. ⌜ now (buf .exit) ≡ take n (now (buf .entry)) ++ le 2 (check (take n (now (buf .entry)))) ++ drop (n + 2) (now (buf .entry)) ⌝ }
+    ensures { λ _. ⌜ now (buf .exit)
+        ≡ take n (now (buf .entry)) ++ le 2 (check (take n (now (buf .entry)))) ++ drop (n + 2) (now (buf .entry)) ⌝ }
 {
     let c = crc::crc16(crc::START, &buf[..n]);
     wire::put16(buf, n, c);
@@ -58,7 +60,8 @@ pub fn seal(buf: &mut [u8], n: usize)
 // A frame whose payload is the bytes given and then FF so many times, 1,024 bytes at most.
 pub fn place_frame(head: Head, bytes: &[u8], pad: usize, buf: &mut [u8]) -> Placed
     requires { ⌜ length (now bytes) + pad ≤ 1024 ⌝ }
-    ensures { λ r. ⌜ record { answer = r; bytes = now (buf .exit) } ≡ placed (frameBytes (frameOf head (now (bytes .entry) ++ replicate pad 0xFF))) (now (buf .entry)) ⌝ }
+    ensures { λ r. ⌜ record { answer = r; bytes = now (buf .exit) }
+        ≡ placed (frameBytes (frameOf head (now (bytes .entry) ++ replicate pad 0xFF))) (now (buf .entry)) ⌝ }
 {
     let n = bytes.len() + pad;
     if buf.len() < n + 12 {
@@ -81,7 +84,8 @@ fn answer_of(p: Placed) -> Written
 
 // The same of any lengths.
 pub fn write_frame(head: Head, bytes: &[u8], pad: usize, buf: &mut [u8]) -> Written
-    ensures { λ r. ⌜ record { answer = r; bytes = now (buf .exit) } ≡ written (frameOf head (now (bytes .entry) ++ replicate pad 0xFF)) (now (buf .entry)) ⌝ }
+    ensures { λ r. ⌜ record { answer = r; bytes = now (buf .exit) }
+        ≡ written (frameOf head (now (bytes .entry) ++ replicate pad 0xFF)) (now (buf .entry)) ⌝ }
 {
     let m = bytes.len();
     if 1024 < m {

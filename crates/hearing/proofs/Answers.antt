@@ -1,5 +1,4 @@
 -- Where the loop over frames is, against the paper's answer.
--- Assumes nothing.
 use Prim.Native.Nat.{ℕ, zero, suc, _+_, _-_, _≤_}
 use mathlib.Core.Bool.{Bool, true, false, cond}
 use mathlib.Core.List.{List}
@@ -8,9 +7,9 @@ use native.Mathlib.Omega.{arith}
 use lib.ListN.{length, drop}
 use lib.Dec.{eqb}
 use borrow.Author.Tests.{eq-eqb, ne-eqb}
-use Rattle.paper.specs.Frame as Paper
+use Rattle.paper.specs.Frame as PaperFrame
 use Rattle.paper.specs.Frame.{read, short, tooLong, badCheck, whole, status-CrcMismatch}
-use Rattle.paper.specs.Answers as Paper₂
+use Rattle.paper.specs.Answers as PaperAnswers
 use Rattle.paper.specs.Answers.{answerFrom, answer, lost, answered, device, ok, replyOf}
 use Rattle.reader.specs.declared.Frame.{Frame}
 use Rattle.reader.specs.declared.Reading.{Reading}
@@ -32,20 +31,23 @@ unfolding answer
 begun bytes = record { left = length bytes; enough = omega arith; same = refl }
 
 -- A frame that is no echo answers with its own reply, or with the status of a bad check.
-abbrev reply : Bool → Paper.Frame → Paper₂.Reply
+abbrev reply : Bool → PaperFrame.Frame → PaperAnswers.Reply
 reply true f = replyOf f
 reply false f = device status-CrcMismatch
 
-module _ (right : Bool) (bytes : List ℕ) (at : ℕ) (x : Reading) (e : x ≡ shownFrom at (read (drop at bytes))) (f : Frame) (c : x ≡ readAs right f) where
+module _ (right : Bool) (bytes : List ℕ) (at : ℕ) (x : Reading) (e : x ≡ shownFrom at (read (drop at bytes)))
+    (f : Frame) (c : x ≡ readAs right f) where
   found : Shows bytes at f right
   found = shows right bytes at x e f c
 
-  next : (n : ℕ) → answerFrom (suc n) at bytes ≡ cond (eqb (f .status) 0) (answerFrom n (f .end) bytes) (answered (reply right (found .frame)) (f .end))
+  next : (n : ℕ) → answerFrom (suc n) at bytes
+      ≡ cond (eqb (f .status) 0) (answerFrom n (f .end) bytes) (answered (reply right (found .frame)) (f .end))
   unfolding answerFrom
   next n = go right found
     where
       go : (right : Bool) (s : Shows bytes at f right)
-          → answerFrom (suc n) at bytes ≡ cond (eqb (f .status) 0) (answerFrom n (f .end) bytes) (answered (reply right (s .frame)) (f .end))
+          → answerFrom (suc n) at bytes ≡ cond (eqb (f .status) 0) (answerFrom n (f .end) bytes)
+          (answered (reply right (s .frame)) (f .end))
       go true s = rw (s .came, end-is bytes at f true s) (rw (s .shown))
       go false s = rw (s .came, end-is bytes at f false s) (rw (s .shown))
 
@@ -65,25 +67,30 @@ module _ (right : Bool) (bytes : List ℕ) (at : ℕ) (x : Reading) (e : x ≡ s
     halted : (f .status ≡ 0 → ⊥) → answered (reply right (found .frame)) (f .end) ≡ answer bytes
     halted z = go (r .left) (r .enough) (r .same)
       where
-        go : (n : ℕ) → length bytes ≤ at + n → answerFrom n at bytes ≡ answer bytes → answered (reply right (found .frame)) (f .end) ≡ answer bytes
+        go : (n : ℕ) → length bytes ≤ at + n → answerFrom n at bytes ≡ answer bytes
+            → answered (reply right (found .frame)) (f .end) ≡ answer bytes
         go zero h q = absurd (omega (arith, inside right bytes at x e f c, end-after bytes at f right found))
         go (suc n) h q = sym (next n ∙ simp (ne-eqb _ _ z)) ∙ q
 
 -- The payload stands between the head and the check.
-replied-shown : (at : ℕ) (f : Paper.Frame) → repliedBy (frameAt at f) ≡ shownAnswer (answered (replyOf f) (at + Paper.size f))
+replied-shown : (at : ℕ) (f : PaperFrame.Frame)
+    → repliedBy (frameAt at f) ≡ shownAnswer (answered (replyOf f) (at + PaperFrame.size f))
 unfolding repliedBy
 replied-shown at f = go (eqb (f .status) 1)
   where
     place : (at n : ℕ) → at + 10 ≡ at + (12 + n) - (2 + n)
     place at n = omega arith
 
-    go : (b : Bool) → cond b (Ok (at + 10) (length (f .payload)) (at + Paper.size f)) (Device (f .status) (at + Paper.size f))
-        ≡ shownAnswer (answered (cond b (ok (f .payload)) (device (f .status))) (at + Paper.size f))
-    go true = ap (λ (i : ℕ). Ok i (length (f .payload)) (at + Paper.size f)) (place at (length (f .payload)))
+    go : (b : Bool) → cond b (Ok (at + 10) (length (f .payload)) (at + PaperFrame.size f))
+        (Device (f .status) (at + PaperFrame.size f))
+        ≡ shownAnswer (answered (cond b (ok (f .payload)) (device (f .status))) (at + PaperFrame.size f))
+    go true = ap (λ (i : ℕ). Ok i (length (f .payload)) (at + PaperFrame.size f)) (place at (length (f .payload)))
     go false = refl
 
-module _ (bytes : List ℕ) (at : ℕ) (x : Reading) (e : x ≡ shownFrom at (read (drop at bytes))) (r : Reach bytes at) where
-  pub answers-whole : (f : Frame) → x ≡ readAs true f → (f .status ≡ 0 → ⊥) → (a : Answered) → a ≡ repliedBy f → a ≡ shownAnswer (answer bytes)
+module _ (bytes : List ℕ) (at : ℕ) (x : Reading) (e : x ≡ shownFrom at (read (drop at bytes)))
+    (r : Reach bytes at) where
+  pub answers-whole : (f : Frame) → x ≡ readAs true f → (f .status ≡ 0 → ⊥) → (a : Answered) → a ≡ repliedBy f
+      → a ≡ shownAnswer (answer bytes)
   answers-whole f c z a ea =
       let s = found true bytes at x e f c in
       ea
@@ -92,7 +99,8 @@ module _ (bytes : List ℕ) (at : ℕ) (x : Reading) (e : x ≡ shownFrom at (re
       ∙ ap (λ (end : ℕ). shownAnswer (answered (replyOf (s .frame)) end)) (sym (ap (λ (g : Frame). g .end) (s .shown)))
       ∙ ap shownAnswer (halted true bytes at x e f c r z)
 
-  pub answers-bad : (f : Frame) → x ≡ readAs false f → (f .status ≡ 0 → ⊥) → Device 3 (f .end) ≡ shownAnswer (answer bytes)
+  pub answers-bad : (f : Frame) → x ≡ readAs false f → (f .status ≡ 0 → ⊥)
+      → Device 3 (f .end) ≡ shownAnswer (answer bytes)
   answers-bad f c z = ap shownAnswer (halted false bytes at x e f c r z)
 
 -- No frame can be read.
@@ -100,11 +108,13 @@ abbrev pub lostAs : Bool → Reading
 lostAs true = TooLong
 lostAs false = Short
 
-pub ended : (long : Bool) (bytes : List ℕ) (at : ℕ) (x : Reading) → x ≡ shownFrom at (read (drop at bytes)) → Reach bytes at → x ≡ lostAs long → Lost ≡ shownAnswer (answer bytes)
+pub ended : (long : Bool) (bytes : List ℕ) (at : ℕ) (x : Reading) → x ≡ shownFrom at (read (drop at bytes))
+    → Reach bytes at → x ≡ lostAs long → Lost ≡ shownAnswer (answer bytes)
 unfolding answerFrom
 ended long bytes at x e r c = ap shownAnswer (go long (read (drop at bytes)) refl (sym e ∙ c) (r .left) (r .same))
   where
-    go : (long : Bool) (y : Paper.Reading) → read (drop at bytes) ≡ y → shownFrom at y ≡ lostAs long → (n : ℕ) → answerFrom n at bytes ≡ answer bytes → lost ≡ answer bytes
+    go : (long : Bool) (y : PaperFrame.Reading) → read (drop at bytes) ≡ y → shownFrom at y ≡ lostAs long → (n : ℕ)
+        → answerFrom n at bytes ≡ answer bytes → lost ≡ answer bytes
     go long y q h zero k = k
     go long short q h (suc n) k = rw q at k
     go long tooLong q h (suc n) k = rw q at k

@@ -1,5 +1,4 @@
 -- Where the loop over frames is, against what the paper hears in the record.
--- Assumes nothing.
 use Prim.Native.Nat.{ℕ, zero, suc, _+_, _^_, _<_, _≤_}
 use mathlib.Core.Bool.{Bool, true, false, cond}
 use mathlib.Core.List.{List, [], _∷_, _++_, append-nil, append-assoc}
@@ -19,7 +18,7 @@ use borrow.Author.Tests.{ne-eqb}
 use Rattle.paper.proofs.Readings.{Read, read-known, frames-first, frames-none}
 use Rattle.paper.specs.Frame as Paper
 use Rattle.paper.specs.Frame.{read, size, short, tooLong, badCheck, whole}
-use Rattle.paper.specs.Hearing.{hear, frames, replies, alone, onSome, clean, one, unaddressed, garble}
+use Rattle.paper.specs.Hearing.{hear, frames, replies, repliesHeard, onSome, clean, one, unaddressed, garble}
 use Rattle.reader.specs.declared.Frame.{Frame}
 use Rattle.reader.specs.declared.Reading.{Reading}
 use Rattle.reader.specs.declared.Reading.the-variants.{Whole}
@@ -34,7 +33,8 @@ use Rattle.hearing.proofs.Shows.{Shows, shows, end-is, inside}
 -- The code's replies, and the paper's that they stand for.
 pub data Stands (bytes : List ℕ) : List Paper.Frame → Replies → Type 0 where
   no-reply : Stands bytes [] None
-  one-reply : (p : Paper.Frame) (f : Frame) → f .status ≡ p .status → f .payload + f .len ≤ length bytes → take (f .len) (drop (f .payload) bytes) ≡ p .payload → Stands bytes (p ∷ []) (One f)
+  one-reply : (p : Paper.Frame) (f : Frame) → f .status ≡ p .status → f .payload + f .len ≤ length bytes
+      → take (f .len) (drop (f .payload) bytes) ≡ p .payload → Stands bytes (p ∷ []) (One f)
   more-replies : (p q : Paper.Frame) (ps : List Paper.Frame) → Stands bytes (p ∷ q ∷ ps) Several
 
 -- From here on, within the frames left and with the replies seen, what is heard is that of the whole record.
@@ -43,21 +43,23 @@ pub record Reach (bytes : List ℕ) (at : ℕ) (rs : Replies) : Type 0 where
   pub enough : length bytes ≤ at + left
   pub seen : List Paper.Frame
   pub stands : Stands bytes seen rs
-  pub same : onSome (frames left (drop at bytes)) garble (λ fs. alone (seen ++ replies fs)) ≡ hear bytes
+  pub same : onSome (frames left (drop at bytes)) garble (λ fs. repliesHeard (seen ++ replies fs)) ≡ hear bytes
 
 pub begun : (bytes : List ℕ) → Reach bytes 0 None
 unfolding hear
 begun bytes = record { left = length bytes; enough = omega arith; seen = []; stands = no-reply; same = refl }
 
 -- One more frame.
-stands-noted : (bytes : List ℕ) (at : ℕ) (p : Paper.Frame) (seen : List Paper.Frame) (rs : Replies) → at + size p ≤ length bytes
+stands-noted : (bytes : List ℕ) (at : ℕ) (p : Paper.Frame) (seen : List Paper.Frame) (rs : Replies)
+    → at + size p ≤ length bytes
     → take (length (p .payload)) (drop (at + 10) bytes) ≡ p .payload → Stands bytes seen rs
     → Stands bytes (cond (eqb (p .status) 0) seen (seen ++ p ∷ [])) (noted rs (frameAt at p))
 unfolding noted
 stands-noted bytes at p seen rs room body s = go (eqb (p .status) 0) s
   where
     go : {seen : List Paper.Frame} {rs : Replies} (b : Bool) → Stands bytes seen rs
-        → Stands bytes (cond b seen (seen ++ p ∷ [])) (cond b rs (onReplies rs (One (frameAt at p)) (λ g. Several) Several))
+        → Stands bytes (cond b seen (seen ++ p ∷ []))
+        (cond b rs (onReplies rs (One (frameAt at p)) (λ g. Several) Several))
     go true s = s
     go false no-reply = one-reply p (frameAt at p) refl (omega arith) body
     go false (one-reply q g es w eb) = more-replies q p []
@@ -68,12 +70,14 @@ stands-within no-reply = tt
 stands-within (one-reply p f es w eb) = w
 stands-within (more-replies p q ps) = tt
 
-stands-concluded : {bytes : List ℕ} {seen : List Paper.Frame} {rs : Replies} → Stands bytes seen rs → concluded bytes rs ≡ shownHeard (alone seen)
-unfolding concluded alone
+stands-concluded : {bytes : List ℕ} {seen : List Paper.Frame} {rs : Replies} → Stands bytes seen rs
+    → concluded bytes rs ≡ shownHeard (repliesHeard seen)
+unfolding concluded repliesHeard
 stands-concluded no-reply = refl
 stands-concluded (one-reply p f es w eb) = rw (es, eb) (go (eqb (p .status) 1) (eqb (p .status) 2))
   where
-    go : (a b : Bool) → cond a (oneHeard (p .payload)) (cond b (heardAs Unaddressed) (heardAs Garble)) ≡ shownHeard (cond a (one (p .payload)) (cond b unaddressed garble))
+    go : (a b : Bool) → cond a (oneHeard (p .payload)) (cond b (heardAs Unaddressed) (heardAs Garble))
+        ≡ shownHeard (cond a (one (p .payload)) (cond b unaddressed garble))
     go true b = refl
     go false true = refl
     go false false = refl
@@ -92,11 +96,11 @@ unfit-unclean at (whole k f) u = absurd (miss (0 ∷ 1 ∷ 2 ∷ []) 3 tt u)
 
 -- A frame counts with those seen or with those to come.
 counted : (p : Paper.Frame) (seen : List Paper.Frame) (o : Option (List Paper.Frame))
-    → onSome o garble (λ ps. alone (cond (eqb (p .status) 0) seen (seen ++ p ∷ []) ++ replies ps))
-    ≡ onSome (onSome o none (λ ps. some (p ∷ ps))) garble (λ ps. alone (seen ++ replies ps))
+    → onSome o garble (λ ps. repliesHeard (cond (eqb (p .status) 0) seen (seen ++ p ∷ []) ++ replies ps))
+    ≡ onSome (onSome o none (λ ps. some (p ∷ ps))) garble (λ ps. repliesHeard (seen ++ replies ps))
 unfolding replies
 counted p seen none = refl
-counted p seen (some ps) = ap alone (go (eqb (p .status) 0))
+counted p seen (some ps) = ap repliesHeard (go (eqb (p .status) 0))
   where
     go : (b : Bool) → cond b seen (seen ++ p ∷ []) ++ replies ps ≡ seen ++ cond b (replies ps) (p ∷ replies ps)
     go true = refl
@@ -104,13 +108,16 @@ counted p seen (some ps) = ap alone (go (eqb (p .status) 0))
 
 module _ (bytes : List ℕ) (at : ℕ) (rs : Replies) (h : at < length bytes) (r : Reach bytes at rs) where
   first : (n : ℕ) → frames (suc n) (drop at bytes)
-      ≡ onSome (clean (read (drop at bytes))) none (λ p. onSome (frames n (drop (size p) (drop at bytes))) none (λ ps. some (p ∷ ps)))
+      ≡ onSome (clean (read (drop at bytes))) none
+      (λ p. onSome (frames n (drop (size p) (drop at bytes))) none (λ ps. some (p ∷ ps)))
   first n = frames-first n (drop at bytes) (omega (arith, length-drop at bytes))
 
   unclean : clean (read (drop at bytes)) ≡ none → garble ≡ hear bytes
   unclean e = go (r .left) (r .enough) (r .same)
     where
-      go : (n : ℕ) → length bytes ≤ at + n → onSome (frames n (drop at bytes)) garble (λ ps. alone (r .seen ++ replies ps)) ≡ hear bytes → garble ≡ hear bytes
+      go : (n : ℕ) → length bytes ≤ at + n
+          → onSome (frames n (drop at bytes)) garble (λ ps. repliesHeard (r .seen ++ replies ps)) ≡ hear bytes
+          → garble ≡ hear bytes
       go zero l q = absurd (omega arith)
       go (suc n) l q = rw (first n, e) at q
 
@@ -122,9 +129,11 @@ module _ (bytes : List ℕ) (at : ℕ) (rs : Replies) (h : at < length bytes) (r
       known = read-known (drop at bytes) 0 p true e
 
       body : take (length (p .payload)) (drop (at + 10) bytes) ≡ p .payload
-      body = sym (ap (λ (g : Paper.Frame). g .payload) (known .frame) ∙ ap (take (length (p .payload))) (drop-drop 10 at bytes))
+      body = sym (ap (λ (g : Paper.Frame). g .payload) (known .frame)
+          ∙ ap (take (length (p .payload))) (drop-drop 10 at bytes))
 
-      go : (n : ℕ) → length bytes ≤ at + n → onSome (frames n (drop at bytes)) garble (λ ps. alone (r .seen ++ replies ps)) ≡ hear bytes
+      go : (n : ℕ) → length bytes ≤ at + n
+          → onSome (frames n (drop at bytes)) garble (λ ps. repliesHeard (r .seen ++ replies ps)) ≡ hear bytes
           → Reach bytes (at + size p) (noted rs (frameAt at p))
       go zero l q = absurd (omega arith)
       go (suc n) l q =
@@ -132,8 +141,10 @@ module _ (bytes : List ℕ) (at : ℕ) (rs : Replies) (h : at < length bytes) (r
             left = n;
             enough = omega arith;
             seen = cond (eqb (p .status) 0) (r .seen) (r .seen ++ p ∷ []);
-            stands = stands-noted bytes at p (r .seen) rs (omega (arith, known .room, length-drop at bytes)) body (r .stands);
-            same = counted p (r .seen) (frames n (drop (at + size p) bytes)) ∙ (rw (first n, e, drop-drop (size p) at bytes) at q);
+            stands = stands-noted bytes at p (r .seen) rs (omega (arith, known .room, length-drop at bytes)) body
+                (r .stands);
+            same = counted p (r .seen) (frames n (drop (at + size p) bytes))
+                ∙ (rw (first n, e, drop-drop (size p) at bytes) at q);
           }
 
   module _ (x : Reading) (e : x ≡ shownFrom at (read (drop at bytes))) where
@@ -155,13 +166,15 @@ module _ (bytes : List ℕ) (at : ℕ) (rs : Replies) (h : at < length bytes) (r
       ten-fit l = omega (arith, inside true bytes at x e f c, end-is bytes at f true found)
 
       pub further : f .payload ≡ at + 10 → (next : Replies) → next ≡ noted rs f → Reach bytes (f .end) next
-      further z next en = rw (en, shown) (stepped (found .frame) (found .came ∙ ap (λ (k : ℕ). whole k (found .frame)) skip))
+      further z next en = rw (en, shown)
+          (stepped (found .frame) (found .came ∙ ap (λ (k : ℕ). whole k (found .frame)) skip))
         where
           skip : found .skip ≡ 0
           skip = omega (arith, z, ap (λ (g : Frame). g .payload) (found .shown))
 
           shown : f ≡ frameAt at (found .frame)
-          shown = found .shown ∙ ap (λ (k : ℕ). frameAt (at + k) (found .frame)) skip ∙ ap (λ (a : ℕ). frameAt a (found .frame)) (add-zero at)
+          shown = found .shown ∙ ap (λ (k : ℕ). frameAt (at + k) (found .frame)) skip
+              ∙ ap (λ (a : ℕ). frameAt a (found .frame)) (add-zero at)
 
 module _ (bytes : List ℕ) (at : ℕ) (rs : Replies) (r : Reach bytes at rs) where
   pub hears-within : Within bytes rs
@@ -169,4 +182,6 @@ module _ (bytes : List ℕ) (at : ℕ) (rs : Replies) (r : Reach bytes at rs) wh
 
   pub hears-end : length bytes ≤ at → (g : Hearing) → g ≡ concluded bytes rs → g ≡ shownHeard (hear bytes)
   unfolding replies
-  hears-end h g e = e ∙ stands-concluded (r .stands) ∙ ap shownHeard (ap alone (sym (append-nil (r .seen))) ∙ (rw (drop-of-length-le bytes {i = at} h, frames-none) at (r .same)))
+  hears-end h g e = e ∙ stands-concluded (r .stands)
+      ∙ ap shownHeard (ap repliesHeard (sym (append-nil (r .seen)))
+      ∙ (rw (drop-of-length-le bytes {i = at} h, frames-none) at (r .same)))

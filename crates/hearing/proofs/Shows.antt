@@ -1,5 +1,4 @@
 -- A frame that the code read, and the paper's frame that it shows.
--- Assumes nothing.
 use Prim.Native.Nat.{ℕ, _+_, _-_, _<_, _≤_}
 use mathlib.Core.Bool.{Bool, true, false}
 use mathlib.Core.List.{List}
@@ -26,10 +25,12 @@ pub record Shows (bytes : List ℕ) (at : ℕ) (f : Frame) (right : Bool) : Type
   pub shown : f ≡ frameAt (at + skip) frame
   pub came : read (drop at bytes) ≡ framed right skip frame
 
-pub shows : (right : Bool) (bytes : List ℕ) (at : ℕ) (x : Reading) → x ≡ shownFrom at (read (drop at bytes)) → (f : Frame) → x ≡ readAs right f → Shows bytes at f right
+pub shows : (right : Bool) (bytes : List ℕ) (at : ℕ) (x : Reading) → x ≡ shownFrom at (read (drop at bytes))
+    → (f : Frame) → x ≡ readAs right f → Shows bytes at f right
 shows right bytes at x e f c = go right (read (drop at bytes)) refl (sym e ∙ c)
   where
-    go : (right : Bool) (r : Paper.Reading) → read (drop at bytes) ≡ r → shownFrom at r ≡ readAs right f → Shows bytes at f right
+    go : (right : Bool) (r : Paper.Reading) → read (drop at bytes) ≡ r → shownFrom at r ≡ readAs right f
+        → Shows bytes at f right
     go true short q h = absurd (let z : _≡_ {A = ℕ} 0 1 = cc in omega arith)
     go true tooLong q h = absurd (let z : _≡_ {A = ℕ} 0 1 = cc in omega arith)
     go true (badCheck k p) q h = absurd (let z : _≡_ {A = ℕ} 0 1 = cc in omega arith)
@@ -51,7 +52,8 @@ module _ (bytes : List ℕ) (at : ℕ) (f : Frame) (right : Bool) (s : Shows byt
   end-within =
       omega (arith, end-is, length-drop at bytes, read-known (drop at bytes) (s .skip) (s .frame) right (s .came) .room)
 
-module _ (right : Bool) (bytes : List ℕ) (at : ℕ) (x : Reading) (e : x ≡ shownFrom at (read (drop at bytes))) (f : Frame) (c : x ≡ readAs right f) where
+module _ (right : Bool) (bytes : List ℕ) (at : ℕ) (x : Reading) (e : x ≡ shownFrom at (read (drop at bytes)))
+    (f : Frame) (c : x ≡ readAs right f) where
   pub inside : f .end ≤ length bytes
   inside = end-within bytes at f right (shows right bytes at x e f c)
 

@@ -1,5 +1,4 @@
 -- The ways through what replies say, and through the rest of a record.
--- Assumes nothing.
 use Prim.Native.Nat.{ℕ, _+_, _-_, _<_, _≤_}
 use mathlib.Core.List.{List}
 use mathlib.Core.Path.{_≡_, sym}
@@ -43,7 +42,8 @@ module _ (bytes : List ℕ) (at len : ℕ) (h : at + len ≤ length bytes) where
   unfolding oneHeard
   heard-too-long x l e = rw (part-length, lt-ltb 16 len l) e
 
-  pub heard-one : (id : Id) → len ≤ 16 → id ≡ idFrom (take (at + len - at) (drop at bytes)) → record { heard = Heard.One; id = id } ≡ oneHeard (take len (drop at bytes))
+  pub heard-one : (id : Id) → len ≤ 16 → id ≡ idFrom (take (at + len - at) (drop at bytes))
+      → record { heard = Heard.One; id = id } ≡ oneHeard (take len (drop at bytes))
   unfolding oneHeard
   heard-one id l e = rw (part-length, le-ltb 16 len l, e, add-sub-cancel-left at len)
 
@@ -72,5 +72,6 @@ module _ (bytes : List ℕ) (r : Replies) (x : Hearing) where
 pub no-rest : (bytes : List ℕ) (at : ℕ) → length bytes < at → take 0 bytes ≡ drop at bytes
 no-rest bytes at h = sym (drop-of-length-le bytes {i = at} (le-of-lt h))
 
-pub within-one : (bytes : List ℕ) (r : Replies) (f : Frame) → Within bytes r → r ≡ One f → f .payload + f .len ≤ length bytes
+pub within-one : (bytes : List ℕ) (r : Replies) (f : Frame) → Within bytes r → r ≡ One f
+    → f .payload + f .len ≤ length bytes
 within-one bytes r f w e = rw e at w

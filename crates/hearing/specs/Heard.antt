@@ -1,13 +1,12 @@
 -- What a record says, as the code's values.
--- Assumes nothing.
 use Prim.Native.Nat.{ℕ, _+_, _-_, _≤_}
 use mathlib.Core.Bool.{cond}
 use mathlib.Core.List.{List}
 use lib.Dec.{ltb, eqb}
 use lib.ListN.{length, take, drop}
-use Rattle.paper.specs.Hearing as Paper
+use Rattle.paper.specs.Hearing as PaperHearing
 use Rattle.paper.specs.Hearing.{longest, nothing, one, unaddressed, garble}
-use Rattle.paper.specs.Answers as Paper₂
+use Rattle.paper.specs.Answers as PaperAnswers
 use Rattle.paper.specs.Answers.{lost, answered, ok, device}
 use Rattle.ids.specs.Ids.{noId, idFrom}
 use Rattle.reader.specs.declared.Frame.{Frame}
@@ -56,7 +55,7 @@ concluded bytes r =
     (cond (eqb (f .status) 2) (heardAs Unaddressed) (heardAs Garble)))
     (heardAs Garble)
 
-abbrev pub shownHeard : Paper.Heard → Hearing
+abbrev pub shownHeard : PaperHearing.Heard → Hearing
 shownHeard nothing = heardAs Nothing
 shownHeard (one id) = oneHeard id
 shownHeard unaddressed = heardAs Unaddressed
@@ -66,7 +65,7 @@ unfoldable pub repliedBy : Frame → Answered
 repliedBy f = cond (eqb (f .status) 1) (Ok (f .payload) (f .len) (f .end)) (Device (f .status) (f .end))
 
 -- The payload of the frame that answers stands before its check.
-abbrev pub shownAnswer : Paper₂.Answer → Answered
+abbrev pub shownAnswer : PaperAnswers.Answer → Answered
 shownAnswer lost = Lost
 shownAnswer (answered (ok payload) end) = Ok (end - (2 + length payload)) (length payload) end
 shownAnswer (answered (device status) end) = Device status end

@@ -7,7 +7,8 @@ ghost use Prim.Native.Nat.{_+_, _≤_};
 ghost use lib.ListN.{length, take, drop};
 ghost use Rattle.paper.specs.Hearing.{hear};
 ghost use Rattle.paper.specs.Answers.{answer, rest};
-ghost use Rattle.hearing.specs.Heard.{Within, heardAs, noted, oneHeard, concluded, shownHeard, repliedBy, shownAnswer};
+ghost use Rattle.hearing.specs.Heard.{Within, heardAs, noted, oneHeard, concluded, shownHeard, repliedBy};
+ghost use Rattle.hearing.specs.Heard.{shownAnswer};
 
 // What one Select heard. An id over 16 bytes is TooLong.
 pub enum Heard {
@@ -31,7 +32,8 @@ pub enum Replies {
     Several,
 }
 
-// The frame that answers a request with one answer: where its payload begins, the payload's length, and the frame's end.
+// The frame that answers a request with one answer: where its payload begins, the payload's length, and the frame's
+// end.
 pub enum Answered {
     Lost,
     Device(u8, usize),

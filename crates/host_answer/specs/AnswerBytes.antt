@@ -1,5 +1,5 @@
--- An answer as 1,179 bytes: its numbers in their order, each in its width, lowest byte first; then the id and the ids beside it.
--- Assumes nothing.
+-- An answer as 1,179 bytes: its numbers in their order, each in its width, lowest byte first; then the id and the ids
+-- beside it.
 use Prim.Native.Nat.{ℕ}
 use mathlib.Core.List.{List, [], _∷_, _++_}
 use lib.ListN.{take, drop}

@@ -1,5 +1,4 @@
 -- An answer as numbers and flags, and the answer that numbers and flags stand for.
--- Assumes nothing.
 use Prim.Native.Nat.{ℕ}
 use mathlib.Core.Bool.{Bool, true, false, cond}
 use lib.Dec.{eqb}
@@ -12,7 +11,11 @@ use Rattle.image.specs.declared.Compat.the-variants.{Key, Missing}
 use Rattle.client.specs.declared.Outcome.{Outcome}
 use Rattle.client.specs.declared.Outcome.the-variants as Outcome
 use Rattle.client.specs.declared.Refusal.{Refusal}
-use Rattle.client.specs.declared.Refusal.the-variants.{Io, Device, FirmwareTooLarge, CrcMismatch, BadInfo, Incompatible, NoDevice, SeveralDevices, NoSuchUid, AmbiguousUid, NotAddressable, DuplicateUid, BadPrefix, LongId, TableFull, ShortBuffer, RetriesSpent, ShortVerify, SpansTooFar, OtherImage, OutOfTurn}
+use Rattle.client.specs.declared.Refusal.the-variants.{Io, Device, FirmwareTooLarge, CrcMismatch, BadInfo, Incompatible}
+use Rattle.client.specs.declared.Refusal.the-variants.{NoDevice, SeveralDevices, NoSuchUid, AmbiguousUid}
+use Rattle.client.specs.declared.Refusal.the-variants.{NotAddressable, DuplicateUid, BadPrefix, LongId, TableFull}
+use Rattle.client.specs.declared.Refusal.the-variants.{ShortBuffer, RetriesSpent, ShortVerify, SpansTooFar, OtherImage}
+use Rattle.client.specs.declared.Refusal.the-variants.{OutOfTurn}
 use Rattle.client.specs.declared.Progress.{Progress}
 use Rattle.client.specs.declared.Progress.the-variants.{None, Made}
 use Rattle.client.specs.declared.Says.{Says}
@@ -121,7 +124,8 @@ gainOf (Made done total) = record { made = true; done = done; total = total }
 
 -- Numbers as an answer: one that stands for no case stands for the last.
 unfoldable pub heardIn : ℕ → Heard
-heardIn n = cond (eqb n 0) Heard.Nothing (cond (eqb n 1) Heard.One (cond (eqb n 2) Heard.TooLong (cond (eqb n 3) Heard.Unaddressed Heard.Garble)))
+heardIn n = cond (eqb n 0) Heard.Nothing
+    (cond (eqb n 1) Heard.One (cond (eqb n 2) Heard.TooLong (cond (eqb n 3) Heard.Unaddressed Heard.Garble)))
 
 unfoldable pub keyIn : Bool → ℕ → Compat
 keyIn any k = cond any (Key k) Missing

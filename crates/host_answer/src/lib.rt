@@ -1,9 +1,10 @@
 // The bytes of an answer: its numbers, where the record's rest begins, the progress made, the id and the ids beside it.
 pub mod numbers;
-use client::Progress;
-use ids::Id;
+
 use crate::numbers::Gain;
 use crate::numbers::Note;
+use client::Progress;
+use ids::Id;
 ghost use mathlib.Core.Path.{_≡_};
 ghost use mathlib.Core.List.{_++_};
 ghost use Prim.Native.Nat.{_≤_};

@@ -8,7 +8,8 @@ use image::Compat;
 use image::Info;
 ghost use mathlib.Core.Bool.{false};
 ghost use mathlib.Core.Path.{_≡_};
-ghost use Rattle.host_answer.specs.Numbers.{going, ending, refusing, heardTag, hasKey, keyOr0, outcomeNote, refusalNote, noteOf, gainOf};
+ghost use Rattle.host_answer.specs.Numbers.{going, ending, refusing, heardTag, hasKey, keyOr0, outcomeNote};
+ghost use Rattle.host_answer.specs.Numbers.{refusalNote, noteOf, gainOf};
 
 // The number is 0, or document 01's. The others say which answer it is, and hold what it carries.
 pub struct Note {

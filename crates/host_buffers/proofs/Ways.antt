@@ -1,5 +1,4 @@
 -- The ways through what an exported call leaves, from the facts that the code has.
--- Assumes nothing.
 use Prim.Native.Nat.{ℕ, _<_, _≤_}
 use mathlib.Core.Bool.{Bool, true, false, cond}
 use mathlib.Core.List.{List, _++_, append-assoc}
@@ -47,7 +46,8 @@ module _ (n m r need : ℕ) where
   unfolding lacks lent
   state-lacks e h q = q ∙ rw (e, lt-ltb n State.size (rw e at h))
 
-  pub answer-lacks : (s : ℕ) → s ≡ State.size → need ≡ Answer.size → s ≤ n → m < need → r ≡ coded 16 need → r ≡ lacks n m
+  pub answer-lacks : (s : ℕ) → s ≡ State.size → need ≡ Answer.size → s ≤ n → m < need → r ≡ coded 16 need
+      → r ≡ lacks n m
   unfolding lacks lent
   answer-lacks s es e k h q = q ∙ rw (e, le-ltb n State.size (rw es at k), lt-ltb m Answer.size (rw e at h))
 
@@ -62,23 +62,29 @@ module _ (b d : Bool) (x y k : ℕ) (e : k ≡ cond b x (cond d y 0)) where
     where
       go : (p q : Bool) → b ≡ p → d ≡ q → (b ≡ false) × (d ≡ false)
       go true q eb ed = absurd (nx (sym (ap (λ (t : Bool). cond t x (cond d y 0)) eb) ∙ sym e ∙ z))
-      go false true eb ed = absurd (ny (sym (ap (λ (t : Bool). cond t x (cond d y 0)) eb ∙ ap (λ (t : Bool). cond t y 0) ed) ∙ sym e ∙ z))
+      go false true eb ed = absurd (ny
+          (sym (ap (λ (t : Bool). cond t x (cond d y 0)) eb ∙ ap (λ (t : Bool). cond t y 0) ed) ∙ sym e ∙ z))
       go false false eb ed = (eb, ed)
 
-  one-of : {A : Type 0} (short : ℕ → A) (enough : A) → (k ≡ 0 → ⊥) → short k ≡ cond b (short x) (cond d (short y) enough)
+  one-of : {A : Type 0} (short : ℕ → A) (enough : A) → (k ≡ 0 → ⊥)
+      → short k ≡ cond b (short x) (cond d (short y) enough)
   one-of short enough n = go b d refl refl
     where
       go : (p q : Bool) → b ≡ p → d ≡ q → short k ≡ cond b (short x) (cond d (short y) enough)
-      go true q eb ed = ap short (e ∙ ap (λ (t : Bool). cond t x (cond d y 0)) eb) ∙ sym (ap (λ (t : Bool). cond t (short x) (cond d (short y) enough)) eb)
+      go true q eb ed = ap short (e ∙ ap (λ (t : Bool). cond t x (cond d y 0)) eb)
+          ∙ sym (ap (λ (t : Bool). cond t (short x) (cond d (short y) enough)) eb)
       go false true eb ed =
           ap short (e ∙ ap (λ (t : Bool). cond t x (cond d y 0)) eb ∙ ap (λ (t : Bool). cond t y 0) ed)
-          ∙ sym (ap (λ (t : Bool). cond t (short x) (cond d (short y) enough)) eb ∙ ap (λ (t : Bool). cond t (short y) enough) ed)
-      go false false eb ed = absurd (n (e ∙ ap (λ (t : Bool). cond t x (cond d y 0)) eb ∙ ap (λ (t : Bool). cond t y 0) ed))
+          ∙ sym (ap (λ (t : Bool). cond t (short x) (cond d (short y) enough)) eb
+          ∙ ap (λ (t : Bool). cond t (short y) enough) ed)
+      go false false eb ed = absurd (n
+          (e ∙ ap (λ (t : Bool). cond t x (cond d y 0)) eb ∙ ap (λ (t : Bool). cond t y 0) ed))
 
 module _ (n m k : ℕ) (e : k ≡ lacks n m) where
   both-fit : k ≡ 0 → (ltb n State.size ≡ false) × (ltb m Answer.size ≡ false)
   unfolding lacks lent coded
-  both-fit z = neither (ltb n State.size) (ltb m Answer.size) (coded 16 State.size) (coded 16 Answer.size) k e (λ h. omega arith) (λ h. omega arith) z
+  both-fit z = neither (ltb n State.size) (ltb m Answer.size) (coded 16 State.size) (coded 16 Answer.size) k e
+      (λ h. omega arith) (λ h. omega arith) z
 
   pub state-room : k ≡ 0 → State.size ≤ n
   state-room z = ltb-false n State.size (both-fit z .0)
@@ -89,24 +95,30 @@ module _ (n m k : ℕ) (e : k ≡ lacks n m) where
   module _ {A : Type 0} (short : ℕ → A) (enough : A) where
     pub lent-short : (k ≡ 0 → ⊥) → short k ≡ lent n m short enough
     unfolding lacks lent
-    lent-short h = one-of (ltb n State.size) (ltb m Answer.size) (coded 16 State.size) (coded 16 Answer.size) k e short enough h
+    lent-short h = one-of (ltb n State.size) (ltb m Answer.size) (coded 16 State.size)
+        (coded 16 Answer.size) k e short enough h
 
-pub lent-enough : {A : Type 0} (n m : ℕ) (short : ℕ → A) (enough : A) → State.size ≤ n → Answer.size ≤ m → enough ≡ lent n m short enough
+pub lent-enough : {A : Type 0} (n m : ℕ) (short : ℕ → A) (enough : A) → State.size ≤ n → Answer.size ≤ m
+    → enough ≡ lent n m short enough
 unfolding lent
 lent-enough n m short enough hn hm = rw (le-ltb n State.size hn, le-ltb m Answer.size hm)
 
 -- The answer of a call, and the code of it.
-module _ (says : Says) (n : Note) (r : ℕ) (en : n ≡ noteOf says) (er : r ≡ coded (n .number) (n .length)) (a a₁ a₂ : List ℕ) (room : Answer.size ≤ length a) (l₁ : length a₁ ≡ length a) (l₂ : length a₂ ≡ length a₁) where
+module _ (says : Says) (n : Note) (r : ℕ) (en : n ≡ noteOf says) (er : r ≡ coded (n .number) (n .length))
+    (a a₁ a₂ : List ℕ) (room : Answer.size ≤ length a) (l₁ : length a₁ ≡ length a) (l₂ : length a₂ ≡ length a₁) where
   code-is : r ≡ codeOf says
   unfolding codeOf
   code-is = rw en at er
 
-  answered : (progress : Progress) (x : Id) (rest : ℕ) (t : Table) → a₁ ≡ fronted n progress x rest ++ drop 83 a → a₂ ≡ listed t a₁ → a₂ ≡ shown says progress x t rest ++ drop Answer.size a
+  answered : (progress : Progress) (x : Id) (rest : ℕ) (t : Table) → a₁ ≡ fronted n progress x rest ++ drop 83 a
+      → a₂ ≡ listed t a₁ → a₂ ≡ shown says progress x t rest ++ drop Answer.size a
   unfolding listed shown fronted
   answered progress x rest t e₁ e₂ =
-      behind (omega arith) (put-of 0 83 (fronted n progress x rest) a a₁ (omega arith) l₁ e₁) (put-of 83 1096 (savedTable t) a₁ a₂ (omega arith) l₂ e₂) .holds ∙ rw en
+      behind (omega arith) (put-of 0 83 (fronted n progress x rest) a a₁ (omega arith) l₁ e₁)
+      (put-of 83 1096 (savedTable t) a₁ a₂ (omega arith) l₂ e₂) .holds ∙ rw en
 
-  pub shows-is : (x : Id) → a₁ ≡ fronted n None x 0 ++ drop 83 a → a₂ ≡ listed noTable a₁ → record { code = r; bytes = a₂ } ≡ shows says x a
+  pub shows-is : (x : Id) → a₁ ≡ fronted n None x 0 ++ drop 83 a → a₂ ≡ listed noTable a₁
+      → record { code = r; bytes = a₂ } ≡ shows says x a
   unfolding shows
   shows-is x e₁ e₂ = rw (code-is, answered None x 0 noTable e₁ e₂)
 
@@ -115,53 +127,72 @@ module _ (says : Says) (n : Note) (r : ℕ) (en : n ≡ noteOf says) (er : r ≡
     changes : b ≡ changesNoState (noteOf says .number)
     changes = eb ∙ ap (λ (m : Note). changesNoState (m .number)) en
 
-    left : (progress : Progress) (x : Id) (rest : ℕ) (t : Table) (f : Front) (w : Walk) (s₂ : List ℕ) → a₁ ≡ fronted n progress x rest ++ drop 83 a → a₂ ≡ listed t a₁
+    left : (progress : Progress) (x : Id) (rest : ℕ) (t : Table) (f : Front) (w : Walk) (s₂ : List ℕ)
+        → a₁ ≡ fronted n progress x rest ++ drop 83 a → a₂ ≡ listed t a₁
         → s₂ ≡ cond b s (saved (clientOf f w) ++ drop State.size s)
-        → record { code = r; state = s₂; answer = a₂ } ≡ leaves (record { says = says; client = clientOf f w; rest = rest; progress = progress; id = x; found = t }) s a
+        → record { code = r; state = s₂; answer = a₂ }
+        ≡ leaves (record { says = says; client = clientOf f w; rest = rest; progress = progress; id = x; found = t }) s
+        a
     unfolding leaves
     left progress x rest t f w s₂ e₁ e₂ e₃ = rw (code-is, answered progress x rest t e₁ e₂, e₃, changes)
 
 -- The state with another walk and another front.
-saved-in : (f : Front) (w : Walk) (s s₁ s₂ : List ℕ) → State.size ≤ length s → s₁ ≡ withWalk w s → s₂ ≡ savedFront f ++ drop 87 s₁ → s₂ ≡ saved (clientOf f w) ++ drop State.size s
+saved-in : (f : Front) (w : Walk) (s s₁ s₂ : List ℕ) → State.size ≤ length s → s₁ ≡ withWalk w s
+    → s₂ ≡ savedFront f ++ drop 87 s₁ → s₂ ≡ saved (clientOf f w) ++ drop State.size s
 unfolding withWalk saved
 saved-in f w s s₁ s₂ room e₁ e₂ =
     e₂
     ∙ ap (λ (l : List ℕ). savedFront f ++ drop 87 l) (e₁ ∙ append-assoc (take 87 s) (savedWalk w) (drop State.size s))
-    ∙ ap (λ (l : List ℕ). savedFront f ++ l) (drop-at (take 87 s) (savedWalk w ++ drop State.size s) 87 (length-take-le 87 s (omega arith)))
+    ∙ ap (λ (l : List ℕ). savedFront f ++ l)
+    (drop-at (take 87 s) (savedWalk w ++ drop State.size s) 87 (length-take-le 87 s (omega arith)))
     ∙ sym (append-assoc (savedFront f) (savedWalk w) (drop State.size s))
 
-module _ (n : Note) (r : ℕ) (er : r ≡ coded (n .number) (n .length)) (s a a₁ a₂ : List ℕ) (roomS : State.size ≤ length s) (roomA : Answer.size ≤ length a) (l₁ : length a₁ ≡ length a) (l₂ : length a₂ ≡ length a₁)
+module _ (n : Note) (r : ℕ) (er : r ≡ coded (n .number) (n .length)) (s a a₁ a₂ : List ℕ)
+    (roomS : State.size ≤ length s) (roomA : Answer.size ≤ length a) (l₁ : length a₁ ≡ length a)
+    (l₂ : length a₂ ≡ length a₁)
     (b : Bool) (eb : b ≡ changesNoState (n .number)) where
-  module _ (v : Verdict) (en : n ≡ noteOf (v .says)) (e₁ : a₁ ≡ fronted n (v .progress) (v .id) (v .rest) ++ drop 83 a) (e₂ : a₂ ≡ listed (given (v .change) (loaded s .walk)) a₁) where
+  module _ (v : Verdict) (en : n ≡ noteOf (v .says)) (e₁ : a₁ ≡ fronted n (v .progress) (v .id) (v .rest) ++ drop 83 a)
+      (e₂ : a₂ ≡ listed (given (v .change) (loaded s .walk)) a₁) where
     pub told-kept : b ≡ true → record { code = r; state = s; answer = a₂ } ≡ leaves (toldOf v (loaded s .walk)) s a
-    told-kept h = left (v .says) n r en er a a₁ a₂ roomA l₁ l₂ s b eb (v .progress) (v .id) (v .rest) _ (v .front) _ s e₁ e₂ (rw h)
+    told-kept h = left (v .says) n r en er a a₁ a₂ roomA l₁ l₂ s b eb (v .progress) (v .id) (v .rest) _
+        (v .front) _ s e₁ e₂ (rw h)
 
-    pub told-saved : (s₁ s₂ : List ℕ) → b ≡ false → s₁ ≡ withWalk (changed (v .change) (loadedWalk 87 s)) s → s₂ ≡ savedFront (v .front) ++ drop 87 s₁
+    pub told-saved : (s₁ s₂ : List ℕ) → b ≡ false → s₁ ≡ withWalk (changed (v .change) (loadedWalk 87 s)) s
+        → s₂ ≡ savedFront (v .front) ++ drop 87 s₁
         → record { code = r; state = s₂; answer = a₂ } ≡ leaves (toldOf v (loaded s .walk)) s a
     unfolding loaded
     told-saved s₁ s₂ h e₃ e₄ =
-        left (v .says) n r en er a a₁ a₂ roomA l₁ l₂ s b eb (v .progress) (v .id) (v .rest) _ (v .front) _ s₂ e₁ e₂ (rw h (saved-in (v .front) (changed (v .change) (loadedWalk 87 s)) s s₁ s₂ roomS e₃ e₄))
+        left (v .says) n r en er a a₁ a₂ roomA l₁ l₂ s b eb (v .progress) (v .id) (v .rest) _ (v .front) _ s₂ e₁ e₂
+        (rw h (saved-in (v .front) (changed (v .change) (loadedWalk 87 s)) s s₁ s₂ roomS e₃ e₄))
 
-  module _ (o : Opening) (x : Id) (ex : x ≡ noId) (en : n ≡ noteOf (o .says)) (e₁ : a₁ ≡ fronted n None x 0 ++ drop 83 a) (e₂ : a₂ ≡ listed noTable a₁) where
+  module _ (o : Opening) (x : Id) (ex : x ≡ noId) (en : n ≡ noteOf (o .says))
+      (e₁ : a₁ ≡ fronted n None x 0 ++ drop 83 a) (e₂ : a₂ ≡ listed noTable a₁) where
     e₁′ : a₁ ≡ fronted n None noId 0 ++ drop 83 a
     e₁′ = rw ex at e₁
 
-    pub started-kept : b ≡ true → record { code = r; state = s; answer = a₂ } ≡ leaves (toldBy (startedOf o (loaded s .walk))) s a
+    pub started-kept : b ≡ true → record { code = r; state = s; answer = a₂ }
+        ≡ leaves (toldBy (startedOf o (loaded s .walk))) s a
     unfolding toldBy
-    started-kept h = left (o .says) n r en er a a₁ a₂ roomA l₁ l₂ s b eb None noId 0 noTable (o .front) _ s e₁′ e₂ (rw h)
+    started-kept h = left (o .says) n r en er a a₁ a₂ roomA l₁ l₂ s b eb None noId 0 noTable (o .front) _ s e₁′ e₂
+        (rw h)
 
-    pub started-saved : (s₁ s₂ : List ℕ) → b ≡ false → s₁ ≡ withWalk (renewed (o .begins) (o .from) (loadedWalk 87 s)) s → s₂ ≡ savedFront (o .front) ++ drop 87 s₁
+    pub started-saved : (s₁ s₂ : List ℕ) → b ≡ false
+        → s₁ ≡ withWalk (renewed (o .begins) (o .from) (loadedWalk 87 s)) s → s₂ ≡ savedFront (o .front) ++ drop 87 s₁
         → record { code = r; state = s₂; answer = a₂ } ≡ leaves (toldBy (startedOf o (loaded s .walk))) s a
     unfolding toldBy loaded
     started-saved s₁ s₂ h e₃ e₄ =
-        left (o .says) n r en er a a₁ a₂ roomA l₁ l₂ s b eb None noId 0 noTable (o .front) _ s₂ e₁′ e₂ (rw h (saved-in (o .front) (renewed (o .begins) (o .from) (loadedWalk 87 s)) s s₁ s₂ roomS e₃ e₄))
+        left (o .says) n r en er a a₁ a₂ roomA l₁ l₂ s b eb None noId 0 noTable (o .front) _ s₂ e₁′ e₂
+        (rw h (saved-in (o .front) (renewed (o .begins) (o .from) (loadedWalk 87 s)) s s₁ s₂ roomS e₃ e₄))
 
 -- The list beside the answer.
 module _ (c : Change) (s a r : List ℕ) where
-  pub list-none : (x : Touch) → c .touch ≡ x → given (still x) (loaded s .walk) ≡ noTable → r ≡ listed noTable a → r ≡ listed (given c (loaded s .walk)) a
-  list-none x e k h = h ∙ ap (λ (t : Table). listed t a) (sym k ∙ ap (λ (y : Touch). given (still y) (loaded s .walk)) (sym e))
+  pub list-none : (x : Touch) → c .touch ≡ x → given (still x) (loaded s .walk) ≡ noTable → r ≡ listed noTable a
+      → r ≡ listed (given c (loaded s .walk)) a
+  list-none x e k h = h ∙ ap (λ (t : Table). listed t a)
+      (sym k ∙ ap (λ (y : Touch). given (still y) (loaded s .walk)) (sym e))
 
-  pub list-given : c .touch ≡ Gives → r ≡ listed (giving (loadedTable 239 s)) a → r ≡ listed (given c (loaded s .walk)) a
+  pub list-given : c .touch ≡ Gives → r ≡ listed (giving (loadedTable 239 s)) a
+      → r ≡ listed (given c (loaded s .walk)) a
   unfolding loaded loadedWalk
   list-given e h = h ∙ rw e
 

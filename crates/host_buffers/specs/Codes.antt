@@ -1,5 +1,4 @@
 -- The codes that exported calls return, and what they say of ids, texts and keys.
--- Assumes nothing.
 use Prim.Native.Nat.{ℕ, _+_, _*_, _%_}
 use mathlib.Core.Bool.{cond}
 use mathlib.Core.List.{List, _++_}

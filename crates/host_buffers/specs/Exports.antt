@@ -1,19 +1,18 @@
--- Each exported call, of the buffers lent to it and its arguments, in the header's order: its code and every byte after it. The contracts of
--- `fahireky` and what is promised of the exports both cite these.
--- Assumes nothing.
+-- Each exported call, of the buffers lent to it and its arguments, in the header's order: its code and every byte after
+-- it. The contracts of `fahireky` and what is promised of the exports both cite these.
 use Prim.Native.Nat.{ℕ}
 use mathlib.Core.Bool.{Bool}
 use mathlib.Core.List.{List}
 use lib.ListN.{length}
 use Rattle.paper.specs.Answers.{key}
 use Rattle.paper.specs.Frame.{crcFrom}
-use Rattle.paper.specs.Hearing as Paper
-use Rattle.paper.specs.Text as Paper₂
+use Rattle.paper.specs.Hearing as PaperHearing
+use Rattle.paper.specs.Text as PaperText
 use Rattle.text.specs.Texts.{written, parsed}
 use Rattle.image.specs.Images.{shownKey}
 use Rattle.hearing.specs.Heard.{shownHeard}
-use Rattle.client_start.specs.Start as Client
-use Rattle.client_record.specs.Record as Client₂
+use Rattle.client_start.specs.Start as CodeStart
+use Rattle.client_record.specs.Record as CodeRecord
 use Rattle.host_buffers.specs.Codes.{Coded, writes, readUid, keyCode, restFrom}
 use Rattle.host_state.specs.State as State
 use Rattle.host_answer.specs.AnswerBytes as Answer
@@ -26,49 +25,49 @@ abbrev pub answerSize : ℕ
 answerSize = Answer.size
 
 abbrev pub startSelect : (state prefix : List ℕ) (bits : ℕ) (answer : List ℕ) → Exported
-startSelect s prefix bits a = starts (λ c. Client.startSelect c prefix bits) s a
+startSelect s prefix bits a = starts (λ c. CodeStart.startSelect c prefix bits) s a
 
 abbrev pub startDeselect : (state answer : List ℕ) → Exported
-startDeselect s a = starts Client.startDeselect s a
+startDeselect s a = starts CodeStart.startDeselect s a
 
 abbrev pub startAttach : (state answer : List ℕ) → Exported
-startAttach s a = starts Client.startAttach s a
+startAttach s a = starts CodeStart.startAttach s a
 
 abbrev pub startAttachTo : (state prefix answer : List ℕ) → Exported
-startAttachTo s prefix a = starts (λ c. Client.startAttachTo c prefix) s a
+startAttachTo s prefix a = starts (λ c. CodeStart.startAttachTo c prefix) s a
 
 abbrev pub startDiscover : (state prefix answer : List ℕ) → Exported
-startDiscover s prefix a = starts (λ c. Client.startDiscover c prefix) s a
+startDiscover s prefix a = starts (λ c. CodeStart.startDiscover c prefix) s a
 
 abbrev pub startInfo : (state answer : List ℕ) → Exported
-startInfo s a = starts Client.startInfo s a
+startInfo s a = starts CodeStart.startInfo s a
 
 abbrev pub startErase : (state answer : List ℕ) → Exported
-startErase s a = starts Client.startErase s a
+startErase s a = starts CodeStart.startErase s a
 
 abbrev pub startFlash : (state image answer : List ℕ) → Exported
-startFlash s image a = starts (λ c. Client.startFlash c image) s a
+startFlash s image a = starts (λ c. CodeStart.startFlash c image) s a
 
 abbrev pub startReset : (state : List ℕ) (bootloader inBoot : Bool) (answer : List ℕ) → Exported
-startReset s bootloader inBoot a = starts (λ c. Client.startReset c bootloader inBoot) s a
+startReset s bootloader inBoot a = starts (λ c. CodeStart.startReset c bootloader inBoot) s a
 
 abbrev pub startSetBaud : (state : List ℕ) (baud : ℕ) (bootloader inBoot : Bool) (answer : List ℕ) → Exported
-startSetBaud s baud bootloader inBoot a = starts (λ c. Client.startSetBaud c baud bootloader inBoot) s a
+startSetBaud s baud bootloader inBoot a = starts (λ c. CodeStart.startSetBaud c baud bootloader inBoot) s a
 
 abbrev pub request : (state image buffer answer : List ℕ) → Requested
 request s image buffer a = requests image s buffer a
 
 abbrev pub record′ : (state image bytes answer : List ℕ) → Exported
-record′ s image bytes a = tells (λ c. Client₂.record′ c image bytes) s a
+record′ s image bytes a = tells (λ c. CodeRecord.record′ c image bytes) s a
 
 abbrev pub linkFailed : (state answer : List ℕ) → Exported
-linkFailed s a = tells Client₂.linkFailed s a
+linkFailed s a = tells CodeRecord.linkFailed s a
 
 abbrev pub attached : (state answer : List ℕ) → Coded
 attached s a = views s a
 
 abbrev pub hear : (bytes answer : List ℕ) → Coded
-hear bytes a = hearsOut (shownHeard (Paper.hear bytes)) a
+hear bytes a = hearsOut (shownHeard (PaperHearing.hear bytes)) a
 
 abbrev pub rest : (bytes : List ℕ) (place : ℕ) → ℕ
 rest bytes place = restFrom (length bytes) place
@@ -77,7 +76,7 @@ abbrev pub uidHex : (id text : List ℕ) → Coded
 uidHex id text = writes (written id text)
 
 abbrev pub parseUid : (text id : List ℕ) → Coded
-parseUid text id = readUid (parsed (Paper₂.parseUid text)) id
+parseUid text id = readUid (parsed (PaperText.parseUid text)) id
 
 abbrev pub imageCompat : (image : List ℕ) → ℕ
 imageCompat image = keyCode (shownKey (key image))

@@ -1,5 +1,4 @@
 -- What each exported call makes of the buffers that a host lends, and the code that it returns.
--- Assumes nothing.
 use Prim.Native.Nat.{ℕ}
 use mathlib.Core.Bool.{cond}
 use mathlib.Core.List.{List, _++_}
@@ -35,7 +34,8 @@ codeOf says = coded (noteOf says .number) (noteOf says .length)
 
 -- A state of n bytes and an answer of m: the first that is too short is refused with the length that it lacks.
 unfoldable pub lent : {A : Type 0} → ℕ → ℕ → (ℕ → A) → A → A
-lent n m short enough = cond (ltb n State.size) (short (coded 16 State.size)) (cond (ltb m Answer.size) (short (coded 16 Answer.size)) enough)
+lent n m short enough = cond (ltb n State.size) (short (coded 16 State.size))
+    (cond (ltb m Answer.size) (short (coded 16 Answer.size)) enough)
 
 unfoldable pub lacks : ℕ → ℕ → ℕ
 lacks n m = lent n m (λ code. code) 0
@@ -57,7 +57,8 @@ pub record Requested : Type 0 where
 unfoldable pub toldBy : Started → Told
 toldBy s = record { says = s .says; client = s .client; rest = 0; progress = None; id = noId; found = noTable }
 
--- What a call leaves: its answer written, and the client saved; after a refusal that changes no state, that state, byte for byte.
+-- What a call leaves: its answer written, and the client saved; after a refusal that changes no state, that state, byte
+-- for byte.
 unfoldable pub leaves : Told → List ℕ → List ℕ → Exported
 leaves t s a = record {
   code = codeOf (t .says);
@@ -66,7 +67,8 @@ leaves t s a = record {
 }
 
 unfoldable pub tells : (Client → Told) → List ℕ → List ℕ → Exported
-tells f s a = lent (length s) (length a) (λ code. record { code = code; state = s; answer = a }) (leaves (f (loaded s)) s a)
+tells f s a = lent (length s) (length a) (λ code. record { code = code; state = s; answer = a })
+    (leaves (f (loaded s)) s a)
 
 unfoldable pub starts : (Client → Started) → List ℕ → List ℕ → Exported
 starts f s a = tells (λ c. toldBy (f c)) s a
@@ -79,7 +81,8 @@ asks x s a = handed (leaves (toldBy (x .answer)) s a) (x .bytes)
 
 unfoldable pub requests : List ℕ → List ℕ → List ℕ → List ℕ → Requested
 requests image s b a =
-    lent (length s) (length a) (λ code. record { code = code; state = s; buffer = b; answer = a }) (asks (request (loaded s) image b) s a)
+    lent (length s) (length a) (λ code. record { code = code; state = s; buffer = b; answer = a })
+    (asks (request (loaded s) image b) s a)
 
 -- An answer alone, with the id beside it.
 unfoldable pub shows : Says → Id → List ℕ → Coded
@@ -89,11 +92,13 @@ unfoldable pub showsAttached : Attached → List ℕ → Coded
 showsAttached x a = shows (Over (Outcome.Attached (x .any))) (x .id) a
 
 unfoldable pub views : List ℕ → List ℕ → Coded
-views s a = lent (length s) (length a) (λ code. record { code = code; bytes = a }) (showsAttached (attached (loaded s)) a)
+views s a = lent (length s) (length a) (λ code. record { code = code; bytes = a })
+    (showsAttached (attached (loaded s)) a)
 
 -- What a plain select that heard so much ends with.
 unfoldable pub saidOf : Heard → Says
 saidOf h = cond (long h) (Refused LongId) (Over (Outcome.Heard h))
 
 unfoldable pub hearsOut : Hearing → List ℕ → Coded
-hearsOut x a = lent State.size (length a) (λ code. record { code = code; bytes = a }) (shows (saidOf (x .heard)) (x .id) a)
+hearsOut x a = lent State.size (length a) (λ code. record { code = code; bytes = a })
+    (shows (saidOf (x .heard)) (x .id) a)

@@ -1,5 +1,6 @@
 // What an exported call makes of the buffers that a host lends, and the code that it returns.
 pub mod codes;
+
 use client::Change;
 use client::Opening;
 use client::Outcome;
@@ -40,7 +41,8 @@ pub fn lacks(state: usize, answer: usize) -> u64
 fn lists(change: Change, state: &[u8], answer: &mut [u8])
     requires { ⌜ State.size ≤ length (now state) ⌝ }
     requires { ⌜ Answer.size ≤ length (now answer) ⌝ }
-    ensures { λ _. ⌜ now (answer .exit) ≡ listed (given change (loaded (now (state .entry)) .walk)) (now (answer .entry)) ⌝ }
+    ensures { λ _. ⌜ now (answer .exit)
+        ≡ listed (given change (loaded (now (state .entry)) .walk)) (now (answer .entry)) ⌝ }
 {
     let touch = change.touch;
     match touch {
@@ -52,13 +54,14 @@ fn lists(change: Change, state: &[u8], answer: &mut [u8])
     }
 }
 
-// The answer written, and the client's front and the change of its walk saved; after a refusal that changes no state, the state is not
-// touched.
+// The answer written, and the client's front and the change of its walk saved; after a refusal that changes no state,
+// the state is not touched.
 pub fn told(v: Verdict, state: &mut [u8], answer: &mut [u8]) -> u64
     requires { ⌜ State.size ≤ length (now state) ⌝ }
     requires { ⌜ Bytes (now state) ⌝ }
     requires { ⌜ Answer.size ≤ length (now answer) ⌝ }
-    ensures { λ r. ⌜ record { code = r; state = now (state .exit); answer = now (answer .exit) } ≡ leaves (toldOf v (loaded (now (state .entry)) .walk)) (now (state .entry)) (now (answer .entry)) ⌝ }
+    ensures { λ r. ⌜ record { code = r; state = now (state .exit); answer = now (answer .exit) }
+        ≡ leaves (toldOf v (loaded (now (state .entry)) .walk)) (now (state .entry)) (now (answer .entry)) ⌝ }
 {
     let says = v.says;
     let front = v.front;
@@ -82,7 +85,9 @@ pub fn started(o: Opening, state: &mut [u8], answer: &mut [u8]) -> u64
     requires { ⌜ State.size ≤ length (now state) ⌝ }
     requires { ⌜ Bytes (now state) ⌝ }
     requires { ⌜ Answer.size ≤ length (now answer) ⌝ }
-    ensures { λ r. ⌜ record { code = r; state = now (state .exit); answer = now (answer .exit) } ≡ leaves (toldBy (startedOf o (loaded (now (state .entry)) .walk))) (now (state .entry)) (now (answer .entry)) ⌝ }
+    ensures { λ r. ⌜ record { code = r; state = now (state .exit); answer = now (answer .exit) }
+        ≡ leaves (toldBy (startedOf o (loaded (now (state .entry)) .walk))) (now (state .entry))
+        (now (answer .entry)) ⌝ }
 {
     let says = o.says;
     let front = o.front;

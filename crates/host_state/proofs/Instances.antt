@@ -1,5 +1,4 @@
 -- What meets the premises: each theorem with a premise, applied to values that meet it.
--- Assumes nothing.
 use Prim.Native.Nat.{ℕ, zero, suc, _<_}
 use mathlib.Core.Bool.{true, false}
 use mathlib.Core.List.{List, [], _∷_, _++_}
@@ -21,7 +20,16 @@ use Rattle.host_state.proofs.Laws.{saved-length, loaded-saved, loaded-f
 
 -- A client of the last seed that holds the id C1 07 and whose attach to C1 is out.
 abbrev pub seeking : Client
-seeking = record { seed = 255; attached = true; id = idFrom (0xC1 ∷ 0x07 ∷ []); turn = Waiting (Select (Seeking true)); prefix = idFrom (0xC1 ∷ []); bits = 0; walk = noWalk }
+seeking = record {
+  seed = 255;
+  attached = true;
+  id = idFrom (0xC1 ∷ 0x07 ∷ []);
+  turn = Waiting
+      (Select (Seeking true));
+  prefix = idFrom (0xC1 ∷ []);
+  bits = 0;
+  walk = noWalk;
+}
 
 filled : (b n : ℕ) → b < 256 → Bytes (replicate n b)
 filled b zero h = tt
@@ -46,4 +54,5 @@ loaded-saved-met = loaded-saved seeking seeking-fits (0x99 ∷ [])
 
 -- Bytes that no client was saved in.
 pub loaded-fits-met : Fits (loaded (replicate 1353 0x99))
-loaded-fits-met = loaded-fits (replicate 1353 0x99) (filled 0x99 1353 (omega arith)) (omega (arith, length-replicate {A = ℕ} 1353 0x99))
+loaded-fits-met = loaded-fits (replicate 1353 0x99) (filled 0x99 1353 (omega arith))
+    (omega (arith, length-replicate {A = ℕ} 1353 0x99))

@@ -1,5 +1,5 @@
--- For the users of a saved client: what was saved is loaded, all zero is a fresh client, and any bytes are a client that fits.
--- Assumes nothing.
+-- For the users of a saved client: what was saved is loaded, all zero is a fresh client, and any bytes are a client
+-- that fits.
 use Prim.Native.Nat.{ℕ, zero, suc, _+_, _≤_}
 use mathlib.Core.Bool.{false}
 use mathlib.Core.List.{List, [], _∷_, _++_, append-nil}
@@ -8,7 +8,8 @@ use native.Mathlib.Omega.{arith}
 use lib.ListN.{length, take, drop, replicate, length-drop, length-replicate}
 use lib.Seq.{take-at, length-take-le, take-add, take-take, drop-drop, drop-cons}
 use Rattle.paper.specs.Frame.{le, number, field}
-use Rattle.paper.proofs.Fields.{Put, before, found, after, own, spread, joined-length, joined-zeros, field-at, byte-at, byte-below, field-below, bytes-take, bytes-drop}
+use Rattle.paper.proofs.Fields.{Put, before, found, after, own, spread, joined-length, joined-zeros, field-at, byte-at}
+use Rattle.paper.proofs.Fields.{byte-below, field-below, bytes-take, bytes-drop}
 use Rattle.paper.proofs.Words.{Bytes, le-length, le-number}
 use Rattle.ids.specs.declared.Id.{Id}
 use Rattle.ids.specs.Ids.{noId}
@@ -24,22 +25,27 @@ use Rattle.host_turn.specs.Turns.{flatOf, turnOf, selecting}
 use Rattle.host_turn.proofs.Laws.{turn-of-flat, selecting-fits, turn-fits}
 use Rattle.host_turn_bytes.specs.TurnBytes.{flag, savedFlat, loadedFlat}
 use Rattle.host_turn_bytes.proofs.Laws.{flag-back, flat-length, flat-fits, flat-back, flat-zero}
-use Rattle.host_state.specs.State.{size, savedId, savedTable, savedWalk, savedHead, savedFront, saved, withWalk, withTable, withPlace, loadedId, loadedTable, loadedWalk, loaded, Array, IdFits, TableFits, WalkFits, Fits}
+use Rattle.host_state.specs.State.{size, savedId, savedTable, savedWalk, savedHead, savedFront, saved, withWalk}
+use Rattle.host_state.specs.State.{withTable, withPlace, loadedId, loadedTable, loadedWalk, loaded, Array, IdFits}
+use Rattle.host_state.specs.State.{TableFits, WalkFits, Fits}
 use Rattle.host_state.proofs.Ways.{id-length, table-length, walk-length, head-length, front-length}
 
 -- How long.
 module _ (c : Client) (h : Fits c) where
   walk-sized : length (savedWalk (c .walk)) ≡ 1265
   walk-sized =
-      walk-length (c .walk) (h .walk .path .0) (h .walk .marks .0) (table-length (c .walk .found) (h .walk .found .ids .0) (h .walk .found .lens .0))
+      walk-length (c .walk) (h .walk .path .0) (h .walk .marks .0)
+      (table-length (c .walk .found) (h .walk .found .ids .0) (h .walk .found .lens .0))
       (id-length (c .walk .candidate) (h .walk .candidate .bytes .0))
 
   front-sized : length (savedFront (frontOf c)) ≡ 87
-  front-sized = front-length (frontOf c) (head-length (frontOf c) (id-length (c .id) (h .id .bytes .0))) (id-length (c .prefix) (h .prefix .bytes .0))
+  front-sized = front-length (frontOf c) (head-length (frontOf c) (id-length (c .id) (h .id .bytes .0)))
+      (id-length (c .prefix) (h .prefix .bytes .0))
 
   pub saved-length : length (saved c) ≡ size
   unfolding saved
-  saved-length = joined-length ((1265, savedWalk (c .walk)) ∷ []) (savedFront (frontOf c)) 87 front-sized (walk-sized, tt)
+  saved-length = joined-length ((1265, savedWalk (c .walk)) ∷ []) (savedFront (frontOf c)) 87 front-sized
+      (walk-sized, tt)
 
 -- What was saved is found again.
 module _ (at : ℕ) (b : List ℕ) where
@@ -52,15 +58,25 @@ module _ (at : ℕ) (b : List ℕ) where
   pub table-back : (t : Table) → TableFits t → take 1096 (drop at b) ≡ savedTable t → loadedTable at b ≡ t
   unfolding savedTable loadedTable
   table-back t h e =
-      let s = spread at b ((64, t .lens) ∷ (8, le 8 (t .count)) ∷ []) (t .ids) 1024 (h .ids .0) (h .lens .0, (le-length 8 (t .count), tt)) e in
+      let s = spread at b ((64, t .lens) ∷ (8, le 8 (t .count)) ∷ []) (t .ids) 1024 (h .ids .0)
+      (h .lens .0, (le-length 8 (t .count), tt)) e in
       rw (s .0, s .1 .0, field-at (at + 1088) 8 (t .count) b (h .count) (s .1 .1 .0))
 
 module _ (at : ℕ) (b : List ℕ) where
   walk-back : (w : Walk) → WalkFits w → take 1265 (drop at b) ≡ savedWalk w → loadedWalk at b ≡ w
   unfolding savedWalk loadedWalk
   walk-back w h e =
-      let s = spread at b ((8, le 8 (w .depth)) ∷ (128, w .marks) ∷ (1096, savedTable (w .found)) ∷ (17, savedId (w .candidate)) ∷ []) (w .path) 16 (h .path .0)
-      (le-length 8 (w .depth), (h .marks .0, (table-length (w .found) (h .found .ids .0) (h .found .lens .0), (id-length (w .candidate) (h .candidate .bytes .0), tt)))) e in
+      let s = spread at b ((8, le 8 (w .depth)) ∷ (128, w .marks) ∷ (1096, savedTable (w .found))
+      ∷ (17, savedId (w .candidate)) ∷ []) (w .path) 16 (h .path .0) (
+        le-length 8 (w .depth),
+        (
+          h .marks .0,
+          (
+            table-length (w .found) (h .found .ids .0) (h .found .lens .0),
+            (id-length (w .candidate) (h .candidate .bytes .0), tt),
+          ),
+        ),
+      ) e in
       rw (
         s .0,
         field-at (at + 16) 8 (w .depth) b (h .depth) (s .1 .0),
@@ -72,10 +88,18 @@ module _ (at : ℕ) (b : List ℕ) where
 client-back : (c : Client) (b : List ℕ) → Fits c → take size (drop 0 b) ≡ saved c → loaded b ≡ c
 unfolding saved savedHead savedFront loaded
 client-back c b h e =
-    let s = spread 0 b ((1265, savedWalk (c .walk)) ∷ []) (savedFront (frontOf c)) 87 (front-sized c h) (walk-sized c h, tt) e in
-    let f = spread 0 b ((1, flag (c .attached) ∷ []) ∷ (17, savedId (c .id)) ∷ (50, savedFlat (flatOf (c .turn))) ∷ (17, savedId (c .prefix)) ∷ (1, c .bits ∷ []) ∷ []) (c .seed ∷ []) 1 refl
-    (refl, (id-length (c .id) (h .id .bytes .0), (flat-length (flatOf (c .turn)), (id-length (c .prefix) (h .prefix .bytes .0), (refl, tt))))) (s .0) in
-    let turn : turnOf (loadedFlat 19 b) ≡ c .turn = ap turnOf (flat-back 19 b (flatOf (c .turn)) (h .turn) (f .1 .1 .1 .0)) ∙ turn-of-flat (c .turn) in
+    let s = spread 0 b ((1265, savedWalk (c .walk)) ∷ []) (savedFront (frontOf c)) 87 (front-sized c h)
+    (walk-sized c h, tt) e in
+    let f = spread 0 b ((1, flag (c .attached) ∷ []) ∷ (17, savedId (c .id)) ∷ (50, savedFlat (flatOf (c .turn)))
+    ∷ (17, savedId (c .prefix)) ∷ (1, c .bits ∷ []) ∷ []) (c .seed ∷ []) 1 refl (
+      refl,
+      (
+        id-length (c .id) (h .id .bytes .0),
+        (flat-length (flatOf (c .turn)), (id-length (c .prefix) (h .prefix .bytes .0), (refl, tt))),
+      ),
+    ) (s .0) in
+    let turn : turnOf (loadedFlat 19 b) ≡ c .turn =
+    ap turnOf (flat-back 19 b (flatOf (c .turn)) (h .turn) (f .1 .1 .1 .0)) ∙ turn-of-flat (c .turn) in
     rw (
       byte-at 0 1 (c .seed ∷ []) b (omega arith) (f .0),
       byte-at 1 1 (flag (c .attached) ∷ []) b (omega arith) (f .1 .0),
@@ -93,7 +117,11 @@ loaded-saved c h more = client-back c (saved c ++ more) h (take-at (saved c) mor
 -- Any bytes are a client that fits.
 module _ (b : List ℕ) (hb : Bytes b) where
   array-fits : (n at : ℕ) → at + n ≤ length b → Array n (take n (drop at b))
-  array-fits n at room = (length-take-le n (drop at b) (omega (arith, length-drop at b)), bytes-take n (drop at b) (bytes-drop at b hb))
+  array-fits n at room = (
+    length-take-le n (drop at b) (omega (arith, length-drop at b)),
+    bytes-take n (drop at b)
+        (bytes-drop at b hb),
+  )
 
   id-fits : (at : ℕ) → at + 17 ≤ length b → IdFits (loadedId at b)
   unfolding loadedId
@@ -101,7 +129,12 @@ module _ (b : List ℕ) (hb : Bytes b) where
 
   table-fits : (at : ℕ) → at + 1096 ≤ length b → TableFits (loadedTable at b)
   unfolding loadedTable
-  table-fits at room = record { ids = array-fits 1024 at (omega arith); lens = array-fits 64 (at + 1024) (omega arith); count = field-below 8 (at + 1088) b hb }
+  table-fits at room = record {
+    ids = array-fits 1024 at (omega arith);
+    lens = array-fits 64 (at + 1024)
+        (omega arith);
+    count = field-below 8 (at + 1088) b hb;
+  }
 
   walk-fits : (at : ℕ) → at + 1265 ≤ length b → WalkFits (loadedWalk at b)
   unfolding loadedWalk
@@ -139,17 +172,20 @@ table-zero = joined-zeros ((64, replicate 64 0) ∷ (8, le 8 0) ∷ []) 1024 (re
 
 walk-zero : savedWalk noWalk ≡ replicate 1265 0
 unfolding savedWalk noWalk le
-walk-zero = joined-zeros ((8, le 8 0) ∷ (128, replicate 128 0) ∷ (1096, savedTable noTable) ∷ (17, savedId noId) ∷ []) 16 (refl, (refl, (table-zero, (id-zero, tt))))
+walk-zero = joined-zeros ((8, le 8 0) ∷ (128, replicate 128 0) ∷ (1096, savedTable noTable) ∷ (17, savedId noId) ∷ [])
+    16 (refl, (refl, (table-zero, (id-zero, tt))))
 
 front-zero : savedFront (frontOf fresh) ≡ replicate 87 0
 unfolding savedHead savedFront fresh flatOf
 front-zero =
-    joined-zeros ((1, 0 ∷ []) ∷ (17, savedId noId) ∷ (50, savedFlat (selecting 0 0 false 0 false)) ∷ (17, savedId noId) ∷ (1, 0 ∷ []) ∷ []) 1
+    joined-zeros ((1, 0 ∷ []) ∷ (17, savedId noId) ∷ (50, savedFlat (selecting 0 0 false 0 false)) ∷ (17, savedId noId)
+    ∷ (1, 0 ∷ []) ∷ []) 1
     (refl, (id-zero, (flat-zero, (id-zero, (refl, tt)))))
 
 pub fresh-is-zero : saved fresh ≡ replicate size 0
 unfolding saved fresh
-fresh-is-zero = ap (λ (s : List ℕ). s ++ savedWalk noWalk) front-zero ∙ joined-zeros ((1265, savedWalk noWalk) ∷ []) 87 (walk-zero, tt)
+fresh-is-zero = ap (λ (s : List ℕ). s ++ savedWalk noWalk) front-zero
+    ∙ joined-zeros ((1265, savedWalk noWalk) ∷ []) 87 (walk-zero, tt)
 
 zero-array : (n : ℕ) → Array n (replicate n 0)
 zero-array n = (length-replicate n 0, zero-bytes n)
@@ -164,7 +200,13 @@ no-table-fits = record { ids = zero-array 1024; lens = zero-array 64; count = om
 
 pub no-walk-fits : WalkFits noWalk
 unfolding noWalk
-no-walk-fits = record { path = zero-array 16; depth = omega arith; marks = zero-array 128; found = no-table-fits; candidate = no-id-fits }
+no-walk-fits = record {
+  path = zero-array 16;
+  depth = omega arith;
+  marks = zero-array 128;
+  found = no-table-fits;
+  candidate = no-id-fits;
+}
 
 pub fresh-fits : Fits fresh
 unfolding fresh flatOf
@@ -188,28 +230,34 @@ module _ (b : List ℕ) (hb : Bytes b) where
   field-same : (at : ℕ) → at + 8 ≤ length b → le 8 (field at 8 b) ≡ take 8 (drop at b)
   field-same at h =
       let x = take 8 (drop at b) in
-      ap (λ (n : ℕ). le n (number x)) (sym (length-take-le 8 (drop at b) (omega (arith, length-drop at b)))) ∙ le-number x (bytes-take 8 (drop at b) (bytes-drop at b hb))
+      ap (λ (n : ℕ). le n (number x)) (sym (length-take-le 8 (drop at b) (omega (arith, length-drop at b))))
+      ∙ le-number x (bytes-take 8 (drop at b) (bytes-drop at b hb))
 
   id-same : (at : ℕ) → at + 17 ≤ length b → savedId (loadedId at b) ≡ take 17 (drop at b)
   unfolding savedId loadedId
-  id-same at h = sym (parts at 16 1 b ∙ ap (λ (s : List ℕ). take 16 (drop at b) ++ s) (ap (take 1) (drop-cons b (at + 16) 0 (omega arith))))
+  id-same at h = sym (parts at 16 1 b
+      ∙ ap (λ (s : List ℕ). take 16 (drop at b) ++ s) (ap (take 1) (drop-cons b (at + 16) 0 (omega arith))))
 
   pub table-same : (at : ℕ) → at + 1096 ≤ length b → savedTable (loadedTable at b) ≡ take 1096 (drop at b)
   unfolding savedTable loadedTable
-  table-same at h = ap₂ (λ (x y : List ℕ). x ++ y) (sym (parts at 1024 64 b)) (field-same (at + 1088) (omega arith)) ∙ sym (parts at 1088 8 b)
+  table-same at h = ap₂ (λ (x y : List ℕ). x ++ y) (sym (parts at 1024 64 b)) (field-same (at + 1088) (omega arith))
+      ∙ sym (parts at 1088 8 b)
 
   walk-same : size ≤ length b → savedWalk (loadedWalk 87 b) ≡ take 1265 (drop 87 b)
   unfolding savedWalk loadedWalk
   walk-same h =
       rw (field-same 103 (omega arith), table-same 239 (omega arith), id-same 1335 (omega arith))
-      (sym (parts 87 1248 17 b ∙ ap (λ (s : List ℕ). s ++ take 17 (drop 1335 b)) (parts 87 152 1096 b ∙ ap (λ (s : List ℕ). s ++ take 1096 (drop 239 b)) (parts 87 24 128 b ∙ ap (λ (s : List ℕ). s ++ take 128 (drop 111 b)) (parts 87 16 8 b)))))
+      (sym (parts 87 1248 17 b ∙ ap (λ (s : List ℕ). s ++ take 17 (drop 1335 b))
+      (parts 87 152 1096 b ∙ ap (λ (s : List ℕ). s ++ take 1096 (drop 239 b))
+      (parts 87 24 128 b ∙ ap (λ (s : List ℕ). s ++ take 128 (drop 111 b)) (parts 87 16 8 b)))))
 
   pub walk-stays : size ≤ length b → b ≡ withWalk (loadedWalk 87 b) b
   unfolding withWalk
   walk-stays h = own 87 1265 b h .holds ∙ ap (λ (s : List ℕ). take 87 b ++ s ++ drop size b) (sym (walk-same h))
 
 -- Another list, then another place.
-module _ (s s₁ : List ℕ) (p : Place) (t : Table) (room : size ≤ length s) (h : length (savedTable t) ≡ 1096) (e : s₁ ≡ withTable t s) where
+module _ (s s₁ : List ℕ) (p : Place) (t : Table) (room : size ≤ length s) (h : length (savedTable t) ≡ 1096)
+    (e : s₁ ≡ withTable t s) where
   put : Put 239 1096 (savedTable t) s s₁
   unfolding withTable
   put = record { sized = h; holds = e }

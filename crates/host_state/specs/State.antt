@@ -1,5 +1,5 @@
--- The client as bytes: its fields in their order, each in its width, lowest byte first; and the client that any bytes hold.
--- Assumes nothing.
+-- The client as bytes: its fields in their order, each in its width, lowest byte first; and the client that any bytes
+-- hold.
 use Prim.Native.Nat.{ℕ, _+_, _<_, _^_}
 use mathlib.Core.List.{List, [], _∷_, _++_}
 use mathlib.Core.Path.{_≡_}
@@ -49,7 +49,12 @@ unfoldable pub loadedId : ℕ → List ℕ → Id
 loadedId at b = record { bytes = take 16 (drop at b); len = byte (at + 16) b }
 
 unfoldable pub loadedTable : ℕ → List ℕ → Table
-loadedTable at b = record { ids = take 1024 (drop at b); lens = take 64 (drop (at + 1024) b); count = field (at + 1088) 8 b }
+loadedTable at b = record {
+  ids = take 1024 (drop at b);
+  lens = take 64 (drop (at + 1024) b);
+  count = field
+      (at + 1088) 8 b;
+}
 
 unfoldable pub loadedWalk : ℕ → List ℕ → Walk
 loadedWalk at b = record {
@@ -71,7 +76,8 @@ loaded b = record {
   walk = loadedWalk 87 b;
 }
 
--- A client's bytes with another walk; with another list, all else as it is; with another place of the walk, the list as it is.
+-- A client's bytes with another walk; with another list, all else as it is; with another place of the walk, the list as
+-- it is.
 unfoldable pub withWalk : Walk → List ℕ → List ℕ
 withWalk w s = take 87 s ++ savedWalk w ++ drop size s
 

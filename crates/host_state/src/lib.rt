@@ -1,11 +1,11 @@
-// The client in a buffer of a fixed number of bytes: its front and its walk's place loaded and saved, its list touched in place.
-// Any bytes are some client, and all zero is a fresh one.
+// The client in a buffer of a fixed number of bytes: its front and its walk's place loaded and saved, its list touched
+// in place. Any bytes are some client, and all zero is a fresh one.
 use client::Change;
 use client::Front;
 use client::Touch;
 use ids::Id;
-use walk_table::Entry;
 use walk::Place;
+use walk_table::Entry;
 ghost use mathlib.Core.Path.{_≡_};
 ghost use mathlib.Core.List.{_++_};
 ghost use Prim.Native.Nat.{_+_, _≤_};
@@ -14,7 +14,8 @@ ghost use Rattle.paper.proofs.Words.{Bytes};
 ghost use Rattle.walk_table.specs.Rows.{noTable, keeping};
 ghost use Rattle.walk.specs.Moves.{placeOf};
 ghost use Rattle.client.specs.Verdicts.{frontOf, renewed, changed};
-ghost use Rattle.host_state.specs.State.{size, savedId, savedHead, savedFront, loadedId, loadedTable, loadedWalk, loaded, withPlace, withTable, withWalk};
+ghost use Rattle.host_state.specs.State.{size, savedId, savedHead, savedFront, loadedId, loadedTable, loadedWalk};
+ghost use Rattle.host_state.specs.State.{loaded, withPlace, withTable, withWalk};
 
 // How many bytes a client takes.
 pub fn size() -> usize
@@ -79,7 +80,8 @@ pub fn count(bytes: &[u8]) -> usize
 
 pub fn save_id(bytes: &mut [u8], at: usize, x: Id)
     requires { ⌜ at + 17 ≤ length (now bytes) ⌝ }
-    ensures { λ _. ⌜ now (bytes .exit) ≡ take at (now (bytes .entry)) ++ savedId x ++ drop (at + 17) (now (bytes .entry)) ⌝ }
+    ensures { λ _. ⌜ now (bytes .exit)
+        ≡ take at (now (bytes .entry)) ++ savedId x ++ drop (at + 17) (now (bytes .entry)) ⌝ }
     ensures { λ _. ⌜ length (savedId x) ≡ 17 ⌝ }
 {
     let b = x.bytes;
@@ -132,7 +134,8 @@ fn save_place(p: Place, bytes: &mut [u8])
 fn keep(entry: Entry, bytes: &mut [u8])
     requires { ⌜ size ≤ length (now bytes) ⌝ }
     requires { ⌜ Bytes (now bytes) ⌝ }
-    ensures { λ _. ⌜ now (bytes .exit) ≡ withTable (keeping (loadedTable 239 (now (bytes .entry))) entry) (now (bytes .entry)) ⌝ }
+    ensures { λ _. ⌜ now (bytes .exit)
+        ≡ withTable (keeping (loadedTable 239 (now (bytes .entry))) entry) (now (bytes .entry)) ⌝ }
 {
     let n = count(bytes);
     if 64 <= n {
@@ -154,7 +157,8 @@ fn clear(bytes: &mut [u8])
 pub fn renew(begins: bool, from: Id, bytes: &mut [u8])
     requires { ⌜ size ≤ length (now bytes) ⌝ }
     requires { ⌜ Bytes (now bytes) ⌝ }
-    ensures { λ _. ⌜ now (bytes .exit) ≡ withWalk (renewed begins from (loadedWalk 87 (now (bytes .entry)))) (now (bytes .entry)) ⌝ }
+    ensures { λ _. ⌜ now (bytes .exit)
+        ≡ withWalk (renewed begins from (loadedWalk 87 (now (bytes .entry)))) (now (bytes .entry)) ⌝ }
 {
     if !begins {
         return;
@@ -167,7 +171,8 @@ pub fn renew(begins: bool, from: Id, bytes: &mut [u8])
 pub fn apply(change: Change, bytes: &mut [u8])
     requires { ⌜ size ≤ length (now bytes) ⌝ }
     requires { ⌜ Bytes (now bytes) ⌝ }
-    ensures { λ _. ⌜ now (bytes .exit) ≡ withWalk (changed change (loadedWalk 87 (now (bytes .entry)))) (now (bytes .entry)) ⌝ }
+    ensures { λ _. ⌜ now (bytes .exit)
+        ≡ withWalk (changed change (loadedWalk 87 (now (bytes .entry)))) (now (bytes .entry)) ⌝ }
 {
     let touch = change.touch;
     let place = change.place;

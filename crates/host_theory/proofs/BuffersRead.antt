@@ -1,5 +1,4 @@
 -- What a host reads in the buffers after a call is the client's own answer.
--- Assumes nothing.
 use Prim.Native.Nat.{ℕ, _<_, _^_}
 use mathlib.Core.List.{List, [], _∷_, _++_}
 use mathlib.Core.Path.{_≡_, refl, sym, _∙_, ap}
@@ -32,21 +31,26 @@ use Rattle.host_theory.proofs.ClientFits.{ToldFits}
 -- An answer is 1,179 bytes.
 numbers-length : (n : Note) (g : Gain) (rest : ℕ) → length (numbered n g rest) ≡ 66
 unfolding numbered tagged sizes pair le
-numbers-length n g rest = joined-length ((32, sizes n g rest) ∷ (8, pair n) ∷ (18, savedInfo (n .info)) ∷ []) (tagged n g) 8 refl (refl, (refl, (info-length (n .info), tt)))
+numbers-length n g rest = joined-length ((32, sizes n g rest) ∷ (8, pair n) ∷ (18, savedInfo (n .info)) ∷ [])
+    (tagged n g) 8 refl (refl, (refl, (info-length (n .info), tt)))
 
 shown-length : (t : Told) → ToldFits t → length (shown (t .says) (t .progress) (t .id) (t .found) (t .rest)) ≡ size
 unfolding shown
 shown-length t h =
-    joined-length ((17, savedId (t .id)) ∷ (1096, savedTable (t .found)) ∷ []) (numbered (noteOf (t .says)) (gainOf (t .progress)) (t .rest)) 66 (numbers-length _ _ (t .rest))
+    joined-length ((17, savedId (t .id)) ∷ (1096, savedTable (t .found)) ∷ [])
+    (numbered (noteOf (t .says)) (gainOf (t .progress)) (t .rest)) 66 (numbers-length _ _ (t .rest))
     (id-length (t .id) (h .id .bytes .0), (table-length (t .found) (h .found .ids .0) (h .found .lens .0), tt))
 
 -- The numbers.
-module _ (n : Note) (g : Gain) (rest : ℕ) (b : List ℕ) (hn : NoteFits n) (hg : GainFits g) (hr : rest < 2 ^ 64) (e : take 66 (drop 0 b) ≡ numbered n g rest) where
+module _ (n : Note) (g : Gain) (rest : ℕ) (b : List ℕ) (hn : NoteFits n) (hg : GainFits g) (hr : rest < 2 ^ 64)
+    (e : take 66 (drop 0 b) ≡ numbered n g rest) where
   numbers-back : (loadedNote b ≡ n) × ((loadedGain b ≡ g) × (field 8 8 b ≡ rest))
   unfolding numbered tagged sizes pair loadedNote loadedGain le
   numbers-back =
-      let s = spread 0 b ((32, sizes n g rest) ∷ (8, pair n) ∷ (18, savedInfo (n .info)) ∷ []) (tagged n g) 8 refl (refl, (refl, (info-length (n .info), tt))) e in
-      let z = spread 8 b ((8, le 8 (n .length)) ∷ (8, le 8 (g .done)) ∷ (8, le 8 (g .total)) ∷ []) (le 8 rest) 8 refl (refl, (refl, (refl, tt))) (s .1 .0) in
+      let s = spread 0 b ((32, sizes n g rest) ∷ (8, pair n) ∷ (18, savedInfo (n .info)) ∷ []) (tagged n g) 8 refl
+      (refl, (refl, (info-length (n .info), tt))) e in
+      let z = spread 8 b ((8, le 8 (n .length)) ∷ (8, le 8 (g .done)) ∷ (8, le 8 (g .total)) ∷ []) (le 8 rest) 8 refl
+      (refl, (refl, (refl, tt))) (s .1 .0) in
       let p = spread 40 b ((4, le 4 (n .second)) ∷ []) (le 4 (n .first)) 4 refl (refl, tt) (s .1 .1 .0) in (
         rw (
           byte-in 0 8 0 (tagged n g) b (omega arith) (s .0),
@@ -74,16 +78,20 @@ module _ (n : Note) (g : Gain) (rest : ℕ) (b : List ℕ) (hn : NoteFits n) (hg
       )
 
 -- The answer's bytes, whatever follows.
-module _ (t : Told) (h : ToldFits t) (b : List ℕ) (e : take size (drop 0 b) ≡ shown (t .says) (t .progress) (t .id) (t .found) (t .rest)) where
-  parts : (take 66 (drop 0 b) ≡ numbered (noteOf (t .says)) (gainOf (t .progress)) (t .rest)) × ((take 17 (drop 66 b) ≡ savedId (t .id)) × (take 1096 (drop 83 b) ≡ savedTable (t .found)))
+module _ (t : Told) (h : ToldFits t) (b : List ℕ)
+    (e : take size (drop 0 b) ≡ shown (t .says) (t .progress) (t .id) (t .found) (t .rest)) where
+  parts : (take 66 (drop 0 b) ≡ numbered (noteOf (t .says)) (gainOf (t .progress)) (t .rest))
+      × ((take 17 (drop 66 b) ≡ savedId (t .id)) × (take 1096 (drop 83 b) ≡ savedTable (t .found)))
   unfolding shown
   parts =
-      let s = spread 0 b ((17, savedId (t .id)) ∷ (1096, savedTable (t .found)) ∷ []) (numbered (noteOf (t .says)) (gainOf (t .progress)) (t .rest)) 66 (numbers-length _ _ (t .rest))
+      let s = spread 0 b ((17, savedId (t .id)) ∷ (1096, savedTable (t .found)) ∷ [])
+      (numbered (noteOf (t .says)) (gainOf (t .progress)) (t .rest)) 66 (numbers-length _ _ (t .rest))
       (id-length (t .id) (h .id .bytes .0), (table-length (t .found) (h .found .ids .0) (h .found .lens .0), tt)) e in
       (s .0, (s .1 .0, s .1 .1 .0))
 
   numbers : (loadedNote b ≡ noteOf (t .says)) × ((loadedGain b ≡ gainOf (t .progress)) × (field 8 8 b ≡ t .rest))
-  numbers = numbers-back (noteOf (t .says)) (gainOf (t .progress)) (t .rest) b (h .says) (h .progress) (h .rest) (parts .0)
+  numbers = numbers-back (noteOf (t .says)) (gainOf (t .progress)) (t .rest) b (h .says) (h .progress) (h .rest)
+      (parts .0)
 
   pub says-back : saysIn (loadedNote b) ≡ t .says
   says-back = ap saysIn (numbers .0) ∙ note-says (t .says)
@@ -117,7 +125,10 @@ module _ (m : Made) (f : ToldFits (m .told)) (s a : List ℕ) where
   held-read e =
       λ i. codeAnswer (
         record {
-          says = saysOf (says-back (m .told) f (written ++ drop size a) front i) (progress-back (m .told) f (written ++ drop size a) front i) (beside-id (m .told) f (written ++ drop size a) front i) (beside-found (m .told) f (written ++ drop size a) front i);
+          says = saysOf (says-back (m .told) f (written ++ drop size a) front i)
+              (progress-back (m .told) f (written ++ drop size a) front i)
+              (beside-id (m .told) f (written ++ drop size a) front i)
+              (beside-found (m .told) f (written ++ drop size a) front i);
           rest = rest-back (m .told) f (written ++ drop size a) front i;
           buffer = m .buffer;
         },
@@ -128,6 +139,7 @@ module _ (m : Made) (f : ToldFits (m .told)) (s a : List ℕ) where
   unfolding held handed leaves
   held-coded = code-back (m .told) f (written ++ drop size a) front
 
-  pub held-behind : (more : List ℕ) → drop State.size (held s a m .state) ≡ more → behind (held s a m) ≡ (more, drop size a)
+  pub held-behind : (more : List ℕ) → drop State.size (held s a m .state) ≡ more
+      → behind (held s a m) ≡ (more, drop size a)
   unfolding held handed leaves
   held-behind more e = λ i. (e i, drop-at written (drop size a) size (shown-length (m .told) f) i)

@@ -1,5 +1,4 @@
 -- An array of bytes stays one: a byte set, a bit set, the first bits alone; and an id of bytes fits.
--- Assumes nothing.
 use Prim.Native.Nat.{ℕ, zero, suc, _-_, _/_, _%_, _^_, _<_, _≤_}
 use mathlib.Core.Bool.{Bool, true, false, cond}
 use mathlib.Core.List.{List, [], _∷_}
@@ -41,11 +40,13 @@ module _ (n : ℕ) (l : List ℕ) (h : Array n l) where
 
   pub array-cut : (k : ℕ) → Array n (cut l k)
   unfolding cut
-  array-cut k = array-set (k / 8) (getD l (k / 8) 0 % 2 ^ (k % 8)) (omega (arith, mod-le (getD l (k / 8) 0) (2 ^ (k % 8)), byte-below l (k / 8) (h .1)))
+  array-cut k = array-set (k / 8) (getD l (k / 8) 0 % 2 ^ (k % 8))
+      (omega (arith, mod-le (getD l (k / 8) 0) (2 ^ (k % 8)), byte-below l (k / 8) (h .1)))
 
   pub array-bit : (k : ℕ) → Array n (setBit l k)
   unfolding setBit
-  array-bit k = array-set (k / 8) (withOne (getD l (k / 8) 0) (k % 8)) (below (getD l (k / 8) 0) (k % 8) (byte-below l (k / 8) (h .1)) (omega arith))
+  array-bit k = array-set (k / 8) (withOne (getD l (k / 8) 0) (k % 8))
+      (below (getD l (k / 8) 0) (k % 8) (byte-below l (k / 8) (h .1)) (omega arith))
     where
       below : (x j : ℕ) → x < 256 → j < 8 → withOne x j < 256
       below x j hx hj = rw (← or-shl x j) (or-lt 8 x (2 ^ j) hx (pow-lt {i = j} {j = 8} hj))
@@ -54,7 +55,10 @@ module _ (n : ℕ) (l : List ℕ) (h : Array n l) where
 pub id-from-fits : (id : List ℕ) → length id ≤ 16 → Bytes id → IdFits (idFrom id)
 unfolding idFrom
 id-from-fits id short h = record {
-  bytes = (omega (arith, length-append id (replicate (16 - length id) 0), length-replicate {A = ℕ} (16 - length id) 0), bytes-append id (replicate (16 - length id) 0) h (zero-bytes (16 - length id)));
+  bytes = (
+    omega (arith, length-append id (replicate (16 - length id) 0), length-replicate {A = ℕ} (16 - length id) 0),
+    bytes-append id (replicate (16 - length id) 0) h (zero-bytes (16 - length id)),
+  );
   len = omega arith;
 }
 
@@ -66,6 +70,7 @@ heard-fits bytes h = go (hear bytes) (heard-bytes bytes h)
     go : (x : Paper.Heard) → Telling Bytes x → IdFits (shownHeard x .id)
     go nothing t = no-id-fits
     go (one id) t =
-        chosen (λ (x : Hearing). IdFits (x .id)) (ltb 16 (length id)) _ _ (λ e. no-id-fits) (λ e. id-from-fits id (ltb-false 16 (length id) e) t)
+        chosen (λ (x : Hearing). IdFits (x .id)) (ltb 16 (length id)) _ _ (λ e. no-id-fits)
+        (λ e. id-from-fits id (ltb-false 16 (length id) e) t)
     go unaddressed t = no-id-fits
     go garble t = no-id-fits

@@ -1,5 +1,5 @@
--- The exported calls chain: over any calls each leaves and answers what the client's own call does on the client reached so far.
--- Assumes nothing.
+-- The exported calls chain: over any calls each leaves and answers what the client's own call does on the client
+-- reached so far.
 use Prim.Native.Nat.{ℕ, _≤_}
 use mathlib.Core.List.{List, [], _∷_, _++_, map}
 use mathlib.Core.Option.{none, some}
@@ -16,22 +16,35 @@ use Rattle.client.specs.Clients.{fresh, attached}
 use Rattle.client.specs.Numbers.{changesNoState}
 use Rattle.host_state.specs.State as State
 use Rattle.host_state.specs.State.{saved, loaded, Fits}
-use Rattle.host_state.proofs.Laws.{saved-length, loaded-saved, loaded-fits, fresh-is-zero, fresh-fits, no-id-fits, no-table-fits}
+use Rattle.host_state.proofs.Laws.{saved-length, loaded-saved, loaded-fits, fresh-is-zero, fresh-fits, no-id-fits}
+use Rattle.host_state.proofs.Laws.{no-table-fits}
 use Rattle.host_answer.specs.AnswerBytes as Answers
 use Rattle.host_answer.specs.Numbers.{noteOf}
 use Rattle.host_buffers.specs.Hosts.{Requested, toldBy, leaves, handed, showsAttached, views}
 use Rattle.host_buffers.proofs.Ways.{lent-enough}
-use Rattle.refinement.specs.Calls.{Call, startSelect, startDeselect, startAttach, startDiscover, startInfo, startErase, startFlash, startReset, startSetBaud, request, record′, linkFailed, Good, codeCall, codeAnswer, codeAnswers, reached}
-use Rattle.host_theory.specs.ExportedCalls.{Lent, Lending, Fair, exported, exports, stateAfter, made, held, heldBy, readAs, readFrom, Coded, behind}
+use Rattle.refinement.specs.Calls.{Call, startSelect, startDeselect, startAttach, startDiscover, startInfo, startErase}
+use Rattle.refinement.specs.Calls.{startFlash, startReset, startSetBaud, request, record′, linkFailed, Good, codeCall}
+use Rattle.refinement.specs.Calls.{codeAnswer, codeAnswers, reached}
+use Rattle.host_theory.specs.ExportedCalls.{Lent, Lending, Fair, exported, exports, stateAfter, made, held}
+use Rattle.host_theory.specs.ExportedCalls.{heldBy, readAs, readFrom, Coded, behind}
 use Rattle.host_theory.proofs.NumbersFit.{no-progress}
 use Rattle.host_theory.proofs.RefusedBytes.{kept, unheld, exported-lent}
 use Rattle.host_theory.proofs.BuffersRead.{held-read, held-coded, held-behind}
-use Rattle.host_theory.proofs.ClientFits.{StartedFits, ToldFits, select-fits, deselect-fits, attach-fits, attach-to-fits, discover-fits, info-fits, erase-fits, flash-fits, reset-fits, set-baud-fits, request-fits, record-fits, failed-fits}
+use Rattle.host_theory.proofs.ClientFits.{StartedFits, ToldFits, select-fits, deselect-fits, attach-fits}
+use Rattle.host_theory.proofs.ClientFits.{attach-to-fits, discover-fits, info-fits, erase-fits, flash-fits}
+use Rattle.host_theory.proofs.ClientFits.{reset-fits, set-baud-fits, request-fits, record-fits, failed-fits}
 
 -- What a call tells fits.
 started-fits : (s : Started) → StartedFits s → ToldFits (toldBy s)
 unfolding toldBy
-started-fits s h = record { client = h .client; says = h .says; rest = omega arith; progress = no-progress; id = no-id-fits; found = no-table-fits }
+started-fits s h = record {
+  client = h .client;
+  says = h .says;
+  rest = omega arith;
+  progress = no-progress;
+  id = no-id-fits;
+  found = no-table-fits;
+}
 
 made-fits : (c : Client) → Fits c → (call : Call) → Good call → Lent call → ToldFits (made c call .told)
 unfolding made
@@ -50,7 +63,8 @@ made-fits c h (record′ image bytes) g l = record-fits c h image bytes (l .0 .0
 made-fits c h linkFailed g l = failed-fits c h
 
 -- The client after a call is the one that the call leads to, and its answer is read as that call's.
-made-call : (c : Client) (call : Call) → (made c call .told .client ≡ (codeCall c call) .1) × (readAs (made c call) ≡ codeAnswer (codeCall c call))
+made-call : (c : Client) (call : Call)
+    → (made c call .told .client ≡ (codeCall c call) .1) × (readAs (made c call) ≡ codeAnswer (codeCall c call))
 unfolding made codeCall toldBy readAs
 made-call c (startSelect bytes bits) = (refl, refl)
 made-call c startDeselect = (refl, refl)
@@ -67,8 +81,11 @@ made-call c (record′ image bytes) = (refl, refl)
 made-call c linkFailed = (refl, refl)
 
 -- One exported call, on buffers that are long enough.
-pub exported-held : (s a : List ℕ) → State.size ≤ length s → Answers.size ≤ length a → (call : Call) → exported s a call ≡ held s a (made (loaded s) call)
-exported-held s a whole room call = exported-lent s a call ∙ sym (lent-enough (length s) (length a) (unheld s a call) (held s a (made (loaded s) call)) whole room)
+pub exported-held : (s a : List ℕ) → State.size ≤ length s → Answers.size ≤ length a → (call : Call)
+    → exported s a call ≡ held s a (made (loaded s) call)
+exported-held s a whole room call =
+    exported-lent s a call ∙ sym (lent-enough (length s) (length a) (unheld s a call)
+    (held s a (made (loaded s) call)) whole room)
 
 -- A state that holds a client that fits, with these bytes behind it.
 pub record Holds (s : List ℕ) (c : Client) (more : List ℕ) : Type 0 where
@@ -91,42 +108,52 @@ module _ (s : List ℕ) (c : Client) (more : List ℕ) (h : Holds s c more) (x :
   told-fits = made-fits c (h .fits) (x .call) (k .bytes) (k .lengths)
 
   pub leaves-held : exported s (x .answer) (x .call) ≡ held s (x .answer) (made c (x .call))
-  leaves-held = exported-held s (x .answer) (h .whole) (k .room) (x .call) ∙ ap (λ (d : Client). held s (x .answer) (made d (x .call))) (h .client)
+  leaves-held = exported-held s (x .answer) (h .whole) (k .room) (x .call)
+      ∙ ap (λ (d : Client). held s (x .answer) (made d (x .call))) (h .client)
 
   pub holds-after : Holds (held s (x .answer) (made c (x .call)) .state) (made c (x .call) .told .client) more
   unfolding held handed leaves
   holds-after =
-      by-test (λ (b : List ℕ). Holds b (made c (x .call) .told .client) more) (changesNoState (noteOf (made c (x .call) .told .says) .number))
+      by-test (λ (b : List ℕ). Holds b (made c (x .call) .told .client) more)
+      (changesNoState (noteOf (made c (x .call) .told .says) .number))
       (λ e. subst (λ (d : Client). Holds s d more) (sym (kept c (x .call) e .0)) h)
-      (λ e. subst (λ (b : List ℕ). Holds (saved (made c (x .call) .told .client) ++ b) (made c (x .call) .told .client) more) (sym (h .behind))
+      (λ e. subst (λ (b : List ℕ). Holds (saved (made c (x .call) .told .client) ++ b)
+      (made c (x .call) .told .client) more) (sym (h .behind))
       (saved-holds (made c (x .call) .told .client) (told-fits .client) more))
 
 -- Any calls.
-exports-held : (xs : List Lending) (s : List ℕ) (c : Client) (more : List ℕ) → Holds s c more → All Fair xs → exports s xs ≡ heldBy s c xs
+exports-held : (xs : List Lending) (s : List ℕ) (c : Client) (more : List ℕ) → Holds s c more → All Fair xs
+    → exports s xs ≡ heldBy s c xs
 unfolding exports heldBy
 exports-held [] s c more h ks = refl
 exports-held (x ∷ xs) s c more h ks =
     let n : Requested = held s (x .answer) (made c (x .call)) in
     ap (λ (e : Requested). e ∷ exports (e .state) xs) (leaves-held s c more h x (ks .0))
-    ∙ ap (λ (es : List Requested). n ∷ es) (exports-held xs (n .state) (made c (x .call) .told .client) more (holds-after s c more h x (ks .0)) (ks .1))
+    ∙ ap (λ (es : List Requested). n ∷ es)
+    (exports-held xs (n .state) (made c (x .call) .told .client) more (holds-after s c more h x (ks .0)) (ks .1))
 
-state-held : (xs : List Lending) (s : List ℕ) (c : Client) (more : List ℕ) → Holds s c more → All Fair xs → Holds (stateAfter s xs) (reached c (map (λ x. x .call) xs)) more
+state-held : (xs : List Lending) (s : List ℕ) (c : Client) (more : List ℕ) → Holds s c more → All Fair xs
+    → Holds (stateAfter s xs) (reached c (map (λ x. x .call) xs)) more
 unfolding stateAfter reached
 state-held [] s c more h ks = h
 state-held (x ∷ xs) s c more h ks =
     let n : Requested = held s (x .answer) (made c (x .call)) in
-    subst (λ (e : Requested). Holds (stateAfter (e .state) xs) (reached ((codeCall c (x .call)) .1) (map (λ y. y .call) xs)) more) (sym (leaves-held s c more h x (ks .0)))
-    (subst (λ (d : Client). Holds (stateAfter (n .state) xs) (reached d (map (λ y. y .call) xs)) more) (made-call c (x .call) .0)
+    subst (λ (e : Requested). Holds (stateAfter (e .state) xs)
+    (reached ((codeCall c (x .call)) .1) (map (λ y. y .call) xs)) more) (sym (leaves-held s c more h x (ks .0)))
+    (subst (λ (d : Client). Holds (stateAfter (n .state) xs) (reached d (map (λ y. y .call) xs)) more)
+    (made-call c (x .call) .0)
     (state-held xs (n .state) (made c (x .call) .told .client) more (holds-after s c more h x (ks .0)) (ks .1)))
 
 -- What a host reads after each is the client's own answer; the code; and what stands behind.
 module _ (more : List ℕ) where
-  reads-held : (xs : List Lending) (s : List ℕ) (c : Client) → Holds s c more → All Fair xs → map readFrom (heldBy s c xs) ≡ codeAnswers c (map (λ x. x .call) xs)
+  reads-held : (xs : List Lending) (s : List ℕ) (c : Client) → Holds s c more → All Fair xs
+      → map readFrom (heldBy s c xs) ≡ codeAnswers c (map (λ x. x .call) xs)
   unfolding heldBy codeAnswers
   reads-held [] s c h ks = refl
   reads-held (x ∷ xs) s c h ks =
       let k = holds-after s c more h x (ks .0) in
-      ap₂ _∷_ (held-read (made c (x .call)) (told-fits s c more h x (ks .0)) s (x .answer) (k .client) ∙ made-call c (x .call) .1)
+      ap₂ _∷_ (held-read (made c (x .call)) (told-fits s c more h x (ks .0)) s (x .answer) (k .client)
+      ∙ made-call c (x .call) .1)
       (reads-held xs (held s (x .answer) (made c (x .call)) .state) (made c (x .call) .told .client) k (ks .1)
       ∙ ap (λ (d : Client). codeAnswers d (map (λ y. y .call) xs)) (made-call c (x .call) .0))
 
@@ -135,10 +162,12 @@ module _ (more : List ℕ) where
   codes-held [] s c h ks = tt
   codes-held (x ∷ xs) s c h ks = (
     held-coded (made c (x .call)) (told-fits s c more h x (ks .0)) s (x .answer),
-    codes-held xs (held s (x .answer) (made c (x .call)) .state) (made c (x .call) .told .client) (holds-after s c more h x (ks .0)) (ks .1),
+    codes-held xs (held s (x .answer) (made c (x .call)) .state) (made c (x .call) .told .client)
+        (holds-after s c more h x (ks .0)) (ks .1),
   )
 
-  behind-held : (xs : List Lending) (s : List ℕ) (c : Client) → Holds s c more → All Fair xs → map behind (heldBy s c xs) ≡ map (λ x. (more, drop Answers.size (x .answer))) xs
+  behind-held : (xs : List Lending) (s : List ℕ) (c : Client) → Holds s c more → All Fair xs
+      → map behind (heldBy s c xs) ≡ map (λ x. (more, drop Answers.size (x .answer))) xs
   unfolding heldBy
   behind-held [] s c h ks = refl
   behind-held (x ∷ xs) s c h ks =
@@ -147,10 +176,12 @@ module _ (more : List ℕ) where
       (behind-held xs (held s (x .answer) (made c (x .call)) .state) (made c (x .call) .told .client) k (ks .1))
 
 -- The attached id of such a state.
-pub views-held : (s : List ℕ) (c : Client) (more a : List ℕ) → Holds s c more → Answers.size ≤ length a → views s a ≡ showsAttached (attached c) a
+pub views-held : (s : List ℕ) (c : Client) (more a : List ℕ) → Holds s c more → Answers.size ≤ length a
+    → views s a ≡ showsAttached (attached c) a
 unfolding views
 views-held s c more a h room =
-    sym (lent-enough (length s) (length a) (λ (code : ℕ). record { code = code; bytes = a }) (showsAttached (attached (loaded s)) a) (h .whole) room)
+    sym (lent-enough (length s) (length a) (λ (code : ℕ). record { code = code; bytes = a })
+    (showsAttached (attached (loaded s)) a) (h .whole) room)
     ∙ ap (λ (d : Client). showsAttached (attached d) a) (h .client)
 
 -- Any bytes hold a client, and so do zero bytes: a new one.

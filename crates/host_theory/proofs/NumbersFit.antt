@@ -1,5 +1,4 @@
 -- The numbers of an answer fit the bytes that they are written in, so that a host reads them back.
--- Assumes nothing.
 use Prim.Native.Nat.{ℕ, _<_, _^_}
 use mathlib.Core.Bool.{Bool, false}
 use native.Mathlib.Omega.{arith}
@@ -33,11 +32,14 @@ pub going-fits : (says n : ℕ) → n < 2 ^ 64 → NoteFits (going says n)
 unfolding going
 going-fits says n h = record { length = h; first = omega arith; second = omega arith; info = no-info-fits }
 
-pub ending-fits : (number outcome heard : ℕ) (any : Bool) (info : Info) → InfoFits info → NoteFits (ending number outcome heard any info)
+pub ending-fits : (number outcome heard : ℕ) (any : Bool) (info : Info) → InfoFits info
+    → NoteFits (ending number outcome heard any info)
 unfolding ending
-ending-fits number outcome heard any info h = record { length = omega arith; first = omega arith; second = omega arith; info = h }
+ending-fits number outcome heard any info h =
+    record { length = omega arith; first = omega arith; second = omega arith; info = h }
 
-pub refusing-fits : (number : ℕ) (k : Bool) (n first second : ℕ) → n < 2 ^ 64 → first < 2 ^ 32 → second < 2 ^ 32 → NoteFits (refusing number k n first second)
+pub refusing-fits : (number : ℕ) (k : Bool) (n first second : ℕ) → n < 2 ^ 64 → first < 2 ^ 32 → second < 2 ^ 32
+    → NoteFits (refusing number k n first second)
 unfolding refusing
 refusing-fits number k n first second hn hf hs = record { length = hn; first = hf; second = hs; info = no-info-fits }
 

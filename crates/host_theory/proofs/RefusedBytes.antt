@@ -1,5 +1,5 @@
--- What an exported call leaves that is refused with a number that changes no state: of any state and any buffers, every byte.
--- Assumes nothing.
+-- What an exported call leaves that is refused with a number that changes no state: of any state and any buffers, every
+-- byte.
 use Prim.Native.Nat.{ℕ, _%_, _<_, _≤_}
 use mathlib.Core.Bool.{Bool, true, false, cond}
 use mathlib.Core.List.{List, []}
@@ -20,7 +20,11 @@ use Rattle.client.specs.declared.Client.{Client}
 use Rattle.client.specs.declared.Outcome.{Outcome}
 use Rattle.client.specs.declared.Outcome.the-variants as Outcome
 use Rattle.client.specs.declared.Refusal.{Refusal}
-use Rattle.client.specs.declared.Refusal.the-variants.{Io, Device, FirmwareTooLarge, CrcMismatch, BadInfo, Incompatible, NoDevice, SeveralDevices, NoSuchUid, AmbiguousUid, NotAddressable, DuplicateUid, BadPrefix, LongId, TableFull, ShortBuffer, RetriesSpent, ShortVerify, SpansTooFar, OtherImage, OutOfTurn}
+use Rattle.client.specs.declared.Refusal.the-variants.{Io, Device, FirmwareTooLarge, CrcMismatch, BadInfo, Incompatible}
+use Rattle.client.specs.declared.Refusal.the-variants.{NoDevice, SeveralDevices, NoSuchUid, AmbiguousUid}
+use Rattle.client.specs.declared.Refusal.the-variants.{NotAddressable, DuplicateUid, BadPrefix, LongId, TableFull}
+use Rattle.client.specs.declared.Refusal.the-variants.{ShortBuffer, RetriesSpent, ShortVerify, SpansTooFar, OtherImage}
+use Rattle.client.specs.declared.Refusal.the-variants.{OutOfTurn}
 use Rattle.client.specs.declared.Says.{Says}
 use Rattle.client.specs.declared.Says.the-variants.{Granted, Closing, Onward, Over, Refused}
 use Rattle.client.specs.declared.Started.{Started}
@@ -34,9 +38,12 @@ use Rattle.host_buffers.specs.Codes.{coded, Coded, writtenCode, writes, readAs,
 use Rattle.host_buffers.proofs.codes.Laws.{code-number}
 use Rattle.host_buffers.specs.Hosts.{codeOf, lent, Requested, toldBy, leaves, tells, starts, handed, asks, requests}
 use Rattle.host_buffers.specs.Exports as Export
-use Rattle.refinement.specs.Calls.{Call, startSelect, startDeselect, startAttach, startDiscover, startInfo, startErase, startFlash, startReset, startSetBaud, request, record′, linkFailed}
+use Rattle.refinement.specs.Calls.{Call, startSelect, startDeselect, startAttach, startDiscover, startInfo, startErase}
+use Rattle.refinement.specs.Calls.{startFlash, startReset, startSetBaud, request, record′, linkFailed}
 use Rattle.refinement.specs.Refusals.{keeps, begins}
-use Rattle.refinement.proofs.refused.Starts.{leaves-kept, begins-kept, select-begins, deselect-begins, attach-begins, attach-to-begins, discover-begins, info-begins, erase-begins, flash-begins, reset-begins, set-baud-begins}
+use Rattle.refinement.proofs.refused.Starts.{leaves-kept, begins-kept, select-begins, deselect-begins, attach-begins}
+use Rattle.refinement.proofs.refused.Starts.{attach-to-begins, discover-begins, info-begins, erase-begins, flash-begins}
+use Rattle.refinement.proofs.refused.Starts.{reset-begins, set-baud-begins}
 use Rattle.refinement.proofs.refused.Requests.{asked-refused}
 use Rattle.refinement.proofs.refused.Records.{told-refused, failed-refused}
 use Rattle.host_theory.specs.ExportedCalls.{bufferOf, bufferless, exported, made, held}
@@ -83,7 +90,8 @@ number-byte Onward = omega arith
 number-byte (Over o) = outcome-number o .1
 number-byte (Refused r) = omega (arith, refusal-number r .0, refusal-number r .1)
 
-refused-with : (says : Says) → changesNoState (noteOf says .number) ≡ true → (r : Refusal) × ((says ≡ Refused r) × (keeps r ≡ true))
+refused-with : (says : Says) → changesNoState (noteOf says .number) ≡ true
+    → (r : Refusal) × ((says ≡ Refused r) × (keeps r ≡ true))
 unfolding noteOf going keeps
 refused-with (Granted n) h = clash false h refl
 refused-with (Closing n) h = clash false h refl
@@ -100,10 +108,12 @@ abbrev Kept : Client → Call → Type 0
 Kept c call = (made c call .told .client ≡ c) × (made c call .buffer ≡ bufferOf call)
 
 module _ (c : Client) where
-  start-kept : (s : Started) (good : Bool) (next : Client) → s ≡ begins c good next → changesNoState (noteOf (s .says) .number) ≡ true → s .client ≡ c
+  start-kept : (s : Started) (good : Bool) (next : Client) → s ≡ begins c good next
+      → changesNoState (noteOf (s .says) .number) ≡ true → s .client ≡ c
   start-kept s good next b h =
       let k = refused-with (s .says) h in
-      ap (λ (x : Started). x .client) b ∙ begins-kept c good next (k .0) (ap (λ (x : Started). x .says) (sym b) ∙ k .1 .0)
+      ap (λ (x : Started). x .client) b
+      ∙ begins-kept c good next (k .0) (ap (λ (x : Started). x .says) (sym b) ∙ k .1 .0)
 
   pub kept : (call : Call) → changesNoState (noteOf (made c call .told .says) .number) ≡ true → Kept c call
   unfolding made toldBy
@@ -128,31 +138,40 @@ module _ (c : Client) where
       let k = refused-with _ h in
       (failed-refused c (k .0) (k .1 .0) ∙ leaves-kept (k .0) c (k .1 .1), refl)
 
-lent-map : {A B : Type 0} (f : A → B) (n m : ℕ) (short : ℕ → A) (enough : A) → f (lent n m short enough) ≡ lent n m (λ code. f (short code)) (f enough)
+lent-map : {A B : Type 0} (f : A → B) (n m : ℕ) (short : ℕ → A) (enough : A)
+    → f (lent n m short enough) ≡ lent n m (λ code. f (short code)) (f enough)
 unfolding lent
-lent-map {A} f n m short enough = go (ltb n State.size) (ltb m Answers.size) (short (coded 16 State.size)) (short (coded 16 Answers.size))
+lent-map {A} f n m short enough =
+    go (ltb n State.size) (ltb m Answers.size) (short (coded 16 State.size)) (short (coded 16 Answers.size))
   where
     go : (b d : Bool) (x y : A) → f (cond b x (cond d y enough)) ≡ cond b (f x) (cond d (f y) (f enough))
     go true d x y = refl
     go false true x y = refl
     go false false x y = refl
 
--- A call on buffers of any length: refused with the length that one lacks, and nothing written; else as the client's own call leaves it.
+-- A call on buffers of any length: refused with the length that one lacks, and nothing written; else as the client's
+-- own call leaves it.
 module _ (s a : List ℕ) where
   abbrev pub unheld : Call → ℕ → Requested
   unheld call code = record { code = code; state = s; buffer = bufferOf call; answer = a }
 
   tells-lent : (f : Client → Told)
-      → bufferless (tells f s a) ≡ lent (length s) (length a) (λ code. record { code = code; state = s; buffer = []; answer = a }) (held s a (record { told = f (loaded s); buffer = [] }))
+      → bufferless (tells f s a) ≡ lent (length s) (length a)
+      (λ code. record { code = code; state = s; buffer = []; answer = a })
+      (held s a (record { told = f (loaded s); buffer = [] }))
   unfolding tells held handed
-  tells-lent f = lent-map bufferless (length s) (length a) (λ (code : ℕ). record { code = code; state = s; answer = a }) (leaves (f (loaded s)) s a)
+  tells-lent f = lent-map bufferless (length s) (length a)
+      (λ (code : ℕ). record { code = code; state = s; answer = a }) (leaves (f (loaded s)) s a)
 
   starts-lent : (f : Client → Started)
-      → bufferless (starts f s a) ≡ lent (length s) (length a) (λ code. record { code = code; state = s; buffer = []; answer = a }) (held s a (record { told = toldBy (f (loaded s)); buffer = [] }))
+      → bufferless (starts f s a) ≡ lent (length s) (length a)
+      (λ code. record { code = code; state = s; buffer = []; answer = a })
+      (held s a (record { told = toldBy (f (loaded s)); buffer = [] }))
   unfolding starts
   starts-lent f = tells-lent (λ (c : Client). toldBy (f c))
 
-  pub exported-lent : (call : Call) → exported s a call ≡ lent (length s) (length a) (unheld call) (held s a (made (loaded s) call))
+  pub exported-lent : (call : Call)
+      → exported s a call ≡ lent (length s) (length a) (unheld call) (held s a (made (loaded s) call))
   unfolding exported made requests asks held
   exported-lent (startSelect bytes bits) = starts-lent _
   exported-lent startDeselect = starts-lent _
@@ -175,7 +194,8 @@ module _ (s a : List ℕ) where
   held-untouched : (call : Call) → Untouched call (held s a (made (loaded s) call))
   unfolding held handed leaves
   held-untouched call h =
-      let k : changesNoState (noteOf (made (loaded s) call .told .says) .number) ≡ true = ap changesNoState (sym (said-number (made (loaded s) call .told .says))) ∙ h in
+      let k : changesNoState (noteOf (made (loaded s) call .told .says) .number) ≡ true =
+      ap changesNoState (sym (said-number (made (loaded s) call .told .says))) ∙ h in
       (rw k, kept (loaded s) call k .1)
 
   pub untouched : (call : Call) → Untouched call (exported s a call)
@@ -189,16 +209,19 @@ module _ (s a : List ℕ) where
   abbrev Unwritten : Call → Requested → Type 0
   Unwritten call e = (e .state ≡ s) × ((e .buffer ≡ bufferOf call) × (e .answer ≡ a))
 
-  pub unwritten : (call : Call) → (State.size ≤ length s → Answers.size ≤ length a → ⊥) → Unwritten call (exported s a call)
+  pub unwritten : (call : Call) → (State.size ≤ length s → Answers.size ≤ length a → ⊥)
+      → Unwritten call (exported s a call)
   unfolding lent
   unwritten call n =
       rw (exported-lent call)
       (by-test (Unwritten call) (ltb (length s) State.size) (λ h. (refl, (refl, refl)))
       (λ h.
-      by-test (Unwritten call) (ltb (length a) Answers.size) (λ k. (refl, (refl, refl))) (λ k. absurd (n (ltb-false (length s) State.size h) (ltb-false (length a) Answers.size k)))))
+      by-test (Unwritten call) (ltb (length a) Answers.size) (λ k. (refl, (refl, refl)))
+      (λ k. absurd (n (ltb-false (length s) State.size h) (ltb-false (length a) Answers.size k)))))
 
 -- A text or an id that is refused: the buffer for it is as it was.
-pub text-untouched : (id text : List ℕ) → (Export.uidHex id text .code % 256 ≡ 0 → ⊥) → Export.uidHex id text .bytes ≡ text
+pub text-untouched : (id text : List ℕ) → (Export.uidHex id text .code % 256 ≡ 0 → ⊥)
+    → Export.uidHex id text .bytes ≡ text
 unfolding written writes writtenCode
 text-untouched id text n = go (uidHex id (length text)) n
   where
@@ -207,10 +230,12 @@ text-untouched id text n = go (uidHex id (length text)) n
     go refuses13 n = refl
     go (refuses16 k) n = refl
 
-pub id-untouched : (text id : List ℕ) → (Export.parseUid text id .code % 256 ≡ 0 → ⊥) → Export.parseUid text id .bytes ≡ id
+pub id-untouched : (text id : List ℕ) → (Export.parseUid text id .code % 256 ≡ 0 → ⊥)
+    → Export.parseUid text id .bytes ≡ id
 unfolding readUid readAs putUid
 id-untouched text id = go (parsed (parseUid text) .answer) (parsed (parseUid text) .id)
   where
     go : (p : Parse) (x : Id) → (readAs p x id .code % 256 ≡ 0 → ⊥) → readAs p x id .bytes ≡ id
-    go Uid x = either (λ (c : Coded). (c .code % 256 ≡ 0 → ⊥) → c .bytes ≡ id) (ltb (length id) (length (idOf x))) (λ n. refl) (λ n. absurd (n (code-number 0 (length (idOf x)) (omega arith))))
+    go Uid x = either (λ (c : Coded). (c .code % 256 ≡ 0 → ⊥) → c .bytes ≡ id) (ltb (length id) (length (idOf x)))
+        (λ n. refl) (λ n. absurd (n (code-number 0 (length (idOf x)) (omega arith))))
     go BadText x = λ n. refl

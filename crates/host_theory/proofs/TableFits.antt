@@ -1,5 +1,4 @@
 -- A table fits after a row is put, after an id is kept and after the sort.
--- Assumes nothing.
 use Prim.Native.Nat.{ℕ, zero, suc, _+_, _*_, _<_, _≤_}
 use mathlib.Core.Bool.{Bool, true, false, cond}
 use mathlib.Core.List.{List, [], _∷_, _++_}
@@ -26,7 +25,8 @@ put-fits t h i small x k = record {
   ids = (
     length-pasted (t .ids) (x .id .bytes) i 64 small (h .ids .0) (k .bytes .0),
     bytes-append (take (i * 16) (t .ids) ++ x .id .bytes) (drop (i * 16 + 16) (t .ids))
-        (bytes-append (take (i * 16) (t .ids)) (x .id .bytes) (bytes-take (i * 16) (t .ids) (h .ids .1)) (k .bytes .1)) (bytes-drop (i * 16 + 16) (t .ids) (h .ids .1)),
+        (bytes-append (take (i * 16) (t .ids)) (x .id .bytes) (bytes-take (i * 16) (t .ids) (h .ids .1)) (k .bytes .1))
+        (bytes-drop (i * 16 + 16) (t .ids) (h .ids .1)),
   );
   lens = array-set 64 (t .lens) (h .lens) i (x .id .len) (k .len);
   count = h .count;
@@ -41,7 +41,11 @@ keep-fits t h small x k =
 row-fits : (t : Table) → TableFits t → (i : ℕ) → i < 64 → RowFits (row t i)
 unfolding row
 row-fits t h i small = record {
-  bytes = (row-whole t (sized-of t (h .ids .0) (h .lens .0)) i small, bytes-take 16 (drop (i * 16) (t .ids)) (bytes-drop (i * 16) (t .ids) (h .ids .1)));
+  bytes = (
+    row-whole t (sized-of t (h .ids .0) (h .lens .0)) i small,
+    bytes-take 16 (drop (i * 16) (t .ids))
+        (bytes-drop (i * 16) (t .ids) (h .ids .1)),
+  );
   len = byte-below (t .lens) i (h .lens .1);
 }
 
@@ -50,10 +54,12 @@ unfolding rows
 rows-fit zero t h i room = tt
 rows-fit (suc n) t h i room = (row-fits t h i (omega arith), rows-fit n t h (i + 1) (omega arith))
 
-puts-fit : (xs : List Entry) (t : Table) → TableFits t → All RowFits xs → (i : ℕ) → i + length xs ≤ 64 → TableFits (puts t i xs)
+puts-fit : (xs : List Entry) (t : Table) → TableFits t → All RowFits xs → (i : ℕ) → i + length xs ≤ 64
+    → TableFits (puts t i xs)
 unfolding puts
 puts-fit [] t h ks i room = h
-puts-fit (x ∷ xs) t h ks i room = puts-fit xs (put t i x) (put-fits t h i (omega arith) x (ks .0)) (ks .1) (i + 1) (omega arith)
+puts-fit (x ∷ xs) t h ks i room =
+    puts-fit xs (put t i x) (put-fits t h i (omega arith) x (ks .0)) (ks .1) (i + 1) (omega arith)
 
 insert-fits : (x : Entry) (xs : List Entry) → RowFits x → All RowFits xs → All RowFits (insertRow x xs)
 unfolding insertRow
@@ -72,6 +78,8 @@ sort-fits (x ∷ xs) ks = insert-fits x (sortRows xs) (ks .0) (sort-fits xs (ks 
 pub sorted-fits : (t : Table) → TableFits t → t .count ≤ 64 → TableFits (sorted t)
 unfolding sorted
 sorted-fits t h few =
-    let ws : All Whole (rows t 0 (t .count)) = rows-whole (t .count) t (sized-of t (h .ids .0) (h .lens .0)) 0 (omega arith) in
-    puts-fit (sortRows (rows t 0 (t .count))) t h (sort-fits (rows t 0 (t .count)) (rows-fit (t .count) t h 0 (omega arith))) 0
+    let ws : All Whole (rows t 0 (t .count)) =
+    rows-whole (t .count) t (sized-of t (h .ids .0) (h .lens .0)) 0 (omega arith) in
+    puts-fit (sortRows (rows t 0 (t .count))) t h
+    (sort-fits (rows t 0 (t .count)) (rows-fit (t .count) t h 0 (omega arith))) 0
     (omega (arith, sort-whole (rows t 0 (t .count)) ws .0, rows-length (t .count) t 0))

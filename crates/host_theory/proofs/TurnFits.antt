@@ -1,5 +1,4 @@
 -- What a turn's numbers fit by, said of the turn itself.
--- Assumes nothing.
 use Prim.Native.Nat.{ℕ, _<_, _^_}
 use mathlib.Core.Bool.{false}
 use native.Mathlib.Omega.{arith}
@@ -14,7 +13,8 @@ use Rattle.client.specs.declared.Phase.{Phase}
 use Rattle.client.specs.declared.Phase.the-variants.{Select, Demand, Leave}
 use Rattle.client.specs.declared.Turn.{Turn}
 use Rattle.client.specs.declared.Turn.the-variants.{Idle, Ready, Waiting}
-use Rattle.host_turn.specs.Turns.{noInfo, noReset, demanding, leaving, tagOf, sizeOf, walkingOf, searchFlat, jobFlat, phaseFlat, flatOf, InfoFits, FlatFits}
+use Rattle.host_turn.specs.Turns.{noInfo, noReset, demanding, leaving, tagOf, sizeOf, walkingOf, searchFlat, jobFlat}
+use Rattle.host_turn.specs.Turns.{phaseFlat, flatOf, InfoFits, FlatFits}
 use Rattle.host_turn.proofs.Laws.{selecting-fits, no-info-fits, demanding-fits, leaving-fits}
 
 abbrev pub PurposeFits : Purpose → Type 0
@@ -59,15 +59,20 @@ module _ (turn : ℕ) (small : turn < 2 ^ 8) where
   job-flat : (j : Job) → JobFits j → FlatFits (jobFlat turn j)
   unfolding jobFlat noReset
   job-flat (Informing why) h =
-      demanding-fits turn small 0 (tagOf why) (sizeOf why) 0 0 0 noInfo noReset (omega arith) (tag-small why) h no-info-fits (omega arith) (omega arith) (omega arith) (omega arith)
+      demanding-fits turn small 0 (tagOf why) (sizeOf why) 0 0 0 noInfo noReset (omega arith)
+      (tag-small why) h no-info-fits (omega arith) (omega arith) (omega arith) (omega arith)
   job-flat (Erasing why info address) h =
-      demanding-fits turn small 1 (tagOf why) (sizeOf why) address 0 0 info noReset (omega arith) (tag-small why) (h .0) (h .1 .0) (h .1 .1) (omega arith) (omega arith) (omega arith)
+      demanding-fits turn small 1 (tagOf why) (sizeOf why) address 0 0 info noReset (omega arith) (tag-small why)
+      (h .0) (h .1 .0) (h .1 .1) (omega arith) (omega arith) (omega arith)
   job-flat (Writing n info offset retries) h =
-      demanding-fits turn small 2 0 n 0 offset retries info noReset (omega arith) (omega arith) (h .0) (h .1 .0) (omega arith) (h .1 .1 .0) (h .1 .1 .1) (omega arith)
+      demanding-fits turn small 2 0 n 0 offset retries info noReset (omega arith) (omega arith) (h .0) (h .1 .0)
+      (omega arith) (h .1 .1 .0) (h .1 .1 .1) (omega arith)
   job-flat (Verifying n info) h =
-      demanding-fits turn small 3 0 n 0 0 0 info noReset (omega arith) (omega arith) (h .0) (h .1) (omega arith) (omega arith) (omega arith) (omega arith)
+      demanding-fits turn small 3 0 n 0 0 0 info noReset (omega arith) (omega arith) (h .0) (h .1) (omega arith)
+      (omega arith) (omega arith) (omega arith)
   job-flat (Resetting reset) h =
-      demanding-fits turn small 4 0 0 0 0 0 noInfo reset (omega arith) (omega arith) (omega arith) no-info-fits (omega arith) (omega arith) (omega arith) h
+      demanding-fits turn small 4 0 0 0 0 0 noInfo reset (omega arith) (omega arith) (omega arith) no-info-fits
+      (omega arith) (omega arith) (omega arith) h
 
   phase-flat : (p : Phase) → PhaseFits p → FlatFits (phaseFlat turn p)
   unfolding phaseFlat

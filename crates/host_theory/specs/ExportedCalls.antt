@@ -1,5 +1,5 @@
--- The exported calls, one after the other: what each leaves in the buffers lent, its code, and the client's own answer that they hold.
--- Assumes nothing.
+-- The exported calls, one after the other: what each leaves in the buffers lent, its code, and the client's own answer
+-- that they hold.
 use Prim.Native.Nat.{ℕ, _<_, _≤_, _^_}
 use mathlib.Core.List.{List, [], _∷_}
 use mathlib.Core.Option.{none, some}
@@ -11,10 +11,12 @@ use Rattle.client.specs.declared.Client.{Client}
 use Rattle.client.specs.declared.Started.{Started}
 use Rattle.client.specs.declared.Told.{Told}
 use Rattle.client.specs.Numbers.{saysOf}
-use Rattle.client_start.specs.Start as Code
-use Rattle.client_request.specs.Request as Code₂
-use Rattle.client_record.specs.Record as Code₃
-use Rattle.refinement.specs.Calls.{Call, startSelect, startDeselect, startAttach, startDiscover, startInfo, startErase, startFlash, startReset, startSetBaud, request, record′, linkFailed, Good, Answer, codeAnswer}
+use Rattle.client_start.specs.Start as CodeStart
+use Rattle.client_request.specs.Request as CodeRequest
+use Rattle.client_record.specs.Record as CodeRecord
+use Rattle.refinement.specs.Calls.{Call, startSelect, startDeselect, startAttach, startDiscover, startInfo, startErase}
+use Rattle.refinement.specs.Calls.{startFlash, startReset, startSetBaud, request, record′, linkFailed, Good, Answer}
+use Rattle.refinement.specs.Calls.{codeAnswer}
 use Rattle.host_turn_bytes.specs.TurnBytes.{flagged, loadedInfo}
 use Rattle.host_state.specs.State as State
 use Rattle.host_state.specs.State.{loaded, loadedId, loadedTable}
@@ -26,7 +28,8 @@ use Rattle.host_buffers.specs.Codes.{coded}
 use Rattle.host_buffers.specs.Hosts.{Exported, Requested, toldBy, leaves, handed}
 use Rattle.host_buffers.specs.Exports as Export
 
--- What the types of the arguments give: an image or a record that is lent has a length of 64 bits, and an image and a baud are bytes.
+-- What the types of the arguments give: an image or a record that is lent has a length of 64 bits, and an image and a
+-- baud are bytes.
 abbrev pub Lent : Call → Type 0
 Lent (startSelect bytes bits) = Unit {0}
 Lent startDeselect = Unit {0}
@@ -103,26 +106,26 @@ pub record Made : Type 0 where
 abbrev startedBy : Started → Made
 startedBy s = record { told = toldBy s; buffer = [] }
 
-abbrev askedBy : Code₂.Asking → Made
+abbrev askedBy : CodeRequest.Asking → Made
 askedBy x = record { told = toldBy (x .answer); buffer = x .bytes }
 
 abbrev toldAs : Told → Made
 toldAs t = record { told = t; buffer = [] }
 
 unfoldable pub made : Client → Call → Made
-made c (startSelect bytes bits) = startedBy (Code.startSelect c bytes bits)
-made c startDeselect = startedBy (Code.startDeselect c)
-made c (startAttach none) = startedBy (Code.startAttach c)
-made c (startAttach (some bytes)) = startedBy (Code.startAttachTo c bytes)
-made c (startDiscover given) = startedBy (Code.startDiscover c given)
-made c startInfo = startedBy (Code.startInfo c)
-made c startErase = startedBy (Code.startErase c)
-made c (startFlash image) = startedBy (Code.startFlash c image)
-made c (startReset bootloader inBoot) = startedBy (Code.startReset c bootloader inBoot)
-made c (startSetBaud baud bootloader inBoot) = startedBy (Code.startSetBaud c baud bootloader inBoot)
-made c (request image buffer) = askedBy (Code₂.request c image buffer)
-made c (record′ image bytes) = toldAs (Code₃.record′ c image bytes)
-made c linkFailed = toldAs (Code₃.linkFailed c)
+made c (startSelect bytes bits) = startedBy (CodeStart.startSelect c bytes bits)
+made c startDeselect = startedBy (CodeStart.startDeselect c)
+made c (startAttach none) = startedBy (CodeStart.startAttach c)
+made c (startAttach (some bytes)) = startedBy (CodeStart.startAttachTo c bytes)
+made c (startDiscover given) = startedBy (CodeStart.startDiscover c given)
+made c startInfo = startedBy (CodeStart.startInfo c)
+made c startErase = startedBy (CodeStart.startErase c)
+made c (startFlash image) = startedBy (CodeStart.startFlash c image)
+made c (startReset bootloader inBoot) = startedBy (CodeStart.startReset c bootloader inBoot)
+made c (startSetBaud baud bootloader inBoot) = startedBy (CodeStart.startSetBaud c baud bootloader inBoot)
+made c (request image buffer) = askedBy (CodeRequest.request c image buffer)
+made c (record′ image bytes) = toldAs (CodeRecord.record′ c image bytes)
+made c linkFailed = toldAs (CodeRecord.linkFailed c)
 
 -- An answer in the buffers that are lent: as a call leaves it.
 unfoldable pub held : List ℕ → List ℕ → Made → Requested
@@ -131,11 +134,20 @@ held s a m = handed (leaves (m .told) s a) (m .buffer)
 -- What some calls leave, one after the other, on the state and the client reached so far.
 unfoldable pub heldBy : List ℕ → Client → List Lending → List Requested
 heldBy s c [] = []
-heldBy s c (x ∷ xs) = held s (x .answer) (made c (x .call)) ∷ heldBy (held s (x .answer) (made c (x .call)) .state) (made c (x .call) .told .client) xs
+heldBy s c (x ∷ xs) = held s (x .answer) (made c (x .call))
+    ∷ heldBy (held s (x .answer) (made c (x .call)) .state) (made c (x .call) .told .client) xs
 
 -- An answer read as document 01's, with the seed and the attached id after it.
 unfoldable pub readAs : Made → Answer
-readAs m = codeAnswer (record { says = saysOf (m .told .says) (m .told .progress) (m .told .id) (m .told .found); rest = m .told .rest; buffer = m .buffer }, m .told .client)
+readAs m = codeAnswer (
+  record {
+    says = saysOf (m .told .says) (m .told .progress) (m .told .id)
+        (m .told .found);
+    rest = m .told .rest;
+    buffer = m .buffer;
+  },
+  m .told .client,
+)
 
 -- What a host reads in an answer's bytes.
 unfoldable pub loadedNote : List ℕ → Note
@@ -159,7 +171,8 @@ loadedGain b = record { made = flagged (byte 5 b); done = field 24 8 b; total = 
 unfoldable pub readFrom : Requested → Answer
 readFrom e = codeAnswer (
   record {
-    says = saysOf (saysIn (loadedNote (e .answer))) (progressIn (loadedGain (e .answer))) (loadedId 66 (e .answer)) (loadedTable 83 (e .answer));
+    says = saysOf (saysIn (loadedNote (e .answer))) (progressIn (loadedGain (e .answer))) (loadedId 66 (e .answer))
+        (loadedTable 83 (e .answer));
     rest = field 8 8 (e .answer);
     buffer = e .buffer;
   },

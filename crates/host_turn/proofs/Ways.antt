@@ -1,5 +1,4 @@
 -- The ways through a turn's numbers and back, from the facts that the code has.
--- Assumes nothing.
 use Prim.Native.Nat.{ℕ}
 use mathlib.Core.Bool.{Bool, false}
 use mathlib.Core.Path.{_≡_}
@@ -24,17 +23,34 @@ at-turn t u r e h = rw e h
 
 pub jobless-is : (turn kind search step : ℕ) (given other : Bool) (i : Info) (z : Reset) → i ≡ noInfo
     → _≡_ {A = Flat}
-    (record { turn = turn; kind = kind; search = search; given = given; step = step; other = other; job = 0; purpose = 0; size = 0; info = i; address = 0; offset = 0; retries = 0; reset = z })
+    (record {
+      turn = turn;
+      kind = kind;
+      search = search;
+      given = given;
+      step = step;
+      other = other;
+      job = 0;
+      purpose = 0;
+      size = 0;
+      info = i;
+      address = 0;
+      offset = 0;
+      retries = 0;
+      reset = z;
+    })
     (jobless turn kind search given step other z)
 jobless-is turn kind search step given other i z e = rw e
 
-pub selecting-is : (turn search step : ℕ) (given other : Bool) (z : Reset) (r : Flat) → z ≡ noReset → r ≡ jobless turn 0 search given step other z
+pub selecting-is : (turn search step : ℕ) (given other : Bool) (z : Reset) (r : Flat) → z ≡ noReset
+    → r ≡ jobless turn 0 search given step other z
     → r ≡ selecting turn search given step other
 unfolding selecting
 selecting-is turn search step given other z r e h = rw e at h
 
 -- With no information, and with no reset.
-module _ (turn job purpose size address offset retries p n : ℕ) (i : Info) (z : Reset) (r : Flat) (ep : p ≡ purpose) (en : n ≡ size) where
+module _ (turn job purpose size address offset retries p n : ℕ) (i : Info) (z : Reset) (r : Flat) (ep : p ≡ purpose)
+    (en : n ≡ size) where
   pub demanding-neither : i ≡ noInfo → z ≡ noReset → r ≡ demanding turn job p n i address offset retries z
       → r ≡ demanding turn job purpose size noInfo address offset retries noReset
   demanding-neither ei ez h = rw (ep, en, ei, ez) at h

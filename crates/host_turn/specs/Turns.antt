@@ -1,5 +1,4 @@
 -- A turn as numbers and flags, and the turn of any numbers and flags.
--- Assumes nothing.
 use Prim.Native.Nat.{ℕ, _<_, _^_}
 use mathlib.Core.Bool.{Bool, false, cond}
 use lib.Dec.{eqb}
@@ -20,7 +19,16 @@ use Rattle.client.specs.declared.Turn.the-variants.{Idle, Ready, Waiting}
 use Rattle.host_turn.specs.declared.Flat.{Flat}
 
 unfoldable pub noInfo : Info
-noInfo = record { capacity = 0; «erase_size» = 0; «boot_version» = 0; «app_version» = 0; mode = 0; «boot_baud» = 0; compat = 0; «max_payload» = 0 }
+noInfo = record {
+  capacity = 0;
+  «erase_size» = 0;
+  «boot_version» = 0;
+  «app_version» = 0;
+  mode = 0;
+  «boot_baud» = 0;
+  compat = 0;
+  «max_payload» = 0;
+}
 
 unfoldable pub noReset : Reset
 noReset = record { bootloader = false; given = false; baud = 0 }

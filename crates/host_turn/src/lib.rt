@@ -1,4 +1,5 @@
-// A turn as numbers and flags of fixed widths, and back: any numbers are some turn, and a turn's own numbers are that turn.
+// A turn as numbers and flags of fixed widths, and back: any numbers are some turn, and a turn's own numbers are that
+// turn.
 use client::Job;
 use client::Phase;
 use client::Purpose;
@@ -7,7 +8,9 @@ use client::Search;
 use client::Turn;
 use image::Info;
 ghost use mathlib.Core.Path.{_≡_};
-ghost use Rattle.host_turn.specs.Turns.{noInfo, noReset, jobless, selecting, demanding, leaving, tagOf, sizeOf, walkingOf, searchFlat, jobFlat, phaseFlat, flatOf, purposeOf, stepOf, searchOf, jobOf, phaseOf, turnOf};
+ghost use Rattle.host_turn.specs.Turns.{noInfo, noReset, jobless, selecting, demanding, leaving, tagOf, sizeOf};
+ghost use Rattle.host_turn.specs.Turns.{walkingOf, searchFlat, jobFlat, phaseFlat, flatOf, purposeOf, stepOf};
+ghost use Rattle.host_turn.specs.Turns.{searchOf, jobOf, phaseOf, turnOf};
 
 // What a turn can hold. What a turn does not have is zero.
 pub struct Flat {

@@ -1,5 +1,4 @@
 -- A turn's numbers from their bytes: those that were saved, those of any bytes, and those of bytes that are all zero.
--- Assumes nothing.
 use Prim.Native.Nat.{ℕ, _+_}
 use mathlib.Core.Bool.{Bool, true, false}
 use mathlib.Core.List.{List, [], _∷_}
@@ -13,7 +12,8 @@ use Rattle.image.specs.declared.Info.{Info}
 use Rattle.client.specs.declared.Reset.{Reset}
 use Rattle.host_turn.specs.declared.Flat.{Flat}
 use Rattle.host_turn.specs.Turns.{noInfo, noReset, selecting, InfoFits, FlatFits}
-use Rattle.host_turn_bytes.specs.TurnBytes.{flag, flagged, tags, geometry, savedInfo, savedReset, work, savedFlat, loadedInfo, loadedReset, loadedFlat}
+use Rattle.host_turn_bytes.specs.TurnBytes.{flag, flagged, tags, geometry, savedInfo, savedReset, work, savedFlat}
+use Rattle.host_turn_bytes.specs.TurnBytes.{loadedInfo, loadedReset, loadedFlat}
 use Rattle.host_turn_bytes.proofs.Ways.{geometry-length, info-length, reset-length, work-length}
 
 pub flag-back : (b : Bool) → flagged (flag b) ≡ b
@@ -28,9 +28,11 @@ module _ (at : ℕ) (b : List ℕ) where
   pub info-back : (i : Info) → InfoFits i → take 18 (drop at b) ≡ savedInfo i → loadedInfo at b ≡ i
   unfolding savedInfo geometry loadedInfo
   info-back i h e =
-      let s = spread at b ((1, i .mode ∷ []) ∷ (1, i .«boot_baud» ∷ []) ∷ (4, le 4 (i .compat)) ∷ (2, le 2 (i .«max_payload»)) ∷ []) (geometry i) 10 (geometry-length i)
+      let s = spread at b ((1, i .mode ∷ []) ∷ (1, i .«boot_baud» ∷ []) ∷ (4, le 4 (i .compat))
+      ∷ (2, le 2 (i .«max_payload»)) ∷ []) (geometry i) 10 (geometry-length i)
       (refl, (refl, (le-length 4 (i .compat), (le-length 2 (i .«max_payload»), tt)))) e in
-      let g = spread at b ((2, le 2 (i .«erase_size»)) ∷ (2, le 2 (i .«boot_version»)) ∷ (2, le 2 (i .«app_version»)) ∷ []) (le 4 (i .capacity)) 4 (le-length 4 (i .capacity))
+      let g = spread at b ((2, le 2 (i .«erase_size»)) ∷ (2, le 2 (i .«boot_version»)) ∷ (2, le 2 (i .«app_version»))
+      ∷ []) (le 4 (i .capacity)) 4 (le-length 4 (i .capacity))
       (le-length 2 (i .«erase_size»), (le-length 2 (i .«boot_version»), (le-length 2 (i .«app_version»), tt))) (s .0) in
       rw (
         field-at at 4 (i .capacity) b (h .capacity) (g .0),
@@ -92,7 +94,8 @@ module _ (at : ℕ) (b : List ℕ) where
   flat-back f h e =
       let s = spread at b ((8, le 8 (f .size)) ∷ (18, savedInfo (f .info)) ∷ (16, work f) ∷ []) (tags f) 8 refl
       (le-length 8 (f .size), (info-length (f .info), (work-length f, tt))) e in
-      let w = spread (at + 34) b ((8, le 8 (f .offset)) ∷ (1, f .retries ∷ []) ∷ (3, savedReset (f .reset)) ∷ []) (le 4 (f .address)) 4 (le-length 4 (f .address))
+      let w = spread (at + 34) b ((8, le 8 (f .offset)) ∷ (1, f .retries ∷ []) ∷ (3, savedReset (f .reset)) ∷ [])
+      (le 4 (f .address)) 4 (le-length 4 (f .address))
       (le-length 8 (f .offset), (refl, (reset-length (f .reset), tt))) (s .1 .1 .1 .0) in
       rw (
         byte-at at 8 (tags f) b (omega arith) (s .0),

@@ -1,5 +1,4 @@
 -- A turn's numbers as 50 bytes: each in its width, lowest byte first; and the numbers that bytes hold from a place on.
--- Assumes nothing.
 use Prim.Native.Nat.{ℕ, _+_}
 use mathlib.Core.Bool.{Bool, cond}
 use mathlib.Core.List.{List, [], _∷_, _++_}
@@ -47,7 +46,12 @@ loadedInfo at b = record {
 }
 
 unfoldable pub loadedReset : ℕ → List ℕ → Reset
-loadedReset at b = record { bootloader = flagged (byte at b); given = flagged (byte (at + 1) b); baud = byte (at + 2) b }
+loadedReset at b = record {
+  bootloader = flagged (byte at b);
+  given = flagged (byte (at + 1) b);
+  baud = byte
+      (at + 2) b;
+}
 
 unfoldable pub loadedFlat : ℕ → List ℕ → Flat
 loadedFlat at b = record {

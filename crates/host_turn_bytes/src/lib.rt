@@ -6,7 +6,8 @@ ghost use mathlib.Core.Path.{_≡_};
 ghost use mathlib.Core.List.{_++_};
 ghost use Prim.Native.Nat.{_+_, _≤_};
 ghost use lib.ListN.{length, take, drop};
-ghost use Rattle.host_turn_bytes.specs.TurnBytes.{flag, tags, geometry, savedInfo, savedReset, work, savedFlat, loadedInfo, loadedReset, loadedFlat};
+ghost use Rattle.host_turn_bytes.specs.TurnBytes.{flag, tags, geometry, savedInfo, savedReset, work, savedFlat};
+ghost use Rattle.host_turn_bytes.specs.TurnBytes.{loadedInfo, loadedReset, loadedFlat};
 
 pub fn flag(b: bool) -> u8
     ensures { λ r. ⌜ r ≡ flag b ⌝ }
@@ -67,7 +68,8 @@ pub fn load_flat(bytes: &[u8], at: usize) -> Flat
 
 fn save_tags(bytes: &mut [u8], at: usize, f: Flat)
     requires { ⌜ at + 8 ≤ length (now bytes) ⌝ }
-    ensures { λ _. ⌜ now (bytes .exit) ≡ take at (now (bytes .entry)) ++ tags f ++ drop (at + 8) (now (bytes .entry)) ⌝ }
+    ensures { λ _. ⌜ now (bytes .exit)
+        ≡ take at (now (bytes .entry)) ++ tags f ++ drop (at + 8) (now (bytes .entry)) ⌝ }
 {
     let given = flag(f.given);
     let other = flag(f.other);
@@ -87,7 +89,8 @@ fn save_tags(bytes: &mut [u8], at: usize, f: Flat)
 // The capacity, the erase size and the versions.
 fn save_geometry(bytes: &mut [u8], at: usize, i: Info)
     requires { ⌜ at + 10 ≤ length (now bytes) ⌝ }
-    ensures { λ _. ⌜ now (bytes .exit) ≡ take at (now (bytes .entry)) ++ geometry i ++ drop (at + 10) (now (bytes .entry)) ⌝ }
+    ensures { λ _. ⌜ now (bytes .exit)
+        ≡ take at (now (bytes .entry)) ++ geometry i ++ drop (at + 10) (now (bytes .entry)) ⌝ }
 {
     wire::put32(bytes, at, i.capacity);
     wire::put16(bytes, at + 4, i.erase_size);
@@ -97,7 +100,8 @@ fn save_geometry(bytes: &mut [u8], at: usize, i: Info)
 
 pub fn save_info(bytes: &mut [u8], at: usize, i: Info)
     requires { ⌜ at + 18 ≤ length (now bytes) ⌝ }
-    ensures { λ _. ⌜ now (bytes .exit) ≡ take at (now (bytes .entry)) ++ savedInfo i ++ drop (at + 18) (now (bytes .entry)) ⌝ }
+    ensures { λ _. ⌜ now (bytes .exit)
+        ≡ take at (now (bytes .entry)) ++ savedInfo i ++ drop (at + 18) (now (bytes .entry)) ⌝ }
 {
     save_geometry(bytes, at, i);
     wire::put8(bytes, at + 10, i.mode);
@@ -108,7 +112,8 @@ pub fn save_info(bytes: &mut [u8], at: usize, i: Info)
 
 fn save_reset(bytes: &mut [u8], at: usize, z: Reset)
     requires { ⌜ at + 3 ≤ length (now bytes) ⌝ }
-    ensures { λ _. ⌜ now (bytes .exit) ≡ take at (now (bytes .entry)) ++ savedReset z ++ drop (at + 3) (now (bytes .entry)) ⌝ }
+    ensures { λ _. ⌜ now (bytes .exit)
+        ≡ take at (now (bytes .entry)) ++ savedReset z ++ drop (at + 3) (now (bytes .entry)) ⌝ }
 {
     wire::put8(bytes, at, flag(z.bootloader));
     wire::put8(bytes, at + 1, flag(z.given));
@@ -118,7 +123,8 @@ fn save_reset(bytes: &mut [u8], at: usize, z: Reset)
 // Where an erase, a write or a reset stands.
 fn save_work(bytes: &mut [u8], at: usize, f: Flat)
     requires { ⌜ at + 16 ≤ length (now bytes) ⌝ }
-    ensures { λ _. ⌜ now (bytes .exit) ≡ take at (now (bytes .entry)) ++ work f ++ drop (at + 16) (now (bytes .entry)) ⌝ }
+    ensures { λ _. ⌜ now (bytes .exit)
+        ≡ take at (now (bytes .entry)) ++ work f ++ drop (at + 16) (now (bytes .entry)) ⌝ }
 {
     let reset = f.reset;
     wire::put32(bytes, at, f.address);
@@ -129,7 +135,8 @@ fn save_work(bytes: &mut [u8], at: usize, f: Flat)
 
 pub fn save_flat(bytes: &mut [u8], at: usize, f: Flat)
     requires { ⌜ at + 50 ≤ length (now bytes) ⌝ }
-    ensures { λ _. ⌜ now (bytes .exit) ≡ take at (now (bytes .entry)) ++ savedFlat f ++ drop (at + 50) (now (bytes .entry)) ⌝ }
+    ensures { λ _. ⌜ now (bytes .exit)
+        ≡ take at (now (bytes .entry)) ++ savedFlat f ++ drop (at + 50) (now (bytes .entry)) ⌝ }
 {
     let info = f.info;
     save_tags(bytes, at, f);

@@ -1,5 +1,4 @@
 -- What meets the premises: each theorem with a premise, applied to values that meet it.
--- Assumes nothing.
 use mathlib.Core.Bool.{true, false}
 use mathlib.Core.List.{[], _∷_}
 use mathlib.Core.Path.{_≡_}
@@ -15,4 +14,8 @@ set-same-met = set-same (0xC1 ∷ 0x01 ∷ []) 10 (omega arith)
 
 pub set-other-met : (bit (0xC1 ∷ 0x05 ∷ []) 8 ≡ true) × (bit (0xC1 ∷ 0x05 ∷ []) 9 ≡ false)
 unfolding setBit bit
-set-other-met = (set-other (0xC1 ∷ 0x01 ∷ []) 10 8 (λ e. absurd (omega arith)), set-other (0xC1 ∷ 0x01 ∷ []) 10 9 (λ e. absurd (omega arith)))
+set-other-met = (
+  set-other (0xC1 ∷ 0x01 ∷ []) 10 8 (λ e. absurd (omega arith)),
+  set-other (0xC1 ∷ 0x01 ∷ []) 10 9
+      (λ e. absurd (omega arith)),
+)

@@ -1,5 +1,4 @@
 -- A bit after one was set: the one that was set, and every other. The id of an id's value, and its bytes there.
--- Assumes nothing.
 use Prim.Native.Nat.{ℕ, suc, _+_, _*_, _/_, _%_, _^_, _-_, _<_, _≤_}
 use mathlib.Core.Bool.{true}
 use mathlib.Core.List.{List}
@@ -32,7 +31,8 @@ module _ (x j : ℕ) where
 
 -- A bit below j is one of the rest by 2 ^ j.
 bit-of-rest : (n k d : ℕ) → bitOf n k ≡ bitOf (n % 2 ^ (suc d + k)) k
-bit-of-rest n k d = sym (ap (λ (m : ℕ). m % 2) (field n (suc d) k) ∙ ap (λ (e : ℕ). n / 2 ^ k % 2 ^ e % 2) (split d) ∙ mod-mod-pow (n / 2 ^ k) d 1)
+bit-of-rest n k d = sym (ap (λ (m : ℕ). m % 2) (field n (suc d) k) ∙ ap (λ (e : ℕ). n / 2 ^ k % 2 ^ e % 2) (split d)
+    ∙ mod-mod-pow (n / 2 ^ k) d 1)
   where
     split : (d : ℕ) → suc d ≡ d + 1
     split d = omega arith
@@ -59,7 +59,8 @@ module _ (x j k : ℕ) where
   higher : j < k → bitOf (withOne x j) k ≡ bitOf x k
   higher h =
       ap (λ (m : ℕ). m % 2)
-      (at (withOne x j) ∙ ap (λ (m : ℕ). m / 2 / 2 ^ d) (top x j) ∙ ap (λ (m : ℕ). m / 2 ^ d) (half (x / 2 ^ j / 2)) ∙ sym (at x))
+      (at (withOne x j) ∙ ap (λ (m : ℕ). m / 2 / 2 ^ d) (top x j) ∙ ap (λ (m : ℕ). m / 2 ^ d) (half (x / 2 ^ j / 2))
+      ∙ sym (at x))
     where
       d : ℕ
       d = k - j - 1
@@ -83,12 +84,14 @@ module _ (x j k : ℕ) where
 pub set-same : (bytes : List ℕ) (k : ℕ) → k < 8 * length bytes → bit (setBit bytes k) k ≡ true
 unfolding bit setBit
 set-same bytes k h =
-    ap (λ (x : ℕ). eqb (bitOf x (k % 8)) 1) (getD-set-same bytes (k / 8) (withOne (getD bytes (k / 8) 0) (k % 8)) 0 (omega arith))
+    ap (λ (x : ℕ). eqb (bitOf x (k % 8)) 1)
+    (getD-set-same bytes (k / 8) (withOne (getD bytes (k / 8) 0) (k % 8)) 0 (omega arith))
     ∙ eq-eqb (bitOf (withOne (getD bytes (k / 8) 0) (k % 8)) (k % 8)) 1 (one-same (getD bytes (k / 8) 0) (k % 8))
 
 pub set-other : (bytes : List ℕ) (k j : ℕ) → j ≢ k → bit (setBit bytes k) j ≡ bit bytes j
 unfolding bit setBit
-set-other bytes k j n = ap (λ (x : ℕ). eqb x 1) (go (decLt (k / 8) (length bytes)) (decLt (j / 8) (k / 8)) (decLt (k / 8) (j / 8)))
+set-other bytes k j n = ap (λ (x : ℕ). eqb x 1)
+    (go (decLt (k / 8) (length bytes)) (decLt (j / 8) (k / 8)) (decLt (k / 8) (j / 8)))
   where
     v : ℕ
     v = withOne (getD bytes (k / 8) 0) (k % 8)
@@ -96,7 +99,8 @@ set-other bytes k j n = ap (λ (x : ℕ). eqb x 1) (go (decLt (k / 8) (length by
     other : j / 8 ≢ k / 8 → bitOf (getD (set bytes (k / 8) v) (j / 8) 0) (j % 8) ≡ bitOf (getD bytes (j / 8) 0) (j % 8)
     other m = ap (λ (x : ℕ). bitOf x (j % 8)) (getD-set-other bytes (k / 8) (j / 8) v 0 m)
 
-    go : Dec (k / 8 < length bytes) → Dec (j / 8 < k / 8) → Dec (k / 8 < j / 8) → bitOf (getD (set bytes (k / 8) v) (j / 8) 0) (j % 8) ≡ bitOf (getD bytes (j / 8) 0) (j % 8)
+    go : Dec (k / 8 < length bytes) → Dec (j / 8 < k / 8) → Dec (k / 8 < j / 8)
+        → bitOf (getD (set bytes (k / 8) v) (j / 8) 0) (j % 8) ≡ bitOf (getD bytes (j / 8) 0) (j % 8)
     go (no out) a b = ap (λ (l : List ℕ). bitOf (getD l (j / 8) 0) (j % 8)) (set-out bytes (k / 8) v (omega arith))
     go (yes h) (yes a) b = other (λ e. omega arith)
     go (yes h) (no a) (yes b) = other (λ e. omega arith)

@@ -1,5 +1,4 @@
 -- Bits packed in bytes: one bit more that is set.
--- Assumes nothing.
 use Prim.Native.Nat.{ℕ, zero, suc, _+_, _-_, _*_, _/_, _%_, _^_, _<_, _≤_}
 use mathlib.Core.Bool.{Bool, true}
 use mathlib.Core.List.{List, [], _∷_}
@@ -14,7 +13,9 @@ use Rattle.paper.proofs.Packed.{binary-below, binary-more, packed-short, more-s
 use Rattle.ids.specs.Ids.{withOne, setBit}
 
 binary-one : (q : List Bool) → binary (q ▹ true) ≡ withOne (binary q) (length q)
-binary-one q = binary-more q true ∙ put (binary q / 2 ^ length q) (binary q % 2 ^ length q) (div-eq-of-lt (binary-below q)) (mod-eq-of-lt (binary-below q))
+binary-one q = binary-more q true
+    ∙ put (binary q / 2 ^ length q) (binary q % 2 ^ length q) (div-eq-of-lt (binary-below q))
+    (mod-eq-of-lt (binary-below q))
   where
     put : (d m : ℕ) → d ≡ 0 → m ≡ binary q → binary q + 1 * 2 ^ length q ≡ (d / 2 * 2 + 1) * 2 ^ length q + m
     put d m e f = rw (e, f) (omega arith)
@@ -35,7 +36,8 @@ unfolding packed
 pack-one zero q l = absurd (omega arith)
 pack-one (suc n) q l = go (λ h. pack-one n (drop 8 q) (omega (arith, length-drop 8 q))) (decLt (length q) 8)
   where
-    go : (8 ≤ length q → packed n (drop 8 q ▹ true) ≡ setBit (packed n (drop 8 q)) (length (drop 8 q))) → Dec (length q < 8) → packed (suc n) (q ▹ true) ≡ setBit (packed (suc n) q) (length q)
+    go : (8 ≤ length q → packed n (drop 8 q ▹ true) ≡ setBit (packed n (drop 8 q)) (length (drop 8 q)))
+        → Dec (length q < 8) → packed (suc n) (q ▹ true) ≡ setBit (packed (suc n) q) (length q)
     go ih (yes h) =
         more-short n q true h
         ∙ ap (λ (x : ℕ). x ∷ packed n []) (binary-one q)
@@ -43,5 +45,6 @@ pack-one (suc n) q l = go (λ h. pack-one n (drop 8 q) (omega (arith, length-dro
         ∙ ap (λ (l : List ℕ). setBit l (length q)) (sym (packed-short n q (omega arith)))
     go ih (no h) =
         more-long n q true (omega arith)
-        ∙ ap (λ (l : List ℕ). binary (take 8 q) ∷ l) (ih (omega arith) ∙ ap (setBit (packed n (drop 8 q))) (length-drop 8 q))
+        ∙ ap (λ (l : List ℕ). binary (take 8 q) ∷ l)
+        (ih (omega arith) ∙ ap (setBit (packed n (drop 8 q))) (length-drop 8 q))
         ∙ sym (set-long (binary (take 8 q)) (packed n (drop 8 q)) (length q) (omega arith))

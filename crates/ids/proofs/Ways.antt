@@ -1,5 +1,4 @@
 -- The ways through the functions on ids, from the facts that the code has.
--- Assumes nothing.
 use Prim.Native.Nat.{ℕ, suc, _+_, _*_, _-_, _/_, _%_, _<_, _≤_}
 use mathlib.Core.Bool.{Bool, true, false}
 use mathlib.Core.List.{List, [], _∷_, _++_}
@@ -42,11 +41,13 @@ module _ (x : List ℕ) (len n k : ℕ) (xe : n ≡ length (take len x)) where
   pub bit-out : 8 * n ≤ k → false ≡ getD (bitsOf (take len x)) k false
   bit-out h = sym (List·getD-eq-default (bitsOf (take len x)) false {n = k} (omega (arith, bits-length (take len x))))
 
-pub id-is : (id out : List ℕ) (i : ℕ) → i ≡ length id → out ≡ id ++ drop (length id) (replicate 16 0) → record { bytes = out; len = i } ≡ idFrom id
+pub id-is : (id out : List ℕ) (i : ℕ) → i ≡ length id → out ≡ id ++ drop (length id) (replicate 16 0)
+    → record { bytes = out; len = i } ≡ idFrom id
 unfolding idFrom
 id-is id out i e f = rw (e, f, drop-replicate {A = ℕ} 16 0 (length id))
 
-pub copied : (id out : List ℕ) (i : ℕ) → i ≤ length id → length id ≤ i → out ≡ take i id ++ drop i (replicate 16 0) → record { bytes = out; len = i } ≡ idFrom id
+pub copied : (id out : List ℕ) (i : ℕ) → i ≤ length id → length id ≤ i → out ≡ take i id ++ drop i (replicate 16 0)
+    → record { bytes = out; len = i } ≡ idFrom id
 copied id out i h g e = id-is id out i (omega arith) (copy-done id (replicate 16 0) out i e h g)
 
 -- As much of the bytes as the id has is the id.
@@ -58,18 +59,22 @@ sized bytes len n e = go (decLt len (length bytes))
     go (no h) = take-all n bytes (omega (arith, length-take len bytes)) ∙ sym (take-all len bytes (omega arith))
 
 -- The bytes from k on, the first of them by itself.
-at : (xb : List ℕ) (n k : ℕ) → n ≤ 16 → length xb ≡ 16 → k < n → drop k (take n xb) ≡ getD xb k 0 ∷ drop (k + 1) (take n xb)
+at : (xb : List ℕ) (n k : ℕ) → n ≤ 16 → length xb ≡ 16 → k < n
+    → drop k (take n xb) ≡ getD xb k 0 ∷ drop (k + 1) (take n xb)
 at xb n k le long h =
     rw (add-one k)
-    (drop-cons (take n xb) k 0 (omega (arith, length-take n xb)) ∙ ap (λ (v : ℕ). v ∷ drop (suc k) (take n xb)) (getD-take n xb k 0 h))
+    (drop-cons (take n xb) k 0 (omega (arith, length-take n xb))
+    ∙ ap (λ (v : ℕ). v ∷ drop (suc k) (take n xb)) (getD-take n xb k 0 h))
 
 over : (xb : List ℕ) (n k : ℕ) → n ≤ k → drop k (take n xb) ≡ []
 over xb n k h = drop-of-length-le (take n xb) {i = k} (omega (arith, length-take n xb))
 
 -- Two ids compared from byte k on.
-module _ (xb yb : List ℕ) (n m k : ℕ) (xlong : length xb ≡ 16) (ylong : length yb ≡ 16) (xn : n ≤ 16) (ym : m ≤ 16) where
+module _ (xb yb : List ℕ) (n m k : ℕ) (xlong : length xb ≡ 16) (ylong : length yb ≡ 16) (xn : n ≤ 16)
+    (ym : m ≤ 16) where
   module _ (q : sameId (drop k (take n xb)) (drop k (take m yb)) ≡ sameId (take n xb) (take m yb)) where
-    pub same-again : k < n → k < m → getD xb k 0 ≡ getD yb k 0 → sameId (drop (k + 1) (take n xb)) (drop (k + 1) (take m yb)) ≡ sameId (take n xb) (take m yb)
+    pub same-again : k < n → k < m → getD xb k 0 ≡ getD yb k 0
+        → sameId (drop (k + 1) (take n xb)) (drop (k + 1) (take m yb)) ≡ sameId (take n xb) (take m yb)
     unfolding sameId
     same-again h g e = rw (at xb n k xn xlong h, at yb m k ym ylong g, eq-eqb (getD xb k 0) (getD yb k 0) e) at q
 
@@ -94,9 +99,16 @@ module _ (xb yb : List ℕ) (n m k : ℕ) (xlong : length xb ≡ 16) (ylong : le
       same-not h g e = rw (at xb n k xn xlong h, at yb m k ym ylong g, ne-eqb (getD xb k 0) (getD yb k 0) e) at whole
 
   module _ (q : before (drop k (take n xb)) (drop k (take m yb)) ≡ before (take n xb) (take m yb)) where
-    pub before-again : k < n → k < m → getD yb k 0 ≤ getD xb k 0 → getD xb k 0 ≤ getD yb k 0 → before (drop (k + 1) (take n xb)) (drop (k + 1) (take m yb)) ≡ before (take n xb) (take m yb)
+    pub before-again : k < n → k < m → getD yb k 0 ≤ getD xb k 0 → getD xb k 0 ≤ getD yb k 0
+        → before (drop (k + 1) (take n xb)) (drop (k + 1) (take m yb)) ≡ before (take n xb) (take m yb)
     unfolding before
-    before-again h g le ge = rw (at xb n k xn xlong h, at yb m k ym ylong g, eq-eqb (getD xb k 0) (getD yb k 0) (omega arith), le-ltb (getD xb k 0) (getD yb k 0) le) at q
+    before-again h g le ge = rw (
+      at xb n k xn xlong h,
+      at yb m k ym ylong g,
+      eq-eqb (getD xb k 0) (getD yb k 0)
+          (omega arith),
+      le-ltb (getD xb k 0) (getD yb k 0) le,
+    ) at q
 
     module _ (xl yl : ℕ) (xe : n ≡ length (take xl xb)) (ye : m ≡ length (take yl yb)) where
       all : before (drop k (take n xb)) (drop k (take m yb)) ≡ before (take xl xb) (take yl yb)
@@ -116,4 +128,10 @@ module _ (xb yb : List ℕ) (n m k : ℕ) (xlong : length xb ≡ 16) (ylong : le
 
       pub before-no : k < n → k < m → getD yb k 0 < getD xb k 0 → false ≡ before (take xl xb) (take yl yb)
       unfolding before
-      before-no h g e = rw (at xb n k xn xlong h, at yb m k ym ylong g, le-ltb (getD xb k 0) (getD yb k 0) (omega arith), ne-eqb (getD xb k 0) (getD yb k 0) (λ z. omega arith)) at all
+      before-no h g e = rw (
+        at xb n k xn xlong h,
+        at yb m k ym ylong g,
+        le-ltb (getD xb k 0) (getD yb k 0)
+            (omega arith),
+        ne-eqb (getD xb k 0) (getD yb k 0) (λ z. omega arith),
+      ) at all

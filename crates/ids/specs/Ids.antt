@@ -1,5 +1,4 @@
 -- Bits of bytes as numbers, and the id that a value holds.
--- Assumes nothing.
 use Prim.Native.Nat.{ℕ, _+_, _-_, _*_, _/_, _%_, _^_}
 use mathlib.Core.List.{List, _++_}
 use lib.ListN.{length, getD, take, set, replicate}

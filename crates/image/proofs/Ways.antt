@@ -1,5 +1,4 @@
 -- The ways through the rules on device information and images, from the facts that the code has.
--- Assumes nothing.
 use Prim.Native.Nat.{ℕ, _+_, _-_, _*_, _/_, _%_, _^_, _<_, _≤_}
 use mathlib.Core.Bool.{Bool, true, false, not}
 use mathlib.Core.List.{List}
@@ -37,12 +36,14 @@ module _ (i : Paper.Info) where
 
   pub no-span : i .eraseSize ≡ 0 → false ≡ spansTooFar i
   unfolding spansTooFar
-  no-span h = sym (le-ltb 0xFFFFFFFF (steps (i .eraseSize) (i .capacity) * i .eraseSize) (rw h (none (steps 0 (i .capacity)))))
+  no-span h = sym (le-ltb 0xFFFFFFFF (steps (i .eraseSize) (i .capacity) * i .eraseSize)
+      (rw h (none (steps 0 (i .capacity)))))
     where
       none : (n : ℕ) → n * 0 ≤ 0xFFFFFFFF
       none n = omega arith
 
-  pub span : (r : Bool) → r ≡ ltb 0xFFFFFFFF ((i .capacity + (i .eraseSize - 1)) / i .eraseSize * i .eraseSize) → r ≡ spansTooFar i
+  pub span : (r : Bool) → r ≡ ltb 0xFFFFFFFF ((i .capacity + (i .eraseSize - 1)) / i .eraseSize * i .eraseSize)
+      → r ≡ spansTooFar i
   unfolding spansTooFar steps
   span r e = e
 
@@ -58,20 +59,39 @@ module _ (i : Paper.Info) (a : ℕ) where
   module _ (h : i .eraseSize ≡ 0 → ⊥) where
     pub next-erase : (n : ℕ) → n ≡ a + i .eraseSize → n < i .capacity → At n ≡ eraseAfter i a
     unfolding eraseAfter
-    next-erase n e k = rw (e, below-cons (i .eraseSize) (i .capacity) a (omega arith) (omega arith), below-cons (i .eraseSize) (i .capacity) (a + i .eraseSize) (omega arith) (omega arith))
+    next-erase n e k = rw (
+      e,
+      below-cons (i .eraseSize) (i .capacity) a (omega arith) (omega arith),
+      below-cons
+          (i .eraseSize) (i .capacity) (a + i .eraseSize) (omega arith) (omega arith),
+    )
 
     pub last-erase : i .capacity ≤ a + i .eraseSize → Done ≡ eraseAfter i a
     unfolding eraseAfter
     last-erase k = go (decLt a (i .capacity))
       where
         go : Dec (a < i .capacity) → Done ≡ eraseAfter i a
-        go (yes l) = rw (below-cons (i .eraseSize) (i .capacity) a (omega arith) l, below-nil (i .eraseSize) (i .capacity) (a + i .eraseSize) k)
+        go (yes l) = rw (
+          below-cons (i .eraseSize) (i .capacity) a (omega arith) l,
+          below-nil (i .eraseSize)
+              (i .capacity) (a + i .eraseSize) k,
+        )
         go (no l) = rw (below-nil (i .eraseSize) (i .capacity) a (omega arith))
 
 module _ (p : List ℕ) where
-  pub fields-are : (c e b a m u k x : ℕ) → c ≡ field 0 4 p → e ≡ field 4 2 p → b ≡ field 6 2 p → a ≡ field 8 2 p → m ≡ getD p 10 0 → u ≡ getD p 11 0
+  pub fields-are : (c e b a m u k x : ℕ) → c ≡ field 0 4 p → e ≡ field 4 2 p → b ≡ field 6 2 p → a ≡ field 8 2 p
+      → m ≡ getD p 10 0 → u ≡ getD p 11 0
       → k ≡ field 12 4 p → x ≡ field 16 2 p
-      → _≡_ {A = Info} (record { capacity = c; «erase_size» = e; «boot_version» = b; «app_version» = a; mode = m; «boot_baud» = u; compat = k; «max_payload» = x }) (infoOf p)
+      → _≡_ {A = Info} (record {
+        capacity = c;
+        «erase_size» = e;
+        «boot_version» = b;
+        «app_version» = a;
+        mode = m;
+        «boot_baud» = u;
+        compat = k;
+        «max_payload» = x;
+      }) (infoOf p)
   unfolding infoOf Paper.infoOf
   fields-are c e b a m u k x ec ee eb ea em eu ek ex = rw (ec, ee, eb, ea, em, eu, ek, ex)
 
@@ -97,7 +117,8 @@ module _ (image : List ℕ) where
   unfolding key
   key-short h = rw (lt-leb 6 (length image) h)
 
-  pub key-here : (k : ℕ) → 6 ≤ length image → length image % 4 ≡ 2 → k ≡ field (length image - 6) 4 image → Key k ≡ shownKey (key image)
+  pub key-here : (k : ℕ) → 6 ≤ length image → length image % 4 ≡ 2 → k ≡ field (length image - 6) 4 image
+      → Key k ≡ shownKey (key image)
   unfolding key
   key-here k h m e = rw (le-leb 6 (length image) h, eq-eqb (length image % 4) 2 m, e)
 

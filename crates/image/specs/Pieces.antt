@@ -1,5 +1,4 @@
 -- The parts of an image that Writes carry.
--- Assumes nothing.
 use Prim.Native.Nat.{ℕ, _+_, _-_, _/_}
 use mathlib.Core.Bool.{Bool, cond}
 use mathlib.Core.List.{List}

@@ -1,9 +1,11 @@
 // The device information and the rules on images: key, chunk, padding, size, erase addresses.
 pub mod writes;
+
 ghost use mathlib.Core.Path.{_≡_};
 ghost use Prim.Native.Nat.{_+_, _≤_};
 ghost use lib.ListN.{length};
-ghost use Rattle.paper.specs.Answers.{sound, informed, spansTooFar, tooLarge, reported, key, incompatible, chunk, padding};
+ghost use Rattle.paper.specs.Answers.{sound, informed, spansTooFar, tooLarge, reported, key, incompatible, chunk};
+ghost use Rattle.paper.specs.Answers.{padding};
 ghost use Rattle.image.specs.Images.{infoOf, shownInfo, paperInfo, shownKey, eraseAfter};
 
 // Device geometry from an Info response.

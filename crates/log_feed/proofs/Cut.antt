@@ -1,5 +1,4 @@
 -- Reading a piece up to a line's end, and on from there, is reading it byte by byte.
--- Assumes nothing.
 use Prim.Native.Nat.{ℕ, suc, _+_, _-_, _<_, _≤_}
 use mathlib.Core.Bool.{Bool, true, false, _||_, not, false≢true}
 use mathlib.Core.List.{List, [], _∷_}
@@ -28,7 +27,8 @@ abbrev on : Replay → Read → Logged
 on v f = record { log = met v (f .fed .reader) (f .fed .event) (f .bytes); bytes = f .bytes }
 
 -- An ended log stays as it is.
-pub still : (r : Reader) (v : Replay) (buf : List ℕ) → isEnded (v .stage) ≡ true → (xs : List ℕ) → piece (at r v buf) xs ≡ at r v buf
+pub still : (r : Reader) (v : Replay) (buf : List ℕ) → isEnded (v .stage) ≡ true → (xs : List ℕ)
+    → piece (at r v buf) xs ≡ at r v buf
 unfolding piece byte
 still r v buf e [] = refl
 still r v buf e (b ∷ bs) = ap (λ (s : Logged). piece s bs) kept ∙ still r v buf e bs
@@ -46,12 +46,14 @@ record Cut (xs : List ℕ) (i : ℕ) (r : Reader) (v : Replay) (buf : List ℕ) 
   some : more (feed (joins (v .stage)) i r buf xs .fed .event) ≡ false → 0 < k
 
 -- After a character that reading goes on after, the log has the reader, and nothing else has changed.
-passed : (v : Replay) (r : Reader) (buf : List ℕ) → isEnded (v .stage) ≡ false → (e : Event) → halts e (joins (v .stage)) (r .over) ≡ false → met v r e buf ≡ logOf r v
+passed : (v : Replay) (r : Reader) (buf : List ℕ) → isEnded (v .stage) ≡ false → (e : Event)
+    → halts e (joins (v .stage)) (r .over) ≡ false → met v r e buf ≡ logOf r v
 unfolding met lined
 passed v r buf run More h = refl
 passed v r buf run Line h = go (v .stage) refl (r .over) refl h
   where
-    go : (s : Stage) → v .stage ≡ s → (o : Bool) → r .over ≡ o → (o || not (joins s)) ≡ false → lined v r buf ≡ logOf r v
+    go : (s : Stage) → v .stage ≡ s → (o : Bool) → r .over ≡ o → (o || not (joins s)) ≡ false
+        → lined v r buf ≡ logOf r v
     go First es o eo h = absurd (never o h)
       where
         never : (o : Bool) → (o || true) ≡ false → ⊥
@@ -90,7 +92,8 @@ module _ (v : Replay) (run : isEnded (v .stage) ≡ false) (b : ℕ) (bs : List 
     place = ap (λ (f : Read). f .fed .at) f;
     inside = omega arith;
     same = ap (λ (l : Logged). piece l bs) running ∙ sym (ap (λ (f : Read). piece (on v f) bs) f);
-    all = λ m. absurd (no-more (s .step .event) j (s .step .reader .over) q (sym (ap (λ (f : Read). more (f .fed .event)) f) ∙ m));
+    all = λ m. absurd (no-more (s .step .event) j (s .step .reader .over) q
+        (sym (ap (λ (f : Read). more (f .fed .event)) f) ∙ m));
     some = λ m. omega arith;
   }
     where
@@ -104,7 +107,9 @@ module _ (v : Replay) (run : isEnded (v .stage) ≡ false) (b : ℕ) (bs : List 
     place = ap (λ (f : Read). f .fed .at) f ∙ omega (arith, c .place);
     inside = omega (arith, c .inside);
     same =
-        ap (λ (l : Logged). piece l bs) (running ∙ ap (λ (w : Log). record { log = w; bytes = s .bytes }) (passed v (s .step .reader) (s .bytes) run (s .step .event) q))
+        ap (λ (l : Logged). piece l bs)
+        (running ∙ ap (λ (w : Log). record { log = w; bytes = s .bytes })
+        (passed v (s .step .reader) (s .bytes) run (s .step .event) q))
         ∙ c .same ∙ sym (ap (λ (f : Read). piece (on v f) (drop (c .k) bs)) f);
     all = λ m. ap suc (c .all (sym (ap (λ (f : Read). more (f .fed .event)) f) ∙ m));
     some = λ m. omega arith;
@@ -115,23 +120,42 @@ module _ (v : Replay) (run : isEnded (v .stage) ≡ false) (b : ℕ) (bs : List 
 
 cut : (xs : List ℕ) (i : ℕ) (r : Reader) (v : Replay) (buf : List ℕ) → isEnded (v .stage) ≡ false → Cut xs i r v buf
 unfolding feed piece met
-cut [] i r v buf run = record { k = 0; place = omega arith; inside = omega arith; same = refl; all = λ m. refl; some = λ m. absurd (false≢true (sym m)) }
-cut (b ∷ bs) i r v buf run = go (cut bs (i + 1) (step r buf b .step .reader) v (step r buf b .bytes) run) (halts (step r buf b .step .event) (joins (v .stage)) (step r buf b .step .reader .over)) refl
+cut [] i r v buf run = record {
+  k = 0;
+  place = omega arith;
+  inside = omega arith;
+  same = refl;
+  all = λ m. refl;
+  some = λ m. absurd (false≢true (sym m));
+}
+cut (b ∷ bs) i r v buf run = go (cut bs (i + 1) (step r buf b .step .reader) v (step r buf b .bytes) run)
+    (halts (step r buf b .step .event) (joins (v .stage)) (step r buf b .step .reader .over)) refl
   where
-    go : Cut bs (i + 1) (step r buf b .step .reader) v (step r buf b .bytes) → (h : Bool) → halts (step r buf b .step .event) (joins (v .stage)) (step r buf b .step .reader .over) ≡ h → Cut (b ∷ bs) i r v buf
+    go : Cut bs (i + 1) (step r buf b .step .reader) v (step r buf b .bytes) → (h : Bool)
+        → halts (step r buf b .step .event) (joins (v .stage)) (step r buf b .step .reader .over) ≡ h
+        → Cut (b ∷ bs) i r v buf
     go c true q = stopped v run b bs i r buf q
     go c false q = onto v run b bs i r buf q c
 
 -- A stretch from a place on, and what is left to do after it.
 record Onward (xs : List ℕ) (i : ℕ) (w : Log) (buf : List ℕ) (s : Spanned) : Type 0 where
   within : s .span .at ≤ length xs
-  same : piece (record { log = s .span .log; bytes = s .bytes }) (drop (s .span .at) xs) ≡ piece (record { log = w; bytes = buf }) (drop i xs)
-  all : s .span .done ≡ true → record { log = s .span .log; bytes = s .bytes } ≡ piece (record { log = w; bytes = buf }) (drop i xs)
+  same : piece (record { log = s .span .log; bytes = s .bytes }) (drop (s .span .at) xs)
+      ≡ piece (record { log = w; bytes = buf }) (drop i xs)
+  all : s .span .done ≡ true → record { log = s .span .log; bytes = s .bytes }
+      ≡ piece (record { log = w; bytes = buf }) (drop i xs)
   some : s .span .done ≡ false → length xs - s .span .at < length xs - i
 
 module _ (xs : List ℕ) (i : ℕ) (w : Log) (buf : List ℕ) (room : i ≤ length xs) where
-  ended : isEnded (w .replay .stage) ≡ true → Onward xs i w buf (record { span = record { log = w; at = i; done = true }; bytes = buf })
-  ended e = record { within = room; same = refl; all = λ d. sym (still (w .reader) (w .replay) buf e (drop i xs)); some = λ d. absurd (false≢true (sym d)) }
+  ended : isEnded (w .replay .stage) ≡ true
+      → Onward xs i w buf (record { span = record { log = w; at = i; done = true }; bytes = buf })
+  ended e = record {
+    within = room;
+    same = refl;
+    all = λ d. sym
+        (still (w .reader) (w .replay) buf e (drop i xs));
+    some = λ d. absurd (false≢true (sym d));
+  }
 
   module _ (run : isEnded (w .replay .stage) ≡ false) where
     abbrev c : Cut (drop i xs) i (w .reader) (w .replay) buf
@@ -142,7 +166,8 @@ module _ (xs : List ℕ) (i : ℕ) (w : Log) (buf : List ℕ) (room : i ≤ leng
 
     onto-end : piece (on (w .replay) f) (drop (f .fed .at) xs) ≡ piece (record { log = w; bytes = buf }) (drop i xs)
     onto-end =
-        ap (λ (l : List ℕ). piece (on (w .replay) f) l) (ap (λ (j : ℕ). drop j xs) (c .place) ∙ sym (drop-drop (c .k) i xs))
+        ap (λ (l : List ℕ). piece (on (w .replay) f) l)
+        (ap (λ (j : ℕ). drop j xs) (c .place) ∙ sym (drop-drop (c .k) i xs))
         ∙ sym (c .same)
 
     running-on : Onward xs i w buf (reached (w .replay) f)
@@ -150,7 +175,8 @@ module _ (xs : List ℕ) (i : ℕ) (w : Log) (buf : List ℕ) (room : i ≤ leng
     running-on = record {
       within = omega (arith, c .place, c .inside, length-drop i xs);
       same = onto-end;
-      all = λ d. rw (drop-of-length-le xs {i = f .fed .at} (omega (arith, c .place, length-drop i xs, c .all d))) at onto-end;
+      all = λ d. rw (drop-of-length-le xs {i = f .fed .at} (omega (arith, c .place, length-drop i xs, c .all d))) at
+          onto-end;
       some = λ d. omega (arith, c .place, c .inside, length-drop i xs, c .some d);
     }
 
@@ -159,7 +185,8 @@ module _ (xs : List ℕ) (i : ℕ) (w : Log) (buf : List ℕ) (room : i ≤ leng
   onward = by-test (Onward xs i w buf) (isEnded (w .replay .stage)) ended running-on
 
 -- As the loop has the facts.
-module _ (xs buf₀ buf buf′ : List ℕ) (w₀ w : Log) (i : ℕ) (s : Span) (q : piece (record { log = w; bytes = buf }) (drop i xs) ≡ piece (record { log = w₀; bytes = buf₀ }) xs)
+module _ (xs buf₀ buf buf′ : List ℕ) (w₀ w : Log) (i : ℕ) (s : Span)
+    (q : piece (record { log = w; bytes = buf }) (drop i xs) ≡ piece (record { log = w₀; bytes = buf₀ }) xs)
     (room : i ≤ length xs) (e : record { span = s; bytes = buf′ } ≡ stretch w buf i (drop i xs)) where
   o : Onward xs i w buf (record { span = s; bytes = buf′ })
   o = rw e (onward xs i w buf room)
@@ -167,7 +194,8 @@ module _ (xs buf₀ buf buf′ : List ℕ) (w₀ w : Log) (i : ℕ) (s : Span) (
   pub within : s .at ≤ length xs
   within = o .within
 
-  pub further : piece (record { log = s .log; bytes = buf′ }) (drop (s .at) xs) ≡ piece (record { log = w₀; bytes = buf₀ }) xs
+  pub further : piece (record { log = s .log; bytes = buf′ }) (drop (s .at) xs)
+      ≡ piece (record { log = w₀; bytes = buf₀ }) xs
   further = o .same ∙ q
 
   pub less : s .done ≡ false → length xs - s .at < length xs - i

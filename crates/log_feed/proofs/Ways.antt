@@ -1,5 +1,4 @@
 -- The ways through the log's small functions, from the facts that the code has.
--- Assumes nothing.
 use Prim.Native.Nat.{ℕ}
 use mathlib.Core.Bool.{Bool, true, false}
 use mathlib.Core.List.{List, [], _∷_}
@@ -20,18 +19,21 @@ unfolding begun
 began w r v er ev ew = ew ∙ rw (er, ev)
 
 module _ (w : Log) (buf xs : List ℕ) (i : ℕ) (done : Bool) (ed : done ≡ isEnded (w .replay .stage)) where
-  pub no-stretch : done ≡ true → record { span = record { log = w; at = i; done = true }; bytes = buf } ≡ stretch w buf i xs
+  pub no-stretch : done ≡ true → record { span = record { log = w; at = i; done = true }; bytes = buf }
+      ≡ stretch w buf i xs
   unfolding stretch
   no-stretch h = rw (sym ed ∙ h)
 
   pub stretched : (f : Fed) (buf′ : List ℕ) (j m : Bool) (u : Log) → done ≡ false → j ≡ joins (w .replay .stage)
-      → record { fed = f; bytes = buf′ } ≡ feed j i (w .reader) buf xs → u ≡ met (w .replay) (f .reader) (f .event) buf′ → m ≡ more (f .event)
+      → record { fed = f; bytes = buf′ } ≡ feed j i (w .reader) buf xs
+      → u ≡ met (w .replay) (f .reader) (f .event) buf′ → m ≡ more (f .event)
       → record { span = record { log = u; at = f .at; done = m }; bytes = buf′ } ≡ stretch w buf i xs
   unfolding stretch
   stretched f buf′ j m u h ej e eu em = rw (eu, em, sym ed ∙ h) (ap (reached (w .replay)) (rw ej at e))
 
 module _ (w : Log) (buf : List ℕ) (b : Bool) (e : b ≡ inside (w .reader .place)) where
-  pub closed : (x : Log) (buf′ : List ℕ) → b ≡ true → record { log = x; bytes = buf′ } ≡ piece (record { log = w; bytes = buf }) (10 ∷ [])
+  pub closed : (x : Log) (buf′ : List ℕ) → b ≡ true
+      → record { log = x; bytes = buf′ } ≡ piece (record { log = w; bytes = buf }) (10 ∷ [])
       → record { log = x; bytes = buf′ } ≡ lastLine (record { log = w; bytes = buf })
   unfolding lastLine
   closed x buf′ t q = q ∙ rw (sym e ∙ t)

@@ -1,5 +1,4 @@
 -- What the reader met makes of a log.
--- Assumes nothing.
 use Prim.Native.Nat.{ℕ}
 use mathlib.Core.Bool.{false, cond}
 use mathlib.Core.List.{List}
@@ -21,7 +20,8 @@ logOf r v = record { reader = r; replay = v }
 -- The end of line one, or of a line of a record.
 unfoldable pub lined : Replay → Reader → List ℕ → Log
 lined v r buf =
-    onStage (v .stage) (logOf idle (opens v (take (r .len) buf))) (cond (r .over) (logOf idle (stops v 22)) (logOf r v)) (λ k. logOf r v)
+    onStage (v .stage) (logOf idle (opens v (take (r .len) buf)))
+    (cond (r .over) (logOf idle (stops v 22)) (logOf r v)) (λ k. logOf r v)
 
 -- An empty line: as line one, or at the end of a record.
 unfoldable pub emptied : Replay → Reader → List ℕ → Log

@@ -1,5 +1,4 @@
 -- The log read byte by byte: what a byte, a piece and the end of the input do.
--- Assumes nothing.
 use Prim.Native.Nat.{ℕ}
 use mathlib.Core.Bool.{Bool, true, false, cond}
 use mathlib.Core.List.{List, [], _∷_}
@@ -47,7 +46,12 @@ pub record Spanned : Type 0 where
   pub bytes : List ℕ
 
 abbrev pub reached : Replay → Read → Spanned
-reached v f = record { span = record { log = met v (f .fed .reader) (f .fed .event) (f .bytes); at = f .fed .at; done = more (f .fed .event) }; bytes = f .bytes }
+reached v f = record {
+  span = record
+      { log = met v (f .fed .reader) (f .fed .event) (f .bytes); at = f .fed .at; done = more (f .fed .event) };
+  bytes =
+      f .bytes;
+}
 
 unfoldable pub stretch : Log → List ℕ → ℕ → List ℕ → Spanned
 stretch w buf i xs =

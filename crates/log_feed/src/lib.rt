@@ -1,5 +1,6 @@
 // The bench log: pieces of the input in, the answer of the discovery out.
 pub mod events;
+
 use crate::events::Log;
 use log_lines::Event;
 use log_lines::Place;
@@ -61,7 +62,8 @@ pub fn begun() -> Log
 
 // One stretch of a piece: up to the next event in it, or to its end.
 fn stretch(log: Log, from: usize, bytes: &[u8], buf: &mut [u8]) -> Span
-    ensures { λ r. ⌜ record { span = r; bytes = now (buf .exit) } ≡ stretch log (now (buf .entry)) from (drop from (now (bytes .entry))) ⌝ }
+    ensures { λ r. ⌜ record { span = r; bytes = now (buf .exit) }
+        ≡ stretch log (now (buf .entry)) from (drop from (now (bytes .entry))) ⌝ }
 {
     let v = log.replay;
     let s = v.stage;
@@ -84,7 +86,8 @@ fn stretch(log: Log, from: usize, bytes: &[u8], buf: &mut [u8]) -> Span
 
 // A piece of the input, of any length. The buffer holds a record, or line one, between one piece and the next.
 pub fn feed(log: Log, bytes: &[u8], buf: &mut [u8]) -> Log
-    ensures { λ r. ⌜ record { log = r; bytes = now (buf .exit) } ≡ piece (record { log = log; bytes = now (buf .entry) }) (now (bytes .entry)) ⌝ }
+    ensures { λ r. ⌜ record { log = r; bytes = now (buf .exit) }
+        ≡ piece (record { log = log; bytes = now (buf .entry) }) (now (bytes .entry)) ⌝ }
 {
     let mut w = log;
     let mut i = 0;
@@ -101,7 +104,8 @@ pub fn feed(log: Log, bytes: &[u8], buf: &mut [u8]) -> Log
 
 // The LF that a last line may lack.
 fn last_line(log: Log, buf: &mut [u8]) -> Log
-    ensures { λ r. ⌜ record { log = r; bytes = now (buf .exit) } ≡ lastLine (record { log = log; bytes = now (buf .entry) }) ⌝ }
+    ensures { λ r. ⌜ record { log = r; bytes = now (buf .exit) }
+        ≡ lastLine (record { log = log; bytes = now (buf .entry) }) ⌝ }
 {
     let r = log.reader;
     let p = r.place;

@@ -1,5 +1,4 @@
 -- The ways through the reader's functions, from the facts that the code has.
--- Assumes nothing.
 use Prim.Native.Nat.{ℕ, _+_, _*_, _%_, _<_, _≤_}
 use mathlib.Core.Bool.{Bool, true, false}
 use mathlib.Core.List.{List}
@@ -52,19 +51,23 @@ module _ (p : Place) (b : ℕ) where
     none h = simp (ne-eqb _ _ other, ← ed, le-ltb _ _ h)
 
 module _ (r : Reader) (buf : List ℕ) (b : ℕ) (t : Turn) (e : t ≡ turn (r .place) b) where
-  pub on-half : (h : ℕ) (s : Step) → t ≡ Half h → s ≡ record { reader = at r (Odd h); event = More } → record { step = s; bytes = buf } ≡ step r buf b
+  pub on-half : (h : ℕ) (s : Step) → t ≡ Half h → s ≡ record { reader = at r (Odd h); event = More }
+      → record { step = s; bytes = buf } ≡ step r buf b
   unfolding step
   on-half h s q es = simp (← e, q, es)
 
-  pub on-whole : (v : ℕ) (s : Step) (buf′ : List ℕ) → t ≡ Whole v → record { step = s; bytes = buf′ } ≡ keep r v buf → record { step = s; bytes = buf′ } ≡ step r buf b
+  pub on-whole : (v : ℕ) (s : Step) (buf′ : List ℕ) → t ≡ Whole v → record { step = s; bytes = buf′ } ≡ keep r v buf
+      → record { step = s; bytes = buf′ } ≡ step r buf b
   unfolding step
   on-whole v s buf′ q es = es ∙ simp (← e, q)
 
-  pub on-line : (s : Step) → t ≡ Turn.Line → s ≡ record { reader = at r Start; event = Line } → record { step = s; bytes = buf } ≡ step r buf b
+  pub on-line : (s : Step) → t ≡ Turn.Line → s ≡ record { reader = at r Start; event = Line }
+      → record { step = s; bytes = buf } ≡ step r buf b
   unfolding step
   on-line s q es = simp (← e, q, es)
 
-  pub on-empty : (s : Step) → t ≡ Turn.Empty → s ≡ record { reader = at r Start; event = Empty } → record { step = s; bytes = buf } ≡ step r buf b
+  pub on-empty : (s : Step) → t ≡ Turn.Empty → s ≡ record { reader = at r Start; event = Empty }
+      → record { step = s; bytes = buf } ≡ step r buf b
   unfolding step
   on-empty s q es = simp (← e, q, es)
 
@@ -72,18 +75,23 @@ module _ (r : Reader) (buf : List ℕ) (b : ℕ) (t : Turn) (e : t ≡ turn (r .
   unfolding step
   on-bad q = simp (← e, q)
 
-module _ (s buf₀ buf : List ℕ) (j : Bool) (w₀ w : Reader) (from i : ℕ) (q : feed j i w buf (drop i s) ≡ feed j from w₀ buf₀ (drop from s)) where
-  pub ran-out : length s ≤ i → record { fed = record { reader = w; at = i; event = More }; bytes = buf } ≡ feed j from w₀ buf₀ (drop from s)
+module _ (s buf₀ buf : List ℕ) (j : Bool) (w₀ w : Reader) (from i : ℕ)
+    (q : feed j i w buf (drop i s) ≡ feed j from w₀ buf₀ (drop from s)) where
+  pub ran-out : length s ≤ i → record { fed = record { reader = w; at = i; event = More }; bytes = buf }
+      ≡ feed j from w₀ buf₀ (drop from s)
   unfolding feed
   ran-out h = rw (drop-of-length-le s {i = i} h) at q
 
-  module _ (buf′ : List ℕ) (x : Step) (stop : Bool) (h : i < length s) (e : record { step = x; bytes = buf′ } ≡ step w buf (getD s i 0))
+  module _ (buf′ : List ℕ) (x : Step) (stop : Bool) (h : i < length s)
+      (e : record { step = x; bytes = buf′ } ≡ step w buf (getD s i 0))
       (eo : stop ≡ halts (x .event) j (x .reader .over)) where
     pub further : stop ≡ false → feed j (i + 1) (x .reader) buf′ (drop (i + 1) s) ≡ feed j from w₀ buf₀ (drop from s)
     unfolding feed
     further v = rw (add-one i) (rw (drop-cons s i 0, ← e, sym eo ∙ v, add-one i) at q)
 
-    pub halted : stop ≡ true → record { fed = record { reader = x .reader; at = i + 1; event = x .event }; bytes = buf′ } ≡ feed j from w₀ buf₀ (drop from s)
+    pub halted : stop ≡ true → record
+        { fed = record { reader = x .reader; at = i + 1; event = x .event }; bytes = buf′ }
+        ≡ feed j from w₀ buf₀ (drop from s)
     unfolding feed
     halted v = rw (drop-cons s i 0, ← e, sym eo ∙ v) at q
 

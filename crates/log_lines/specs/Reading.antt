@@ -1,5 +1,4 @@
 -- What reading a byte, and a piece, does to a reader and its buffer.
--- Assumes nothing.
 use Prim.Native.Nat.{ℕ, _+_, _*_, _%_}
 use mathlib.Core.Bool.{Bool, true, false, _||_, not, cond}
 use mathlib.Core.List.{List, [], _∷_}
@@ -82,8 +81,8 @@ went i s = record { fed = record { reader = s .step .reader; at = i; event = s .
 abbrev pub halts : Event → Bool → Bool → Bool
 halts e joined over = onEvent e false (over || not joined) true true
 
--- up to the first empty line or bad character, or the end of the piece; a line's end is passed only where lines are joined and each byte had
--- room; i counts the place
+-- up to the first empty line or bad character, or the end of the piece; a line's end is passed only where lines are
+-- joined and each byte had room; i counts the place
 unfoldable pub feed : Bool → ℕ → Reader → List ℕ → List ℕ → Read
 feed joined i r buf [] = went i (told r More buf)
 feed joined i r buf (b ∷ bs) =

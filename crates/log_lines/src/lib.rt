@@ -1,4 +1,5 @@
-// Lines of hexadecimal, read in pieces of any length and in constant memory: the bytes go to a buffer that the caller lends.
+// Lines of hexadecimal, read in pieces of any length and in constant memory: the bytes go to a buffer that the caller
+// lends.
 ghost use mathlib.Core.Path.{_≡_};
 ghost use lib.ListN.{take, drop};
 ghost use Rattle.log_lines.specs.Reading.{turn, step, keep, halts, feed};
@@ -147,10 +148,11 @@ impl Reader {
         }
     }
 
-    // Up to the first empty line or bad character, or the end of the piece. A line's end is passed only where lines are joined and each byte
-    // had room.
+    // Up to the first empty line or bad character, or the end of the piece. A line's end is passed only where lines are
+    // joined and each byte had room.
     pub fn feed(self, joined: bool, from: usize, piece: &[u8], buf: &mut [u8]) -> Fed
-        ensures { λ r. ⌜ record { fed = r; bytes = now (buf .exit) } ≡ feed joined from self (now (buf .entry)) (drop from (now (piece .entry))) ⌝ }
+        ensures { λ r. ⌜ record { fed = r; bytes = now (buf .exit) }
+            ≡ feed joined from self (now (buf .entry)) (drop from (now (piece .entry))) ⌝ }
     {
         let mut w = self;
         let mut i = from;

@@ -1,5 +1,4 @@
 -- The ways through writing the output, from the facts that the code has.
--- Assumes nothing.
 use Prim.Native.Nat.{ℕ, zero, suc, _+_, _-_, _*_, _<_, _≤_}
 use mathlib.Core.List.{List, [], _∷_, _++_, append-assoc, map, map-append}
 use mathlib.Core.Path.{_≡_, refl, sym, _∙_, ap}
@@ -35,7 +34,8 @@ module _ (bytes out out′ : List ℕ) (w : Written) (fits : length bytes ≤ 16
   n = 2 * length bytes
 
   digits : out′ ≡ hexText bytes ++ drop n out
-  digits = ap (λ (o : Outcome). o .bytes) (e ∙ sym (writes bytes out (hexText bytes ++ drop n out) fits (omega arith) refl))
+  digits = ap (λ (o : Outcome). o .bytes)
+      (e ∙ sym (writes bytes out (hexText bytes ++ drop n out) fits (omega arith) refl))
 
   ends : drop (suc n) (hexText bytes ++ drop n out) ≡ drop (n + 1) out
   ends =
@@ -46,8 +46,10 @@ module _ (bytes out out′ : List ℕ) (w : Written) (fits : length bytes ≤ 16
   closed : set out′ n 10 ≡ line bytes ++ drop (n + 1) out
   closed =
       ap (λ (l : List ℕ). set l n 10) digits
-      ∙ set-split (hexText bytes ++ drop n out) n 10 (omega (arith, length-append (hexText bytes) (drop n out), hexText-length bytes, length-drop n out))
-      ∙ ap (λ (l : List ℕ). l ++ 10 ∷ drop (suc n) (hexText bytes ++ drop n out)) (take-at (hexText bytes) (drop n out) n (hexText-length bytes))
+      ∙ set-split (hexText bytes ++ drop n out) n 10
+      (omega (arith, length-append (hexText bytes) (drop n out), hexText-length bytes, length-drop n out))
+      ∙ ap (λ (l : List ℕ). l ++ 10 ∷ drop (suc n) (hexText bytes ++ drop n out))
+      (take-at (hexText bytes) (drop n out) n (hexText-length bytes))
       ∙ ap (λ (l : List ℕ). hexText bytes ++ 10 ∷ l) ends
       ∙ sym (append-assoc (hexText bytes) (10 ∷ []) (drop (n + 1) out))
 
@@ -70,7 +72,8 @@ module _ (a b out₀ out part : List ℕ) (at k : ℕ) (e : record { len = at; b
   back =
       ap (λ (x : Placed). x .bytes) p
       ∙ ap (λ (l : List ℕ). b ++ drop (length b) l) (part-all at out ∙ behind)
-      ∙ ap (λ (l : List ℕ). b ++ l) (drop-drop (length b) (length a) out₀ ∙ ap (λ (m : ℕ). drop m out₀) (sym (length-append a b)))
+      ∙ ap (λ (l : List ℕ). b ++ l) (drop-drop (length b) (length a) out₀
+      ∙ ap (λ (m : ℕ). drop m out₀) (sym (length-append a b)))
 
   whole : putMid at (length out - at) out part ≡ (a ++ b) ++ drop (length (a ++ b)) out₀
   whole =
@@ -96,7 +99,8 @@ module _ (x : Id) (n : ℕ) (e : n ≡ length (idOf x)) (h : n ≤ 16) where
   pub id-most : (k : ℕ) → k ≡ 2 * length (take n (x .bytes)) + 1 → k ≤ 33
   id-most k q = omega (arith, id-part x n e)
 
-pub id-wrote : (x : Id) (n k : ℕ) (out out′ : List ℕ) → n ≡ length (idOf x) → record { len = k; bytes = out′ } ≡ placed (line (take n (x .bytes))) out
+pub id-wrote : (x : Id) (n k : ℕ) (out out′ : List ℕ) → n ≡ length (idOf x)
+    → record { len = k; bytes = out′ } ≡ placed (line (take n (x .bytes))) out
     → record { len = k; bytes = out′ } ≡ placed (line (idOf x)) out
 id-wrote x n k out out′ en e = e ∙ ap (λ (l : List ℕ). placed (line l) out) (held x n en)
 
@@ -107,7 +111,8 @@ rows-more zero t i = ap (λ (k : ℕ). row t k ∷ []) here
   where
     here : i ≡ i + 0
     here = omega arith
-rows-more (suc n) t i = ap (λ (l : List Entry). row t i ∷ l) (rows-more n t (i + 1) ∙ ap (λ (k : ℕ). rows t (i + 1) n ++ (row t k ∷ [])) here)
+rows-more (suc n) t i = ap (λ (l : List Entry). row t i ∷ l)
+    (rows-more n t (i + 1) ∙ ap (λ (k : ℕ). rows t (i + 1) n ++ (row t k ∷ [])) here)
   where
     here : i + 1 + n ≡ i + suc n
     here = omega arith
@@ -116,7 +121,8 @@ ids-more : (t : Table) (i : ℕ) → firstIds t (i + 1) ≡ firstIds t i ++ (inR
 unfolding firstIds
 ids-more t i =
     rw (add-one i)
-    (ap (map inRow) (rows-more i t 0 ∙ ap (λ (k : ℕ). rows t 0 i ++ (row t k ∷ [])) here) ∙ map-append inRow (rows t 0 i) (row t i ∷ []))
+    (ap (map inRow) (rows-more i t 0 ∙ ap (λ (k : ℕ). rows t 0 i ++ (row t k ∷ [])) here)
+    ∙ map-append inRow (rows t 0 i) (row t i ∷ []))
   where
     here : 0 + i ≡ i
     here = omega arith
@@ -124,26 +130,32 @@ ids-more t i =
 lines-more : (xs : List Paper.Id) (x : Paper.Id) → idLines (xs ++ (x ∷ [])) ≡ idLines xs ++ line x
 unfolding idLines
 lines-more [] x = refl
-lines-more (y ∷ ys) x = ap (λ (l : List ℕ). hexText y ++ 10 ∷ l) (lines-more ys x) ∙ sym (append-assoc (hexText y) (10 ∷ idLines ys) (line x))
+lines-more (y ∷ ys) x = ap (λ (l : List ℕ). hexText y ++ 10 ∷ l) (lines-more ys x)
+    ∙ sym (append-assoc (hexText y) (10 ∷ idLines ys) (line x))
 
 pub none-yet : (t : Table) (out : List ℕ) → record { len = 0; bytes = out } ≡ placed (idLines (firstIds t 0)) out
 unfolding firstIds rows idLines
 none-yet t out = refl
 
-pub one-more : (t : Table) (x : Entry) (i at k : ℕ) (out₀ out part : List ℕ) → record { len = at; bytes = out } ≡ placed (idLines (firstIds t i)) out₀ → x ≡ row t i
+pub one-more : (t : Table) (x : Entry) (i at k : ℕ) (out₀ out part : List ℕ)
+    → record { len = at; bytes = out } ≡ placed (idLines (firstIds t i)) out₀ → x ≡ row t i
     → record { len = k; bytes = part } ≡ placed (line (idOf (x .id))) (take (length out - at) (drop at out))
     → record { len = at + k; bytes = putMid at (length out - at) out part } ≡ placed (idLines (firstIds t (i + 1))) out₀
 one-more t x i at k out₀ out part e ex p =
     then-placed (idLines (firstIds t i)) (line (idOf (x .id))) out₀ out part at k e p
     ∙ ap (λ (l : List ℕ). placed l out₀)
-    (ap (λ (y : Entry). idLines (firstIds t i) ++ line (inRow y)) ex ∙ sym (lines-more (firstIds t i) (inRow (row t i))) ∙ ap idLines (sym (ids-more t i)))
+    (ap (λ (y : Entry). idLines (firstIds t i) ++ line (inRow y)) ex
+    ∙ sym (lines-more (firstIds t i) (inRow (row t i))) ∙ ap idLines (sym (ids-more t i)))
 
-pub all-wrote : (t : Table) (i n at : ℕ) (out₀ out : List ℕ) → i ≤ n → n ≤ i → record { len = at; bytes = out } ≡ placed (idLines (firstIds t i)) out₀
+pub all-wrote : (t : Table) (i n at : ℕ) (out₀ out : List ℕ) → i ≤ n → n ≤ i
+    → record { len = at; bytes = out } ≡ placed (idLines (firstIds t i)) out₀
     → record { len = at; bytes = out } ≡ placed (idLines (firstIds t n)) out₀
 all-wrote t i n at out₀ out h g e = let s : i ≡ n = omega arith in rw s at e
 
-pub text-wrote : (a : Answer) (n at k : ℕ) (out₀ out part : List ℕ) → n ≡ used (a .found) → record { len = at; bytes = out } ≡ placed (idLines (firstIds (a .found) n)) out₀
-    → record { len = k; bytes = part } ≡ placed (lastLine (a .code) n (a .selects)) (take (length out - at) (drop at out))
+pub text-wrote : (a : Answer) (n at k : ℕ) (out₀ out part : List ℕ) → n ≡ used (a .found)
+    → record { len = at; bytes = out } ≡ placed (idLines (firstIds (a .found) n)) out₀
+    → record { len = k; bytes = part }
+    ≡ placed (lastLine (a .code) n (a .selects)) (take (length out - at) (drop at out))
     → record { len = at + k; bytes = putMid at (length out - at) out part } ≡ placed (text a) out₀
 unfolding text
 text-wrote a n at k out₀ out part en e p =

@@ -1,5 +1,4 @@
 -- What is written of an answer, at the front of a buffer.
--- Assumes nothing.
 use Prim.Native.Nat.{ℕ}
 use mathlib.Core.Bool.{cond}
 use mathlib.Core.List.{List, [], _∷_, _++_, map}

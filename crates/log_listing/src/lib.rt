@@ -20,7 +20,8 @@ pub struct Answer {
 fn put_line(bytes: &[u8], out: &mut [u8]) -> usize
     requires { ⌜ length (now bytes) ≤ 16 ⌝ }
     requires { ⌜ 2 * length (now bytes) < length (now out) ⌝ }
-    ensures { λ r. ⌜ record { len = r; bytes = now (out .exit) } ≡ placed (line (now (bytes .entry))) (now (out .entry)) ⌝ }
+    ensures { λ r. ⌜ record { len = r; bytes = now (out .exit) }
+        ≡ placed (line (now (bytes .entry))) (now (out .entry)) ⌝ }
     ensures { λ r. ⌜ r ≡ 2 * length (now (bytes .entry)) + 1 ⌝ }
 {
     let n = 2 * bytes.len();
@@ -44,7 +45,8 @@ fn put_id(id: Id, out: &mut [u8]) -> usize
 fn put_ids(found: Table, n: usize, out: &mut [u8]) -> usize
     requires { ⌜ n ≤ 64 ⌝ }
     requires { ⌜ 33 * n ≤ length (now out) ⌝ }
-    ensures { λ r. ⌜ record { len = r; bytes = now (out .exit) } ≡ placed (idLines (firstIds found n)) (now (out .entry)) ⌝ }
+    ensures { λ r. ⌜ record { len = r; bytes = now (out .exit) }
+        ≡ placed (idLines (firstIds found n)) (now (out .entry)) ⌝ }
     ensures { λ r. ⌜ r ≤ 33 * n ⌝ }
 {
     let mut at = 0;
@@ -62,7 +64,8 @@ fn put_ids(found: Table, n: usize, out: &mut [u8]) -> usize
 // The line of the answer: its number, the count of ids, the Selects with the high byte first.
 fn put_last(code: u8, count: u8, selects: u16, out: &mut [u8]) -> usize
     requires { ⌜ 9 ≤ length (now out) ⌝ }
-    ensures { λ r. ⌜ record { len = r; bytes = now (out .exit) } ≡ placed (lastLine code count selects) (now (out .entry)) ⌝ }
+    ensures { λ r. ⌜ record { len = r; bytes = now (out .exit) }
+        ≡ placed (lastLine code count selects) (now (out .entry)) ⌝ }
     ensures { λ r. ⌜ r ≡ 9 ⌝ }
 {
     let high = (selects / 256) as u8;

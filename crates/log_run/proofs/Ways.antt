@@ -1,5 +1,4 @@
 -- The ways through the discovery over a log, from the facts that the code has.
--- Assumes nothing.
 use Prim.Native.Nat.{ℕ, _+_, _-_, _%_}
 use mathlib.Core.Bool.{Bool, true, false}
 use mathlib.Core.List.{List, [], _∷_}
@@ -24,9 +23,11 @@ use Rattle.client_request.specs.Request.{Asking, request}
 use Rattle.client_record.specs.Record.{record′}
 use Rattle.log_run.specs.declared.Stage.the-variants.{First, Running, Ended}
 use Rattle.log_run.specs.declared.Replay.{Replay}
-use Rattle.log_run.specs.Run.{code, isGranted, isOnward, begun, ended, stops, handed, room, asked, goes, opens, takes, answer}
+use Rattle.log_run.specs.Run.{code, isGranted, isOnward, begun, ended, stops, handed, room, asked, goes, opens}
+use Rattle.log_run.specs.Run.{takes, answer}
 
-pub began : (c : Client) (t : Table) → c ≡ fresh → t ≡ noTable → record { client = c; stage = First; selects = 0; found = t } ≡ begun
+pub began : (c : Client) (t : Table) → c ≡ fresh → t ≡ noTable
+    → record { client = c; stage = First; selects = 0; found = t } ≡ begun
 unfolding begun
 began c t ec et = rw (ec, et)
 
@@ -48,16 +49,19 @@ module _ (v : Replay) where
   at-end k e = rw e
 
 -- The next Select.
-module _ (c : Client) (k : ℕ) (s : Started) (bytes : List ℕ) (t : Table) (e : record { answer = s; bytes = bytes } ≡ request c [] (replicate 64 0)) (et : t ≡ noTable) where
+module _ (c : Client) (k : ℕ) (s : Started) (bytes : List ℕ) (t : Table)
+    (e : record { answer = s; bytes = bytes } ≡ request c [] (replicate 64 0)) (et : t ≡ noTable) where
   same : handed s k ≡ asked c k
   unfolding room
   same = ap (λ (a : Asking). handed (a .answer) k) e
 
-  pub handed-out : (b : Bool) (j : ℕ) → b ≡ isGranted (s .says) → b ≡ true → j ≡ (k + 1) % 65536 → record { client = s .client; stage = Running; selects = j; found = t } ≡ asked c k
+  pub handed-out : (b : Bool) (j : ℕ) → b ≡ isGranted (s .says) → b ≡ true → j ≡ (k + 1) % 65536
+      → record { client = s .client; stage = Running; selects = j; found = t } ≡ asked c k
   unfolding handed
   handed-out b j eb q ej = rw (ej, et) (rw (sym eb ∙ q) at same)
 
-  pub asks-ended : (b : Bool) (m : ℕ) (r : Replay) → b ≡ isGranted (s .says) → b ≡ false → m ≡ code (s .says) → r ≡ ended (s .client) k t m → r ≡ asked c k
+  pub asks-ended : (b : Bool) (m : ℕ) (r : Replay) → b ≡ isGranted (s .says) → b ≡ false → m ≡ code (s .says)
+      → r ≡ ended (s .client) k t m → r ≡ asked c k
   unfolding handed
   asks-ended b m r eb q em er = er ∙ rw (et, em) (rw (sym eb ∙ q) at same)
 
@@ -83,12 +87,14 @@ module _ (v r : Replay) where
   other-byte [] n h e = absurd (n refl)
   other-byte (b ∷ bs) n h e = e ∙ rw (ne-eqb b 1 h)
 
-  pub opened : (line : List ℕ) (s : Started) (t : Table) → (length line ≡ 0 → ⊥) → getD line 0 0 ≡ 1 → s ≡ startDiscover (v .client) (take (length line - 1) (drop 1 line)) → t ≡ noTable
+  pub opened : (line : List ℕ) (s : Started) (t : Table) → (length line ≡ 0 → ⊥) → getD line 0 0 ≡ 1
+      → s ≡ startDiscover (v .client) (take (length line - 1) (drop 1 line)) → t ≡ noTable
       → r ≡ goes (s .says) (s .client) (v .selects) t → r ≡ opens v line
   unfolding opens prefixIn
   opened [] s t n h es et e = absurd (n refl)
   opened (b ∷ bs) s t n h es et e = e ∙ rw (eq-eqb b 1 h, es ∙ ap (startDiscover (v .client)) (part-all 1 (b ∷ bs)), et)
 
-pub took : (v r : Replay) (bytes : List ℕ) (t : Told) → t ≡ record′ (v .client) [] bytes → r ≡ goes (t .says) (t .client) (v .selects) (t .found) → r ≡ takes v bytes
+pub took : (v r : Replay) (bytes : List ℕ) (t : Told) → t ≡ record′ (v .client) [] bytes
+    → r ≡ goes (t .says) (t .client) (v .selects) (t .found) → r ≡ takes v bytes
 unfolding takes
 took v r bytes t et e = e ∙ rw et

@@ -1,5 +1,4 @@
 -- What line one, a record and the end of the input make of a discovery over a log.
--- Assumes nothing.
 use Prim.Native.Nat.{ℕ, _+_, _%_}
 use mathlib.Core.Bool.{Bool, true, false, cond}
 use mathlib.Core.List.{List, []}
@@ -89,11 +88,13 @@ goes says c k found = cond (isOnward says) (asked c k) (ended c k found (code sa
 unfoldable pub opens : Replay → List ℕ → Replay
 opens v line =
     onSome (prefixIn line) (stops v 22)
-    (λ given. goes (startDiscover (v .client) given .says) (startDiscover (v .client) given .client) (v .selects) noTable)
+    (λ given. goes (startDiscover (v .client) given .says) (startDiscover (v .client) given .client)
+    (v .selects) noTable)
 
 unfoldable pub takes : Replay → List ℕ → Replay
 takes v bytes =
-    goes (record′ (v .client) [] bytes .says) (record′ (v .client) [] bytes .client) (v .selects) (record′ (v .client) [] bytes .found)
+    goes (record′ (v .client) [] bytes .says) (record′ (v .client) [] bytes .client) (v .selects)
+    (record′ (v .client) [] bytes .found)
 
 -- "a first line missing": 22; "a record without its empty line gives 1".
 unfoldable pub answer : Replay → Answer

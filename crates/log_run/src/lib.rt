@@ -5,7 +5,8 @@ use client::Says;
 use log_listing::Answer;
 use walk_table::Table;
 ghost use mathlib.Core.Path.{_≡_};
-ghost use Rattle.log_run.specs.Run.{outcome, code, isEnded, isGranted, isOnward, begun, ended, asked, goes, opens, takes, answer};
+ghost use Rattle.log_run.specs.Run.{outcome, code, isEnded, isGranted, isOnward, begun, ended, asked, goes};
+ghost use Rattle.log_run.specs.Run.{opens, takes, answer};
 
 // Line one is still to come; a Select is out; the run has ended with an answer.
 pub enum Stage {

@@ -1,5 +1,4 @@
 -- What a byte does to a log that has not ended, for each kind of character.
--- Assumes nothing.
 use Prim.Native.Nat.{ℕ, _+_, _*_, _%_, _<_, _≤_}
 use mathlib.Core.Bool.{Bool, true, false}
 use mathlib.Core.List.{List}
@@ -34,11 +33,13 @@ module _ (v : Replay) (run : isEnded (v .stage) ≡ false) (p : Place) (n : ℕ)
   unfolding byte step met
   half h e = rw (run, e)
 
-  pub fits : (x : ℕ) → turn p b ≡ Whole x → n < length buf → byte (at (reader p n o) v buf) b ≡ at (reader Even (n + 1) o) v (set buf n x)
+  pub fits : (x : ℕ) → turn p b ≡ Whole x → n < length buf
+      → byte (at (reader p n o) v buf) b ≡ at (reader Even (n + 1) o) v (set buf n x)
   unfolding byte step met keep
   fits x e h = rw (run, e, lt-ltb n (length buf) h)
 
-  pub over : (x : ℕ) → turn p b ≡ Whole x → length buf ≤ n → byte (at (reader p n o) v buf) b ≡ at (reader Even n true) v buf
+  pub over : (x : ℕ) → turn p b ≡ Whole x → length buf ≤ n
+      → byte (at (reader p n o) v buf) b ≡ at (reader Even n true) v buf
   unfolding byte step met keep
   over x e h = rw (run, e, le-ltb n (length buf) h)
 

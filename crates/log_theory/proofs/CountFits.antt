@@ -1,10 +1,10 @@
--- A conversation over records asks no more Selects than over any wire that hears them, so a log's count is below 65,536.
--- Assumes nothing.
+-- A conversation over records asks no more Selects than over any wire that hears them, so a log's count is below
+-- 65,536.
 use Prim.Native.Nat.{ℕ, zero, suc, _+_, _-_, _≤_, _<_}
 use mathlib.Core.Path.{_≡_, refl, _∙_, ap}
 use native.Mathlib.Omega.{arith}
 use Rattle.paper.specs.Hearing.{Prefix, Heard, nothing, hear}
-use Rattle.paper.specs.Log.{Records, missing, spoilt, next, over}
+use Rattle.paper.specs.Log.{Records, missing, spoilt, next, overRecords}
 use Rattle.paper.specs.Walk.{Walk, return, stop, select, Wire, run, discover}
 use Rattle.theory.proofs.walk.Bound.{discover-bound}
 use Rattle.theory.proofs.walk.MachineIsWalk.{run-later}
@@ -17,7 +17,8 @@ heardIn (next bytes rs) zero = hear bytes
 heardIn (next bytes rs) (suc j) = heardIn rs j
 
 -- Wires that agree from a Select on.
-run-same : {A : Type 0} (w : Walk A) (f g : Wire) (k : ℕ) → ((j : ℕ) (p : Prefix) → f (k + j) p ≡ g (k + j) p) → run f k w ≡ run g k w
+run-same : {A : Type 0} (w : Walk A) (f g : Wire) (k : ℕ) → ((j : ℕ) (p : Prefix) → f (k + j) p ≡ g (k + j) p)
+    → run f k w ≡ run g k w
 unfolding run
 run-same (return a) f g k e = refl
 run-same (stop c) f g k e = refl
@@ -33,8 +34,8 @@ run-same (select p h) f g k e = ap (λ (x : Heard). run f (suc k) (h x)) here �
 abbrev wireOf : Records → ℕ → Wire
 wireOf rs k j p = heardIn rs (j - k)
 
-within-run : {A : Type 0} (w : Walk A) (rs : Records) (k : ℕ) → (over w rs k) .1 ≤ (run (wireOf rs k) k w) .1
-unfolding over run heardIn
+within-run : {A : Type 0} (w : Walk A) (rs : Records) (k : ℕ) → (overRecords w rs k) .1 ≤ (run (wireOf rs k) k w) .1
+unfolding overRecords run heardIn
 within-run (return a) rs k = omega arith
 within-run (stop c) rs k = omega arith
 within-run (select p f) missing k = run-later (wireOf missing k) (suc k) (f (heardIn missing (k - k)))
@@ -58,5 +59,5 @@ within-run (select p f) (next bytes rs) k = omega (arith, within-run (f (hear by
             two : j ≡ suc k + j - suc k
             two = omega arith
 
-pub few-selects : (pre : Prefix) (rs : Records) → (over (discover pre) rs 0) .1 < 65536
+pub few-selects : (pre : Prefix) (rs : Records) → (overRecords (discover pre) rs 0) .1 < 65536
 few-selects pre rs = omega (arith, within-run (discover pre) rs 0, discover-bound (wireOf rs 0) pre)

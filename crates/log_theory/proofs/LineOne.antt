@@ -1,5 +1,5 @@
--- Line one read byte by byte is the paper's line one, also where it is longer than the buffer: the prefix is then over 16 bytes.
--- Assumes nothing.
+-- Line one read byte by byte is the paper's line one, also where it is longer than the buffer: the prefix is then over
+-- 16 bytes.
 use Prim.Native.Nat.{ℕ, _+_, _*_, _%_, _<_, _≤_}
 use mathlib.Core.Bool.{Bool, true, false, cond}
 use mathlib.Core.List.{List, [], _∷_, _++_, append-assoc, append-nil}
@@ -28,7 +28,8 @@ use Rattle.log_theory.specs.WholeTalk.{talk}
 use Rattle.log_theory.proofs.LinesLeft.{behind, odd, second, odd-is, unread, odd-unread}
 use Rattle.log_theory.proofs.ByteSteps.{reader, at, with′}
 use Rattle.log_theory.proofs.ByteSteps as Bytes
-use Rattle.log_theory.proofs.ReadToEnd.{ran, ran-byte, ran-ended, end-start, end-even, end-odd, settled, goes-settled}
+use Rattle.log_theory.proofs.ReadToEnd.{ran, ran-byte, ran-ended, end-start, end-even, end-odd, settled}
+use Rattle.log_theory.proofs.ReadToEnd.{goes-settled}
 use Rattle.log_theory.proofs.RecordsRead.{lines-lf, lines-other, stored, resumed, rest}
 
 -- What is left of a run from a place within line one, its bytes so far being acc.
@@ -58,17 +59,21 @@ module _ (cap : ℕ) (v : Replay) (acc : List ℕ) where
     half-even [] = refl
     half-even (l ∷ ls) = ap (λ (t : Option (List ℕ)). Judged t ls) (second b good l)
 
-    carry : (x : ℕ) (t : Option (List ℕ)) (ls : List (List ℕ)) → Judged (behind x t) ls ≡ judged cap v (acc ++ (x ∷ [])) t ls
+    carry : (x : ℕ) (t : Option (List ℕ)) (ls : List (List ℕ))
+        → Judged (behind x t) ls ≡ judged cap v (acc ++ (x ∷ [])) t ls
     unfolding judged
     carry x none ls = refl
     carry x (some bs) ls = ap (λ (l : List ℕ). talk (opens v l) (joined cap [] ls)) (sym (append-assoc acc (x ∷ []) bs))
 
-    whole : (h : ℕ) (ls : List (List ℕ)) → opening cap v (Odd h) acc (longer b ls) ≡ opening cap v Even (acc ++ ((h % 16 * 16 + digit b) ∷ [])) ls
+    whole : (h : ℕ) (ls : List (List ℕ))
+        → opening cap v (Odd h) acc (longer b ls) ≡ opening cap v Even (acc ++ ((h % 16 * 16 + digit b) ∷ [])) ls
     unfolding opening longer judged unhex talk joined
     whole h [] = ap (λ (t : Option (List ℕ)). Judged t []) (odd-is b good h [])
-    whole h (l ∷ ls) = ap (λ (t : Option (List ℕ)). Judged t ls) (odd-is b good h l) ∙ carry (h % 16 * 16 + digit b) (unhex l) ls
+    whole h (l ∷ ls) = ap (λ (t : Option (List ℕ)). Judged t ls) (odd-is b good h l)
+        ∙ carry (h % 16 * 16 + digit b) (unhex l) ls
 
-  refused : (b : ℕ) → ltb (digit b) 16 ≡ false → (p : Place) (ls : List (List ℕ)) → opening cap v p acc (longer b ls) ≡ stops v 22
+  refused : (b : ℕ) → ltb (digit b) 16 ≡ false → (p : Place) (ls : List (List ℕ))
+      → opening cap v p acc (longer b ls) ≡ stops v 22
   unfolding opening longer judged
   refused b bad Start [] = ap (λ (t : Option (List ℕ)). Judged t []) (unread b bad [])
   refused b bad Start (l ∷ ls) = ap (λ (t : Option (List ℕ)). Judged t ls) (unread b bad l)
@@ -93,9 +98,12 @@ opens-settled : (v : Replay) (line : List ℕ) → settled (opens v line .stage)
 unfolding opens settled
 opens-settled v line = go (prefixIn line)
   where
-    go : (t : Option (List ℕ)) → settled (onSome t (stops v 22) (λ given. goes (startDiscover (v .client) given .says) (startDiscover (v .client) given .client) (v .selects) noTable) .stage) ≡ true
+    go : (t : Option (List ℕ)) → settled
+        (onSome t (stops v 22) (λ given. goes (startDiscover (v .client) given .says)
+        (startDiscover (v .client) given .client) (v .selects) noTable) .stage) ≡ true
     go none = refl
-    go (some given) = goes-settled (startDiscover (v .client) given .says) (startDiscover (v .client) given .client) (v .selects) noTable
+    go (some given) = goes-settled (startDiscover (v .client) given .says) (startDiscover (v .client) given .client)
+        (v .selects) noTable
 
 -- Lines that begin alike and have over 16 prefix bytes are refused alike.
 record Alike (acc held : List ℕ) : Type 0 where
@@ -107,17 +115,23 @@ record Alike (acc held : List ℕ) : Type 0 where
   long : 16 < length xs
   long′ : 16 < length ys
 
-long-refused : (v : Replay) (b : ℕ) (xs ys : List ℕ) → 16 < length xs → 16 < length ys → opens v (b ∷ xs) ≡ opens v (b ∷ ys)
+long-refused : (v : Replay) (b : ℕ) (xs ys : List ℕ) → 16 < length xs → 16 < length ys
+    → opens v (b ∷ xs) ≡ opens v (b ∷ ys)
 unfolding opens prefixIn startDiscover
 long-refused v b xs ys h k = go (eqb b 1)
   where
-    go : (t : Bool) → onSome (cond t (some xs) none) (stops v 22) (λ given. goes (startDiscover (v .client) given .says) (startDiscover (v .client) given .client) (v .selects) noTable)
-        ≡ onSome (cond t (some ys) none) (stops v 22) (λ given. goes (startDiscover (v .client) given .says) (startDiscover (v .client) given .client) (v .selects) noTable)
+    go : (t : Bool) → onSome (cond t (some xs) none) (stops v 22)
+        (λ given. goes (startDiscover (v .client) given .says) (startDiscover (v .client) given .client)
+        (v .selects) noTable)
+        ≡ onSome (cond t (some ys) none) (stops v 22)
+        (λ given. goes (startDiscover (v .client) given .says) (startDiscover (v .client) given .client)
+        (v .selects) noTable)
     go true = rw (lt-ltb 16 (length xs) h, lt-ltb 16 (length ys) k)
     go false = refl
 
 alike-opens : (v : Replay) (acc held : List ℕ) → Alike acc held → opens v held ≡ opens v acc
-alike-opens v acc held a = ap (opens v) (a .right) ∙ long-refused v (a .b) (a .ys) (a .xs) (a .long′) (a .long) ∙ ap (opens v) (sym (a .left))
+alike-opens v acc held a = ap (opens v) (a .right) ∙ long-refused v (a .b) (a .ys) (a .xs) (a .long′) (a .long)
+    ∙ ap (opens v) (sym (a .left))
 
 alike-more : (acc held : List ℕ) (x : ℕ) → Alike acc held → Alike (acc ++ (x ∷ [])) held
 alike-more acc held x a = record {
@@ -151,18 +165,22 @@ held-opens : (v : Replay) (acc buf : List ℕ) (n : ℕ) (o : Bool) → Held acc
 held-opens v acc buf n false (all e h) = ap (opens v) (sym e)
 held-opens v acc buf n true (some-of a h) = alike-opens v acc (take n buf) a
 
-held-fits : (acc buf : List ℕ) (n x : ℕ) (o : Bool) → n < length buf → Held acc buf n o → (Held (acc ++ (x ∷ [])) (set buf n x) (n + 1) o) × (o ≡ false)
-held-fits acc buf n x false k (all e h) = (all (ap (λ (l : List ℕ). l ++ (x ∷ [])) e ∙ sym (stored buf n x k)) (omega (arith, length-set buf n x)), refl)
+held-fits : (acc buf : List ℕ) (n x : ℕ) (o : Bool) → n < length buf → Held acc buf n o
+    → (Held (acc ++ (x ∷ [])) (set buf n x) (n + 1) o) × (o ≡ false)
+held-fits acc buf n x false k (all e h) =
+    (all (ap (λ (l : List ℕ). l ++ (x ∷ [])) e ∙ sym (stored buf n x k)) (omega (arith, length-set buf n x)), refl)
 held-fits acc buf n x true k (some-of a h) = absurd (omega arith)
 
-held-over : (acc buf : List ℕ) (n x : ℕ) (o : Bool) → 17 < length buf → length buf ≤ n → Held acc buf n o → Held (acc ++ (x ∷ [])) buf n true
+held-over : (acc buf : List ℕ) (n x : ℕ) (o : Bool) → 17 < length buf → length buf ≤ n → Held acc buf n o
+    → Held (acc ++ (x ∷ [])) buf n true
 held-over acc buf n x false w k (all e h) =
     some-of (rw e (alike-first (take n buf) x (omega (arith, length-take-le n buf h)))) k
 held-over acc buf n x true w k (some-of a h) = some-of (alike-more acc (take n buf) x a) k
 
 -- Line one, and all after it.
 abbrev Opens : Replay → List ℕ → Type 0
-Opens v xs = (p : Place) (n : ℕ) (o : Bool) (buf acc : List ℕ) → 17 < length buf → Held acc buf n o → ran (at (reader p n o) v buf) xs ≡ opening (length buf) v p acc (lines xs)
+Opens v xs = (p : Place) (n : ℕ) (o : Bool) (buf acc : List ℕ) → 17 < length buf → Held acc buf n o
+    → ran (at (reader p n o) v buf) xs ≡ opening (length buf) v p acc (lines xs)
 
 module _ (v : Replay) (before : v .stage ≡ First) where
   going : isEnded (v .stage) ≡ false
@@ -176,38 +194,49 @@ module _ (v : Replay) (before : v .stage ≡ First) where
   unfolding emptied lined
   emptied-is n o buf = rw before
 
-  module _ (b : ℕ) (bs : List ℕ) (ih : Opens v bs) (n : ℕ) (o : Bool) (buf acc : List ℕ) (wide : 17 < length buf) (held : Held acc buf n o) where
+  module _ (b : ℕ) (bs : List ℕ) (ih : Opens v bs) (n : ℕ) (o : Bool) (buf acc : List ℕ) (wide : 17 < length buf)
+      (held : Held acc buf n o) where
     abbrev cap : ℕ
     cap = length buf
 
-    paper : (p : Place) (ls : List (List ℕ)) (r : Replay) → lines (b ∷ bs) ≡ ls → opening cap v p acc ls ≡ r → r ≡ opening cap v p acc (lines (b ∷ bs))
+    paper : (p : Place) (ls : List (List ℕ)) (r : Replay) → lines (b ∷ bs) ≡ ls → opening cap v p acc ls ≡ r
+        → r ≡ opening cap v p acc (lines (b ∷ bs))
     paper p ls r e q = sym (ap (opening cap v p acc) e ∙ q)
 
-    both-refuse : (p : Place) (ls : List (List ℕ)) → turn p b ≡ Turn.Bad → lines (b ∷ bs) ≡ ls → opening cap v p acc ls ≡ stops v 22
+    both-refuse : (p : Place) (ls : List (List ℕ)) → turn p b ≡ Turn.Bad → lines (b ∷ bs) ≡ ls
+        → opening cap v p acc ls ≡ stops v 22
         → ran (at (reader p n o) v buf) (b ∷ bs) ≡ opening cap v p acc (lines (b ∷ bs))
-    both-refuse p ls e el q = ran-byte _ _ b bs (Bytes.refused v going p n o buf b e) ∙ ran-ended (stops v 22) buf bs refl ∙ paper p ls (stops v 22) el q
+    both-refuse p ls e el q = ran-byte _ _ b bs (Bytes.refused v going p n o buf b e)
+        ∙ ran-ended (stops v 22) buf bs refl ∙ paper p ls (stops v 22) el q
 
     opened : ran (at idle (opens v (take n buf)) buf) bs ≡ talk (opens v acc) (joined cap [] (lines bs))
     opened =
         resumed bs (rest bs) (opens v (take n buf)) buf (opens-settled v (take n buf))
         ∙ ap (λ (w : Replay). talk w (joined cap [] (lines bs))) (held-opens v acc buf n o held)
 
-    one-lf : (p : Place) → eqb b 10 ≡ true → ran (at (reader p n o) v buf) (b ∷ bs) ≡ opening cap v p acc (lines (b ∷ bs))
+    one-lf : (p : Place) → eqb b 10 ≡ true
+        → ran (at (reader p n o) v buf) (b ∷ bs) ≡ opening cap v p acc (lines (b ∷ bs))
     one-lf Start lf =
-        ran-byte _ (at idle (opens v (take n buf)) buf) b bs (Bytes.empty v going Start n o buf b (Bytes.lf-start b lf) ∙ ap (λ (w : Log). with′ w buf) (emptied-is n o buf))
+        ran-byte _ (at idle (opens v (take n buf)) buf) b bs
+        (Bytes.empty v going Start n o buf b (Bytes.lf-start b lf)
+        ∙ ap (λ (w : Log). with′ w buf) (emptied-is n o buf))
         ∙ opened ∙ paper Start ([] ∷ lines bs) _ (lines-lf b bs lf) (lf-start cap v acc (lines bs))
     one-lf Even lf =
-        ran-byte _ (at idle (opens v (take n buf)) buf) b bs (Bytes.line v going Even n o buf b (Bytes.lf-even b lf) ∙ ap (λ (w : Log). with′ w buf) (lined-is n o buf))
+        ran-byte _ (at idle (opens v (take n buf)) buf) b bs
+        (Bytes.line v going Even n o buf b (Bytes.lf-even b lf) ∙ ap (λ (w : Log). with′ w buf) (lined-is n o buf))
         ∙ opened ∙ paper Even ([] ∷ lines bs) _ (lines-lf b bs lf) (lf-even cap v acc (lines bs))
-    one-lf (Odd h) lf = both-refuse (Odd h) ([] ∷ lines bs) (Bytes.lf-odd b lf h) (lines-lf b bs lf) (lf-odd cap v acc h (lines bs))
+    one-lf (Odd h) lf = both-refuse (Odd h) ([] ∷ lines bs) (Bytes.lf-odd b lf h) (lines-lf b bs lf)
+        (lf-odd cap v acc h (lines bs))
 
     module _ (other : eqb b 10 ≡ false) where
-      digit-odd : (h : ℕ) → ltb (digit b) 16 ≡ true → (f : Bool) → ltb n (length buf) ≡ f → ran (at (reader (Odd h) n o) v buf) (b ∷ bs) ≡ opening cap v (Odd h) acc (lines (b ∷ bs))
+      digit-odd : (h : ℕ) → ltb (digit b) 16 ≡ true → (f : Bool) → ltb n (length buf) ≡ f
+          → ran (at (reader (Odd h) n o) v buf) (b ∷ bs) ≡ opening cap v (Odd h) acc (lines (b ∷ bs))
       digit-odd h d true ef =
           let k : n < length buf = ltb-true n (length buf) ef in
           let x = h % 16 * 16 + digit b in
           ran-byte _ _ b bs (Bytes.fits v going (Odd h) n o buf b x (Bytes.digit-odd b other h d) k)
-          ∙ ih Even (n + 1) o (set buf n x) (acc ++ (x ∷ [])) (omega (arith, length-set buf n x)) (held-fits acc buf n x o k held .0)
+          ∙ ih Even (n + 1) o (set buf n x) (acc ++ (x ∷ [])) (omega (arith, length-set buf n x))
+          (held-fits acc buf n x o k held .0)
           ∙ ap (λ (c : ℕ). opening c v Even (acc ++ (x ∷ [])) (lines bs)) (length-set buf n x)
           ∙ paper (Odd h) (longer b (lines bs)) _ (lines-other b bs other) (whole cap v acc b d h (lines bs))
       digit-odd h d false ef =
@@ -217,8 +246,10 @@ module _ (v : Replay) (before : v .stage ≡ First) where
           ∙ ih Even n true buf (acc ++ (x ∷ [])) wide (held-over acc buf n x o wide k held)
           ∙ paper (Odd h) (longer b (lines bs)) _ (lines-other b bs other) (whole cap v acc b d h (lines bs))
 
-      one-other : (p : Place) (d : Bool) → ltb (digit b) 16 ≡ d → ran (at (reader p n o) v buf) (b ∷ bs) ≡ opening cap v p acc (lines (b ∷ bs))
-      one-other p false d = both-refuse p (longer b (lines bs)) (Bytes.no-digit b other p d) (lines-other b bs other) (refused cap v acc b d p (lines bs))
+      one-other : (p : Place) (d : Bool) → ltb (digit b) 16 ≡ d
+          → ran (at (reader p n o) v buf) (b ∷ bs) ≡ opening cap v p acc (lines (b ∷ bs))
+      one-other p false d = both-refuse p (longer b (lines bs)) (Bytes.no-digit b other p d) (lines-other b bs other)
+          (refused cap v acc b d p (lines bs))
       one-other Start true d =
           ran-byte _ _ b bs (Bytes.half v going Start n o buf b (digit b) (Bytes.digit-start b other d))
           ∙ ih (Odd (digit b)) n o buf acc wide held
@@ -229,14 +260,17 @@ module _ (v : Replay) (before : v .stage ≡ First) where
           ∙ paper Even (longer b (lines bs)) _ (lines-other b bs other) (half-even cap v acc b d (lines bs))
       one-other (Odd h) true d = digit-odd h d (ltb n (length buf)) refl
 
-    one : (p : Place) (e : Bool) → eqb b 10 ≡ e → ran (at (reader p n o) v buf) (b ∷ bs) ≡ opening cap v p acc (lines (b ∷ bs))
+    one : (p : Place) (e : Bool) → eqb b 10 ≡ e
+        → ran (at (reader p n o) v buf) (b ∷ bs) ≡ opening cap v p acc (lines (b ∷ bs))
     one p true lf = one-lf p lf
     one p false other = one-other other p (ltb (digit b) 16) refl
 
-  at-end : (p : Place) (n : ℕ) (o : Bool) (buf acc : List ℕ) → Held acc buf n o → ran (at (reader p n o) v buf) [] ≡ opening (length buf) v p acc (lines [])
+  at-end : (p : Place) (n : ℕ) (o : Bool) (buf acc : List ℕ) → Held acc buf n o
+      → ran (at (reader p n o) v buf) [] ≡ opening (length buf) v p acc (lines [])
   unfolding opening lines
   at-end Start n o buf acc held = end-start v n o buf
-  at-end Even n o buf acc held = end-even v going n o buf ∙ ap (λ (w : Log). w .replay) (lined-is n o buf) ∙ held-opens v acc buf n o held
+  at-end Even n o buf acc held =
+      end-even v going n o buf ∙ ap (λ (w : Log). w .replay) (lined-is n o buf) ∙ held-opens v acc buf n o held
   at-end (Odd h) n o buf acc held = end-odd v going n o buf h
 
   first : (xs : List ℕ) → Opens v xs
@@ -244,5 +278,6 @@ module _ (v : Replay) (before : v .stage ≡ First) where
   first (b ∷ bs) p n o buf acc wide held = one b bs (first bs) n o buf acc wide held p (eqb b 10) refl
 
   -- From the beginning.
-  pub from-start : (xs buf : List ℕ) → 17 < length buf → ran (at idle v buf) xs ≡ opening (length buf) v Start [] (lines xs)
+  pub from-start : (xs buf : List ℕ) → 17 < length buf
+      → ran (at idle v buf) xs ≡ opening (length buf) v Start [] (lines xs)
   from-start xs buf wide = first xs Start 0 false buf [] wide (all refl (omega arith))

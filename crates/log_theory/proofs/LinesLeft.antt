@@ -1,5 +1,5 @@
--- What is left of a record's lines from a place within a line, and what a character makes of it: the paper's definitions, one character further.
--- Assumes nothing.
+-- What is left of a record's lines from a place within a line, and what a character makes of it: the paper's
+-- definitions, one character further.
 use Prim.Native.Nat.{ℕ, _+_, _*_, _%_, _<_, _≤_}
 use mathlib.Core.Bool.{true, false, cond}
 use mathlib.Core.List.{List, [], _∷_, _++_, append-assoc, append-nil}
@@ -85,12 +85,15 @@ module _ (b : ℕ) (good : ltb (digit b) 16 ≡ true) (cap : ℕ) (acc : List �
   half-even (l ∷ ls) = ap (λ (t : Option (List ℕ)). carried cap acc t ls) (second b good l)
 
 module _ (cap v : ℕ) (acc : List ℕ) where
-  carry : (t : Option (List ℕ)) (ls : List (List ℕ)) → carried cap acc (behind v t) ls ≡ carried cap (acc ++ (v ∷ [])) t ls
+  carry : (t : Option (List ℕ)) (ls : List (List ℕ))
+      → carried cap acc (behind v t) ls ≡ carried cap (acc ++ (v ∷ [])) t ls
   unfolding carried
   carry none ls = refl
-  carry (some bs) ls = ap (λ (l : List ℕ). cond (ltb cap (length l)) spoilt (joined cap l ls)) (sym (append-assoc acc (v ∷ []) bs))
+  carry (some bs) ls = ap (λ (l : List ℕ). cond (ltb cap (length l)) spoilt (joined cap l ls))
+      (sym (append-assoc acc (v ∷ []) bs))
 
-  too-many : cap < length acc + 1 → (t : Option (List ℕ)) (ls : List (List ℕ)) → carried cap acc (behind v t) ls ≡ spoilt
+  too-many : cap < length acc + 1 → (t : Option (List ℕ)) (ls : List (List ℕ))
+      → carried cap acc (behind v t) ls ≡ spoilt
   unfolding carried
   too-many h none ls = refl
   too-many h (some bs) ls = rw (lt-ltb cap (length (acc ++ (v ∷ bs))) (omega (arith, length-append acc (v ∷ bs))))
@@ -103,17 +106,23 @@ module _ (b : ℕ) (good : ltb (digit b) 16 ≡ true) (cap h : ℕ) (acc : List 
   unfolding carried unhex joined
   last k = rw (append-nil, le-ltb cap (length (acc ++ (v ∷ []))) (omega (arith, length-append acc (v ∷ []))))
 
-  pub whole : length acc + 1 ≤ cap → (ls : List (List ℕ)) → from cap (Odd h) acc (longer b ls) ≡ from cap Even (acc ++ (v ∷ [])) ls
+  pub whole : length acc + 1 ≤ cap → (ls : List (List ℕ))
+      → from cap (Odd h) acc (longer b ls) ≡ from cap Even (acc ++ (v ∷ [])) ls
   unfolding from fromEven fromOdd longer
-  whole k [] = ap (λ (t : Option (List ℕ)). carried cap acc t []) (odd-is b good h []) ∙ carry cap v acc (unhex []) [] ∙ last k
-  whole k (l ∷ ls) = ap (λ (t : Option (List ℕ)). carried cap acc t ls) (odd-is b good h l) ∙ carry cap v acc (unhex l) ls
+  whole k [] = ap (λ (t : Option (List ℕ)). carried cap acc t []) (odd-is b good h []) ∙ carry cap v acc (unhex []) []
+      ∙ last k
+  whole k (l ∷ ls) = ap (λ (t : Option (List ℕ)). carried cap acc t ls) (odd-is b good h l)
+      ∙ carry cap v acc (unhex l) ls
 
   pub over : cap < length acc + 1 → (ls : List (List ℕ)) → from cap (Odd h) acc (longer b ls) ≡ spoilt
   unfolding from fromOdd longer
-  over k [] = ap (λ (t : Option (List ℕ)). carried cap acc t []) (odd-is b good h []) ∙ too-many cap v acc k (unhex []) []
-  over k (l ∷ ls) = ap (λ (t : Option (List ℕ)). carried cap acc t ls) (odd-is b good h l) ∙ too-many cap v acc k (unhex l) ls
+  over k [] = ap (λ (t : Option (List ℕ)). carried cap acc t []) (odd-is b good h [])
+      ∙ too-many cap v acc k (unhex []) []
+  over k (l ∷ ls) = ap (λ (t : Option (List ℕ)). carried cap acc t ls) (odd-is b good h l)
+      ∙ too-many cap v acc k (unhex l) ls
 
-pub lf-even : (cap : ℕ) (acc : List ℕ) → length acc ≤ cap → (ls : List (List ℕ)) → from cap Even acc ([] ∷ ls) ≡ from cap Start acc ls
+pub lf-even : (cap : ℕ) (acc : List ℕ) → length acc ≤ cap → (ls : List (List ℕ))
+    → from cap Even acc ([] ∷ ls) ≡ from cap Start acc ls
 unfolding from fromEven carried unhex
 lf-even cap acc h ls = rw (append-nil, le-ltb cap (length acc) h)
 

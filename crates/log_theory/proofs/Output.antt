@@ -1,5 +1,5 @@
--- The bench log's output: what is shown of any pieces of an input, once they are fed and finished, is document 01's output of the whole.
--- Assumes nothing.
+-- The bench log's output: what is shown of any pieces of an input, once they are fed and finished, is document 01's
+-- output of the whole.
 use Prim.Native.Nat.{ℕ, _+_, _≤_, _<_}
 use mathlib.Core.Bool.{Bool, true, false, cond}
 use mathlib.Core.List.{List, [], _∷_, _++_, map}
@@ -10,10 +10,10 @@ use lib.Dec.{leb, ltb, eqb}
 use lib.ListN.{length}
 use borrow.Author.Tests.{ltb-false}
 use Rattle.paper.specs.Count.{All}
-use Rattle.paper.specs.Client.{short}
+use Rattle.paper.specs.Client.{withinLongest}
 use Rattle.paper.specs.Hearing.{Id, bitsOf, onSome, longest}
 use Rattle.paper.specs.Text.{unhex}
-use Rattle.paper.specs.Log.{Records, joined, lines, over, prefixIn, opened, idLines, lastLine, shown, output}
+use Rattle.paper.specs.Log.{Records, joined, lines, overRecords, prefixIn, opened, idLines, lastLine, shown, output}
 use Rattle.paper.specs.Walk.{Ended, done, stopped, discover}
 use Rattle.theory.specs.WalkMachine as Walking
 use Rattle.theory.specs.WalkMachine.{going}
@@ -81,7 +81,8 @@ stopped-text : (n k : ℕ) → text (of n k noTable) ≡ shown (stopped n) k
 unfolding text shown used firstIds rows idLines noTable
 stopped-text n k = refl
 
-end-text : (e : Ended (List Id)) (k : ℕ) → FitsNext (Walking.ended e) → text (of (numbered e) k (endTable e)) ≡ shown e k
+end-text : (e : Ended (List Id)) (k : ℕ) → FitsNext (Walking.ended e)
+    → text (of (numbered e) k (endTable e)) ≡ shown e k
 end-text (done ids) k f = done-text ids k (f .0) (f .1)
 end-text (stopped n) k f = stopped-text n k
 
@@ -101,7 +102,8 @@ closed-text v e k small c =
     count = omega (arith, c .selects)
 
 -- A run that ends at once with a number, before any Select.
-refused-text : (v : Replay) (n : ℕ) (rs : Records) → v ≡ Replays.ended (v .client) 0 noTable n → text (answer (talk v rs)) ≡ shown (stopped n) 0
+refused-text : (v : Replay) (n : ℕ) (rs : Records) → v ≡ Replays.ended (v .client) 0 noTable n
+    → text (answer (talk v rs)) ≡ shown (stopped n) 0
 unfolding answer
 refused-text v n rs e =
     ap (λ (w : Replay). text (answer (talk w rs))) e
@@ -117,7 +119,7 @@ module _ (given : Id) (bytes : All (λ b. b < 256) given) (rs : Records) where
   from s = goes (s .says) (s .client) 0 noTable
 
   abbrev paper : Bool → Ended (List Id) × ℕ
-  paper b = cond b (over (discover (bitsOf given)) rs 0) (stopped 13, 0)
+  paper b = cond b (overRecords (discover (bitsOf given)) rs 0) (stopped 13, 0)
 
   started : startDiscover Code.fresh given ≡ startedAs Start
   started = ap (λ (c : Client). startDiscover c given) new-client ∙ discover-started Machine.fresh given bytes
@@ -125,25 +127,31 @@ module _ (given : Id) (bytes : All (λ b. b < 256) given) (rs : Records) where
   abbrev first : Machine.Client
   first = record { seed = 0; id = none; turn = ready (selecting (walking (starting (bitsOf given)))) }
 
-  short-starts : short given ≡ true → Start ≡ Machine.settle Machine.fresh none (to (selecting (walking (starting (bitsOf given))))) 0
+  short-starts : withinLongest given ≡ true
+      → Start ≡ Machine.settle Machine.fresh none (to (selecting (walking (starting (bitsOf given))))) 0
   unfolding Machine.startDiscover Machine.start Machine.fresh
   short-starts e = rw e
 
-  long-starts : short given ≡ false → Start ≡ Machine.unchanged Machine.fresh 13 []
+  long-starts : withinLongest given ≡ false → Start ≡ Machine.unchanged Machine.fresh 13 []
   unfolding Machine.startDiscover Machine.start Machine.fresh
   long-starts e = rw e
 
-  first-fits : short given ≡ true → Fits first
+  first-fits : withinLongest given ≡ true → Fits first
   unfolding Machine.settle Machine.fresh
-  first-fits e = subst (λ (t : Machine.Told). Fits (t .client)) (short-starts e) (startDiscover-fits Machine.fresh fresh-fits given)
+  first-fits e = subst (λ (t : Machine.Told). Fits (t .client)) (short-starts e)
+      (startDiscover-fits Machine.fresh fresh-fits given)
 
-  pub begins : (b : Bool) → short given ≡ b → text (answer (talk (from (startDiscover Code.fresh given)) rs)) ≡ shown (paper b .0) (paper b .1)
+  pub begins : (b : Bool) → withinLongest given ≡ b
+      → text (answer (talk (from (startDiscover Code.fresh given)) rs)) ≡ shown (paper b .0) (paper b .1)
   unfolding goes Machine.settle Machine.fresh refusedAs numberOf Walking.start
   begins true e =
       ap (λ (t : Started). text (answer (talk (from t) rs))) (started ∙ ap startedAs (short-starts e))
-      ∙ closed-text (talk (Replays.asked (clientOf first) 0) rs) ((over (discover (bitsOf given)) rs 0) .0) ((over (discover (bitsOf given)) rs 0) .1)
+      ∙ closed-text (talk (Replays.asked (clientOf first) 0) rs) ((overRecords (discover (bitsOf given)) rs 0) .0)
+      ((overRecords (discover (bitsOf given)) rs 0) .1)
       (few-selects (bitsOf given) rs)
-      (rw (resume-start (bitsOf given)) (talks rs (Replays.asked (clientOf first) 0) (going (starting (bitsOf given))) 0 (asked-stands 0 none (starting (bitsOf given)) (first-fits e) 0 0 refl)))
+      (rw (resume-start (bitsOf given))
+      (talks rs (Replays.asked (clientOf first) 0) (going (starting (bitsOf given))) 0
+      (asked-stands 0 none (starting (bitsOf given)) (first-fits e) 0 0 refl)))
   begins false e =
       ap (λ (t : Started). text (answer (talk (from t) rs))) (started ∙ ap startedAs (long-starts e))
       ∙ refused-text (Replays.ended (clientOf Machine.fresh) 0 noTable 13) 13 rs refl
@@ -152,22 +160,29 @@ module _ (given : Id) (bytes : All (λ b. b < 256) given) (rs : Records) where
 abbrev paperLine : Option Id → List (List ℕ) → Ended (List Id) × ℕ
 paperLine t ls =
     onSome t (stopped 22, 0) (λ bytes. onSome (prefixIn bytes) (stopped 22, 0) (λ given.
-    cond (leb (length given) longest) (over (discover (bitsOf given)) (joined 4096 [] ls) 0) (stopped 13, 0)))
+    cond (leb (length given) longest) (overRecords (discover (bitsOf given)) (joined 4096 [] ls) 0) (stopped 13, 0)))
 
 abbrev codeLine : Option Id → List (List ℕ) → Replay
 codeLine t ls = onSome t (stops begun 22) (λ bytes. talk (opens begun bytes) (joined 4096 [] ls))
 
-line-text : (t : Option Id) → ((bytes : Id) → t ≡ some bytes → All (λ b. b < 256) bytes) → (ls : List (List ℕ)) → text (answer (codeLine t ls)) ≡ shown (paperLine t ls .0) (paperLine t ls .1)
+line-text : (t : Option Id) → ((bytes : Id) → t ≡ some bytes → All (λ b. b < 256) bytes) → (ls : List (List ℕ))
+    → text (answer (codeLine t ls)) ≡ shown (paperLine t ls .0) (paperLine t ls .1)
 unfolding answer begun prefixIn opens
 line-text none all ls = stopped-text 22 0
 line-text (some []) all ls = refused-text (stops begun 22) 22 (joined 4096 [] ls) refl
 line-text (some (b ∷ given)) all ls = go (eqb b 1)
   where
     go : (x : Bool)
-        → text (answer (talk (onSome (cond x (some given) none) (stops begun 22) (λ given. goes (startDiscover Code.fresh given .says) (startDiscover Code.fresh given .client) 0 noTable)) (joined 4096 [] ls)))
-        ≡ shown (onSome (cond x (some given) none) (stopped 22, 0) (λ given. cond (leb (length given) longest) (over (discover (bitsOf given)) (joined 4096 [] ls) 0) (stopped 13, 0)) .0)
-        (onSome (cond x (some given) none) (stopped 22, 0) (λ given. cond (leb (length given) longest) (over (discover (bitsOf given)) (joined 4096 [] ls) 0) (stopped 13, 0)) .1)
-    go true = begins given (all (b ∷ given) refl .1) (joined 4096 [] ls) (short given) refl
+        → text (answer (talk (onSome (cond x (some given) none) (stops begun 22)
+        (λ given. goes (startDiscover Code.fresh given .says) (startDiscover Code.fresh given .client) 0 noTable))
+        (joined 4096 [] ls)))
+        ≡ shown (onSome (cond x (some given) none) (stopped 22, 0)
+        (λ given. cond (leb (length given) longest) (overRecords (discover (bitsOf given)) (joined 4096 [] ls) 0)
+        (stopped 13, 0)) .0)
+        (onSome (cond x (some given) none) (stopped 22, 0)
+        (λ given. cond (leb (length given) longest) (overRecords (discover (bitsOf given)) (joined 4096 [] ls) 0)
+        (stopped 13, 0)) .1)
+    go true = begins given (all (b ∷ given) refl .1) (joined 4096 [] ls) (withinLongest given) refl
     go false = refused-text (stops begun 22) 22 (joined 4096 [] ls) refl
 
 opened-text : (ls : List (List ℕ)) → text (answer (openedBy ls)) ≡ shown (opened ls .0) (opened ls .1)
@@ -181,5 +196,6 @@ run-output input = opened-text (lines input)
 
 -- The theorem.
 pub log-output : (ps : List (List ℕ)) (buf : List ℕ) → length buf ≡ 4096
-    → text (answer (Bench.lastLine (pieces (record { log = Bench.begun; bytes = buf }) ps) .log .replay)) ≡ output (concat ps)
+    → text (answer (Bench.lastLine (pieces (record { log = Bench.begun; bytes = buf }) ps) .log .replay))
+    ≡ output (concat ps)
 log-output ps buf h = whole-text ps buf h ∙ run-output (concat ps)

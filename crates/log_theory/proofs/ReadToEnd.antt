@@ -1,5 +1,4 @@
 -- A log read to the end of its input: an ended one stays as it is, and one whose record is too long ends with 22.
--- Assumes nothing.
 use Prim.Native.Nat.{ℕ, _+_}
 use mathlib.Core.Bool.{Bool, true, false, false≢true}
 use mathlib.Core.List.{List, [], _∷_}
@@ -100,16 +99,27 @@ module _ (v : Replay) (run : v .stage ≡ Running) where
   unfolding emptied
   over-empty n buf = rw run
 
-  module _ (b : ℕ) (bs : List ℕ) (ih : (p : Place) (n : ℕ) (buf : List ℕ) → inside p ≡ true → ran (at (reader p n true) v buf) bs ≡ stops v 22) (p : Place) (n : ℕ) (buf : List ℕ) where
-    spoil : (x : Turn) → turn p b ≡ x → (f : Bool) → ltb n (length buf) ≡ f → ran (at (reader p n true) v buf) (b ∷ bs) ≡ stops v 22
+  module _ (b : ℕ) (bs : List ℕ)
+      (ih : (p : Place) (n : ℕ) (buf : List ℕ) → inside p ≡ true → ran (at (reader p n true) v buf) bs ≡ stops v 22)
+      (p : Place) (n : ℕ) (buf : List ℕ) where
+    spoil : (x : Turn) → turn p b ≡ x → (f : Bool) → ltb n (length buf) ≡ f
+        → ran (at (reader p n true) v buf) (b ∷ bs) ≡ stops v 22
     spoil (Half h) e f ef = ran-byte _ _ b bs (Bytes.half v going p n true buf b h e) ∙ ih (Odd h) n buf refl
-    spoil (Whole x) e true ef = ran-byte _ _ b bs (Bytes.fits v going p n true buf b x e (ltb-true n (length buf) ef)) ∙ ih Even (n + 1) (set buf n x) refl
-    spoil (Whole x) e false ef = ran-byte _ _ b bs (Bytes.over v going p n true buf b x e (ltb-false n (length buf) ef)) ∙ ih Even n buf refl
-    spoil Turn.Line e f ef = ran-byte _ (at idle (stops v 22) buf) b bs (Bytes.line v going p n true buf b e ∙ ap (λ (w : Log). record { log = w; bytes = buf }) (over-line n buf)) ∙ ran-ended (stops v 22) buf bs refl
-    spoil Turn.Empty e f ef = ran-byte _ (at idle (stops v 22) buf) b bs (Bytes.empty v going p n true buf b e ∙ ap (λ (w : Log). record { log = w; bytes = buf }) (over-empty n buf)) ∙ ran-ended (stops v 22) buf bs refl
-    spoil Turn.Bad e f ef = ran-byte _ _ b bs (Bytes.refused v going p n true buf b e) ∙ ran-ended (stops v 22) buf bs refl
+    spoil (Whole x) e true ef = ran-byte _ _ b bs (Bytes.fits v going p n true buf b x e (ltb-true n (length buf) ef))
+        ∙ ih Even (n + 1) (set buf n x) refl
+    spoil (Whole x) e false ef = ran-byte _ _ b bs
+        (Bytes.over v going p n true buf b x e (ltb-false n (length buf) ef)) ∙ ih Even n buf refl
+    spoil Turn.Line e f ef = ran-byte _ (at idle (stops v 22) buf) b bs
+        (Bytes.line v going p n true buf b e ∙ ap (λ (w : Log). record { log = w; bytes = buf }) (over-line n buf))
+        ∙ ran-ended (stops v 22) buf bs refl
+    spoil Turn.Empty e f ef = ran-byte _ (at idle (stops v 22) buf) b bs
+        (Bytes.empty v going p n true buf b e ∙ ap (λ (w : Log). record { log = w; bytes = buf }) (over-empty n buf))
+        ∙ ran-ended (stops v 22) buf bs refl
+    spoil Turn.Bad e f ef = ran-byte _ _ b bs (Bytes.refused v going p n true buf b e)
+        ∙ ran-ended (stops v 22) buf bs refl
 
-  pub spoils : (xs : List ℕ) (p : Place) (n : ℕ) (buf : List ℕ) → inside p ≡ true → ran (at (reader p n true) v buf) xs ≡ stops v 22
+  pub spoils : (xs : List ℕ) (p : Place) (n : ℕ) (buf : List ℕ) → inside p ≡ true
+      → ran (at (reader p n true) v buf) xs ≡ stops v 22
   spoils [] Start n buf i = absurd (false≢true i)
   spoils [] Even n buf i = end-even v going n true buf ∙ ap (λ (w : Log). w .replay) (over-line n buf)
   spoils [] (Odd h) n buf i = end-odd v going n true buf h

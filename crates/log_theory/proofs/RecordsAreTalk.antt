@@ -1,5 +1,4 @@
 -- The client over the records of a log is document 01's conversation over them.
--- Assumes nothing.
 use Prim.Native.Nat.{ℕ, suc, _+_, _%_, _≤_, _<_}
 use mathlib.Core.List.{List, []}
 use mathlib.Core.Option.{Option, none}
@@ -21,7 +20,7 @@ use Rattle.theory.specs.OperationMachine as Phases
 use Rattle.theory.specs.OperationMachine.{walking, selecting}
 use Rattle.theory.specs.ClientMachine as Machine
 use Rattle.theory.specs.ClientMachine.{waiting, ready}
-use Rattle.theory.proofs.walk.StatesFit as Walk₂
+use Rattle.theory.proofs.walk.StatesFit as StatesFit
 use Rattle.theory.proofs.walk.StatesFit.{FitsNext, step-fits}
 use Rattle.theory.proofs.client.ClientsFit.{Fits, record-fits}
 use Rattle.theory.proofs.walk.MachineIsWalk.{resumed, resume-step}
@@ -64,17 +63,28 @@ pub record Closed (v : Replay) (e : Ended (List Id)) (k : ℕ) : Type 0 where
   pub selects : v .selects ≡ k % 65536
   pub fits : FitsNext (ended e)
 
--- A run where the machine of the walk stands: with a Select out, which is one more than document 01 counts so far; or ended.
+-- A run where the machine of the walk stands: with a Select out, which is one more than document 01 counts so far; or
+-- ended.
 pub data Stands : Replay → Next → ℕ → Type 0 where
-  out : (seed : ℕ) (id : Option Id) (s : State) (j k : ℕ) → Fits (record { seed = seed; id = id; turn = waiting (selecting (walking s)) }) → j ≡ suc k % 65536
-      → Stands (record { client = clientOf (record { seed = seed; id = id; turn = waiting (selecting (walking s)) }); stage = Running; selects = j; found = noTable }) (going s) k
-  over′ : (c : Client) (e : Ended (List Id)) (j k : ℕ) → j ≡ k % 65536 → FitsNext (ended e) → Stands (Replays.ended c j (endTable e) (numbered e)) (ended e) k
+  out : (seed : ℕ) (id : Option Id) (s : State) (j k : ℕ)
+      → Fits (record { seed = seed; id = id; turn = waiting (selecting (walking s)) }) → j ≡ suc k % 65536
+      → Stands (record {
+        client = clientOf
+            (record { seed = seed; id = id; turn = waiting (selecting (walking s)) });
+        stage = Running;
+        selects = j;
+        found =
+            noTable;
+      }) (going s) k
+  over′ : (c : Client) (e : Ended (List Id)) (j k : ℕ) → j ≡ k % 65536 → FitsNext (ended e)
+      → Stands (Replays.ended c j (endTable e) (numbered e)) (ended e) k
 
 counted : (j k : ℕ) → j ≡ k % 65536 → (j + 1) % 65536 ≡ suc k % 65536
 counted j k e = omega arith
 
 -- The next Select of a discovery is handed out.
-module _ (seed : ℕ) (id : Option Id) (s : State) (f : Fits (record { seed = seed; id = id; turn = ready (selecting (walking s)) })) where
+module _ (seed : ℕ) (id : Option Id) (s : State)
+    (f : Fits (record { seed = seed; id = id; turn = ready (selecting (walking s)) })) where
   abbrev c : Machine.Client
   c = record { seed = seed; id = id; turn = ready (selecting (walking s)) }
 
@@ -86,7 +96,7 @@ module _ (seed : ℕ) (id : Option Id) (s : State) (f : Fits (record { seed = se
 
   small : length (bytesOf (select q) next-seed []) ≤ 31
   unfolding Phases.selected
-  small = select-length q next-seed [] (Walk₂.request-fits s (f .turn))
+  small = select-length q next-seed [] (StatesFit.request-fits s (f .turn))
 
   wide : length room ≡ 64
   unfolding room
@@ -96,15 +106,18 @@ module _ (seed : ℕ) (id : Option Id) (s : State) (f : Fits (record { seed = se
   unfolding Machine.request Machine.grant Machine.handedOut
   grants = rw (le-ltb (length room) (length (bytesOf (select q) next-seed [])) (omega (arith, small, wide)))
 
-  leaves : Machine.request c [] room .client ≡ record { seed = next-seed; id = id; turn = waiting (selecting (walking s)) }
+  leaves : Machine.request c [] room .client
+      ≡ record { seed = next-seed; id = id; turn = waiting (selecting (walking s)) }
   unfolding Machine.request Machine.grant Machine.handedOut
   leaves = rw (le-ltb (length room) (length (bytesOf (select q) next-seed [])) (omega (arith, small, wide)))
 
-  asked-out : (j : ℕ) → asked (clientOf c) j ≡ running (clientOf (record { seed = next-seed; id = id; turn = waiting (selecting (walking s)) })) j
+  asked-out : (j : ℕ) → asked (clientOf c) j
+      ≡ running (clientOf (record { seed = next-seed; id = id; turn = waiting (selecting (walking s)) })) j
   unfolding handed
   asked-out j =
       ap (λ (a : Asking). handed (a .answer) j) (request-asked c f [] room)
-      ∙ ap (λ (x : Paper.Says). handed (record { says = shownSays x .says; client = clientOf (Machine.request c [] room .client) }) j) grants
+      ∙ ap (λ (x : Paper.Says). handed
+      (record { says = shownSays x .says; client = clientOf (Machine.request c [] room .client) }) j) grants
       ∙ ap (λ (x : Machine.Client). running (clientOf x) j) leaves
 
   byte : next-seed < 256
@@ -112,10 +125,12 @@ module _ (seed : ℕ) (id : Option Id) (s : State) (f : Fits (record { seed = se
 
   pub asked-stands : (j k : ℕ) → j ≡ k % 65536 → Stands (asked (clientOf c) j) (going s) k
   asked-stands j k e =
-      rw (asked-out j) (out next-seed id s ((j + 1) % 65536) k (record { seed = byte; id = f .id; turn = f .turn }) (counted j k e))
+      rw (asked-out j) (out next-seed id s ((j + 1) % 65536) k (record { seed = byte; id = f .id; turn = f .turn })
+      (counted j k e))
 
 -- A refusal ends the run with its number.
-number-ends : (says : Says) (p : Progress) (x : Code.Id) (t : Table) (n : ℕ) → saysOf says p x t ≡ refused n [] → (c : Client) (k : ℕ) → goes says c k t ≡ Replays.ended c k t n
+number-ends : (says : Says) (p : Progress) (x : Code.Id) (t : Table) (n : ℕ) → saysOf says p x t ≡ refused n []
+    → (c : Client) (k : ℕ) → goes says c k t ≡ Replays.ended c k t n
 unfolding saysOf goes endOf
 number-ends (Granted m) p x t n e c k = absurd (let z : _≡_ {A = ℕ} 0 1 = cc in omega arith)
 number-ends (Closing m) p x t n e c k = absurd (let z : _≡_ {A = ℕ} 0 1 = cc in omega arith)
@@ -132,7 +147,9 @@ number-ends (Refused r) p x t n e c k = ap (Replays.ended c k t) number
     number = cc
 
 -- A record makes of a run what its hearing makes of the machine.
-module _ (seed : ℕ) (id : Option Id) (s : State) (f : Fits (record { seed = seed; id = id; turn = waiting (selecting (walking s)) })) (bytes : List ℕ) (j k : ℕ) (e : j ≡ suc k % 65536) where
+module _ (seed : ℕ) (id : Option Id) (s : State)
+    (f : Fits (record { seed = seed; id = id; turn = waiting (selecting (walking s)) })) (bytes : List ℕ) (j k : ℕ)
+    (e : j ≡ suc k % 65536) where
   abbrev w : Machine.Client
   w = record { seed = seed; id = id; turn = waiting (selecting (walking s)) }
 
@@ -140,7 +157,8 @@ module _ (seed : ℕ) (id : Option Id) (s : State) (f : Fits (record { seed = se
   kept = cleared (select (Phases.selected (walking s))) id
 
   abbrev settled : Next → Machine.Told
-  settled n = Machine.settle (record { seed = seed; id = kept; turn = waiting (selecting (walking s)) }) none (Phases.walked n) (length bytes)
+  settled n = Machine.settle (record { seed = seed; id = kept; turn = waiting (selecting (walking s)) }) none
+      (Phases.walked n) (length bytes)
 
   tells : Machine.record′ w [] bytes ≡ settled (Walking.step s (hear bytes))
   unfolding Machine.record′ Phases.step Phases.hears
@@ -149,7 +167,8 @@ module _ (seed : ℕ) (id : Option Id) (s : State) (f : Fits (record { seed = se
   abbrev onto : Next → Replay
   onto n = goes (toldAs (settled n) .says) (toldAs (settled n) .client) j (toldAs (settled n) .found)
 
-  takes-is : takes (record { client = clientOf w; stage = Running; selects = j; found = noTable }) bytes ≡ onto (Walking.step s (hear bytes))
+  takes-is : takes (record { client = clientOf w; stage = Running; selects = j; found = noTable }) bytes
+      ≡ onto (Walking.step s (hear bytes))
   unfolding takes
   takes-is = ap (λ (t : Told). goes (t .says) (t .client) j (t .found)) (record-told w f [] bytes ∙ ap toldAs tells)
 
@@ -161,40 +180,56 @@ module _ (seed : ℕ) (id : Option Id) (s : State) (f : Fits (record { seed = se
   onto-stands (going t) ft u fc = asked-stands seed kept t fc j (suc k) e
   onto-stands (ended (done ids)) ft u fc = over′ (toldAs (settled (ended (done ids))) .client) (done ids) j (suc k) e ft
   onto-stands (ended (stopped n)) ft u fc =
-      rw (number-ends (refusedAs n [] .says) _ (refusedAs n [] .id) (refusedAs n [] .found) n u (toldAs (settled (ended (stopped n))) .client) j, refused-table n [])
+      rw (
+        number-ends (refusedAs n [] .says) _ (refusedAs n [] .id) (refusedAs n [] .found) n u
+            (toldAs (settled (ended (stopped n))) .client) j,
+        refused-table n [],
+      )
       (over′ (toldAs (settled (ended (stopped n))) .client) (stopped n) j (suc k) e tt)
 
-  took : Stands (takes (record { client = clientOf w; stage = Running; selects = j; found = noTable }) bytes) (Walking.step s (hear bytes)) (suc k)
-  took = rw takes-is (onto-stands (Walking.step s (hear bytes)) (step-fits s (hear bytes) (f .turn)) (step-stops s (hear bytes)) settled-fits)
+  took : Stands (takes (record { client = clientOf w; stage = Running; selects = j; found = noTable }) bytes)
+      (Walking.step s (hear bytes)) (suc k)
+  took = rw takes-is (onto-stands (Walking.step s (hear bytes)) (step-fits s (hear bytes) (f .turn))
+      (step-stops s (hear bytes)) settled-fits)
 
 -- Document 01's conversation where the machine stands.
-over-step : (s : State) (rs : Records) (k : ℕ) → Log.over (resumed (going s)) rs k ≡ Log.over (Walk.select (Walking.request s) (λ h. resumed (Walking.step s h))) rs k
+over-step : (s : State) (rs : Records) (k : ℕ)
+    → Log.overRecords (resumed (going s)) rs k
+    ≡ Log.overRecords (Walk.select (Walking.request s) (λ h. resumed (Walking.step s h))) rs k
 unfolding resumed
-over-step s rs k = ap (λ (m : Walk.Walk (List Id)). Log.over m rs k) (resume-step s)
+over-step s rs k = ap (λ (m : Walk.Walk (List Id)). Log.overRecords m rs k) (resume-step s)
 
 abbrev pub Talks : Records → Type 0
-Talks rs = (v : Replay) (n : Next) (k : ℕ) → Stands v n k → Closed (talk v rs) ((Log.over (resumed n) rs k) .0) ((Log.over (resumed n) rs k) .1)
+Talks rs = (v : Replay) (n : Next) (k : ℕ) → Stands v n k
+    → Closed (talk v rs) ((Log.overRecords (resumed n) rs k) .0) ((Log.overRecords (resumed n) rs k) .1)
 
 ended-talks : (rs : Records) (x : Client) (e : Ended (List Id)) (j k : ℕ) → j ≡ k % 65536 → FitsNext (ended e)
-    → Closed (talk (Replays.ended x j (endTable e) (numbered e)) rs) ((Log.over (resumed (ended e)) rs k) .0) ((Log.over (resumed (ended e)) rs k) .1)
-unfolding Log.over resumed answer
-ended-talks rs x (done ids) j k e f = rw (talk-ended rs (Replays.ended x j (tableOf ids) 0) refl) (record { code = refl; found = refl; selects = e; fits = f })
-ended-talks rs x (stopped n) j k e f = rw (talk-ended rs (Replays.ended x j noTable n) refl) (record { code = refl; found = refl; selects = e; fits = tt })
+    → Closed (talk (Replays.ended x j (endTable e) (numbered e)) rs) ((Log.overRecords (resumed (ended e)) rs k) .0)
+    ((Log.overRecords (resumed (ended e)) rs k) .1)
+unfolding Log.overRecords resumed answer
+ended-talks rs x (done ids) j k e f =
+    rw (talk-ended rs (Replays.ended x j (tableOf ids) 0) refl)
+    (record { code = refl; found = refl; selects = e; fits = f })
+ended-talks rs x (stopped n) j k e f =
+    rw (talk-ended rs (Replays.ended x j noTable n) refl) (record { code = refl; found = refl; selects = e; fits = tt })
 
 missing-talks : Talks missing
-unfolding talk Log.over resumed answer
+unfolding talk Log.overRecords resumed answer
 missing-talks v n k (over′ x e j k₁ r f) = ended-talks missing x e j k₁ r f
-missing-talks v n k (out seed id s j k₁ f r) = rw (over-step s missing k₁) (record { code = refl; found = refl; selects = r; fits = tt })
+missing-talks v n k (out seed id s j k₁ f r) =
+    rw (over-step s missing k₁) (record { code = refl; found = refl; selects = r; fits = tt })
 
 spoilt-talks : Talks spoilt
-unfolding talk Log.over resumed answer
+unfolding talk Log.overRecords resumed answer
 spoilt-talks v n k (over′ x e j k₁ r f) = ended-talks spoilt x e j k₁ r f
-spoilt-talks v n k (out seed id s j k₁ f r) = rw (over-step s spoilt k₁) (record { code = refl; found = refl; selects = r; fits = tt })
+spoilt-talks v n k (out seed id s j k₁ f r) =
+    rw (over-step s spoilt k₁) (record { code = refl; found = refl; selects = r; fits = tt })
 
 next-talks : (bytes : List ℕ) (rs : Records) → Talks rs → Talks (next bytes rs)
-unfolding talk Log.over
+unfolding talk Log.overRecords
 next-talks bytes rs ih v n k (over′ x e j k₁ r f) = ended-talks (next bytes rs) x e j k₁ r f
-next-talks bytes rs ih v n k (out seed id s j k₁ f r) = rw (over-step s (next bytes rs) k₁) (ih _ (Walking.step s (hear bytes)) (suc k₁) (took seed id s f bytes j k₁ r))
+next-talks bytes rs ih v n k (out seed id s j k₁ f r) =
+    rw (over-step s (next bytes rs) k₁) (ih _ (Walking.step s (hear bytes)) (suc k₁) (took seed id s f bytes j k₁ r))
 
 pub talks : (rs : Records) → Talks rs
 talks missing = missing-talks

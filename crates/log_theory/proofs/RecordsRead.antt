@@ -1,5 +1,5 @@
--- A record read byte by byte is the paper's record, and what is left of a run is the client's talk over the records that are left.
--- Assumes nothing.
+-- A record read byte by byte is the paper's record, and what is left of a run is the client's talk over the records
+-- that are left.
 use Prim.Native.Nat.{ℕ, _+_, _*_, _%_, _<_, _≤_}
 use mathlib.Core.Bool.{Bool, true, false, false≢true}
 use mathlib.Core.List.{List, [], _∷_, _++_}
@@ -28,7 +28,8 @@ use Rattle.log_theory.proofs.LinesLeft.{from, fromEven, fromOdd}
 use Rattle.log_theory.proofs.LinesLeft as Rest
 use Rattle.log_theory.proofs.ByteSteps.{reader, at, with′}
 use Rattle.log_theory.proofs.ByteSteps as Bytes
-use Rattle.log_theory.proofs.ReadToEnd.{ran, ran-byte, ran-ended, talk-ended, end-start, end-even, end-odd, settled, goes-settled, spoils}
+use Rattle.log_theory.proofs.ReadToEnd.{ran, ran-byte, ran-ended, talk-ended, end-start, end-even, end-odd}
+use Rattle.log_theory.proofs.ReadToEnd.{settled, goes-settled, spoils}
 
 pub lines-lf : (b : ℕ) (bs : List ℕ) → eqb b 10 ≡ true → lines (b ∷ bs) ≡ [] ∷ lines bs
 unfolding lines
@@ -47,22 +48,26 @@ abbrev pub left : Place → ℕ → Replay → List ℕ → List ℕ → Replay
 left p n v buf xs = talk v (from (length buf) p (take n buf) (lines xs))
 
 abbrev pub Right : List ℕ → Type 0
-Right xs = (p : Place) (n : ℕ) (v : Replay) (buf : List ℕ) → v .stage ≡ Running → n ≤ length buf → ran (at (reader p n false) v buf) xs ≡ left p n v buf xs
+Right xs = (p : Place) (n : ℕ) (v : Replay) (buf : List ℕ) → v .stage ≡ Running → n ≤ length buf
+    → ran (at (reader p n false) v buf) xs ≡ left p n v buf xs
 
 going : (v : Replay) → v .stage ≡ Running → isEnded (v .stage) ≡ false
 going v e = rw e
 
 -- A run that goes on after a record, or after line one.
-pub resumed : (xs : List ℕ) → Right xs → (v : Replay) (buf : List ℕ) → settled (v .stage) ≡ true → ran (at idle v buf) xs ≡ talk v (joined (length buf) [] (lines xs))
+pub resumed : (xs : List ℕ) → Right xs → (v : Replay) (buf : List ℕ) → settled (v .stage) ≡ true
+    → ran (at idle v buf) xs ≡ talk v (joined (length buf) [] (lines xs))
 unfolding from settled
 resumed xs ih v buf s = go (v .stage) refl s
   where
-    go : (t : Stage) → v .stage ≡ t → settled t ≡ true → ran (at idle v buf) xs ≡ talk v (joined (length buf) [] (lines xs))
+    go : (t : Stage) → v .stage ≡ t → settled t ≡ true
+        → ran (at idle v buf) xs ≡ talk v (joined (length buf) [] (lines xs))
     go First e s = absurd (false≢true s)
     go Running e s = ih Start 0 v buf e (omega arith)
     go (Ended k) e s = ran-ended v buf xs (rw e) ∙ sym (talk-ended (joined (length buf) [] (lines xs)) v (rw e))
 
-module _ (b : ℕ) (bs : List ℕ) (ih : Right bs) (n : ℕ) (v : Replay) (buf : List ℕ) (run : v .stage ≡ Running) (room : n ≤ length buf) where
+module _ (b : ℕ) (bs : List ℕ) (ih : Right bs) (n : ℕ) (v : Replay) (buf : List ℕ) (run : v .stage ≡ Running)
+    (room : n ≤ length buf) where
   abbrev cap : ℕ
   cap = length buf
 
@@ -73,14 +78,16 @@ module _ (b : ℕ) (bs : List ℕ) (ih : Right bs) (n : ℕ) (v : Replay) (buf :
   long = length-take-le n buf room
 
   -- The paper's side, by the lines that are left.
-  paper : (p : Place) (ls : List (List ℕ)) (rs : Records) → lines (b ∷ bs) ≡ ls → from cap p acc ls ≡ rs → talk v rs ≡ left p n v buf (b ∷ bs)
+  paper : (p : Place) (ls : List (List ℕ)) (rs : Records) → lines (b ∷ bs) ≡ ls → from cap p acc ls ≡ rs
+      → talk v rs ≡ left p n v buf (b ∷ bs)
   paper p ls rs e q = sym (ap (talk v) (ap (from cap p acc) e ∙ q))
 
   spoilt-is : stops v 22 ≡ talk v spoilt
   unfolding talk
   spoilt-is = rw run
 
-  both-refuse : (p : Place) (ls : List (List ℕ)) → turn p b ≡ Turn.Bad → lines (b ∷ bs) ≡ ls → from cap p acc ls ≡ spoilt → ran (at (reader p n false) v buf) (b ∷ bs) ≡ left p n v buf (b ∷ bs)
+  both-refuse : (p : Place) (ls : List (List ℕ)) → turn p b ≡ Turn.Bad → lines (b ∷ bs) ≡ ls
+      → from cap p acc ls ≡ spoilt → ran (at (reader p n false) v buf) (b ∷ bs) ≡ left p n v buf (b ∷ bs)
   both-refuse p ls e el q =
       ran-byte _ _ b bs (Bytes.refused v (going v run) p n false buf b e)
       ∙ ran-ended (stops v 22) buf bs refl ∙ spoilt-is ∙ paper p ls spoilt el q
@@ -91,7 +98,8 @@ module _ (b : ℕ) (bs : List ℕ) (ih : Right bs) (n : ℕ) (v : Replay) (buf :
 
   takes-settled : settled (takes v acc .stage) ≡ true
   unfolding takes
-  takes-settled = goes-settled (record′ (v .client) [] acc .says) (record′ (v .client) [] acc .client) (v .selects) (record′ (v .client) [] acc .found)
+  takes-settled = goes-settled (record′ (v .client) [] acc .says) (record′ (v .client) [] acc .client) (v .selects)
+      (record′ (v .client) [] acc .found)
 
   taken-is : talk (takes v acc) (joined cap [] (lines bs)) ≡ talk v (next acc (joined cap [] (lines bs)))
   unfolding talk
@@ -104,55 +112,69 @@ module _ (b : ℕ) (bs : List ℕ) (ih : Right bs) (n : ℕ) (v : Replay) (buf :
   one-lf : (p : Place) → eqb b 10 ≡ true → ran (at (reader p n false) v buf) (b ∷ bs) ≡ left p n v buf (b ∷ bs)
   unfolding from joined
   one-lf Start lf =
-      ran-byte _ (at idle (takes v acc) buf) b bs (Bytes.empty v (going v run) Start n false buf b (Bytes.lf-start b lf) ∙ ap (λ (w : Log). with′ w buf) emptied-is)
+      ran-byte _ (at idle (takes v acc) buf) b bs
+      (Bytes.empty v (going v run) Start n false buf b (Bytes.lf-start b lf)
+      ∙ ap (λ (w : Log). with′ w buf) emptied-is)
       ∙ resumed bs ih (takes v acc) buf takes-settled
       ∙ taken-is
       ∙ paper Start ([] ∷ lines bs) (next acc (joined cap [] (lines bs))) (lines-lf b bs lf) refl
   one-lf Even lf =
-      ran-byte _ (at (reader Start n false) v buf) b bs (Bytes.line v (going v run) Even n false buf b (Bytes.lf-even b lf) ∙ ap (λ (w : Log). with′ w buf) lined-is)
+      ran-byte _ (at (reader Start n false) v buf) b bs
+      (Bytes.line v (going v run) Even n false buf b (Bytes.lf-even b lf) ∙ ap (λ (w : Log). with′ w buf) lined-is)
       ∙ ih Start n v buf run room
-      ∙ paper Even ([] ∷ lines bs) (from cap Start acc (lines bs)) (lines-lf b bs lf) (Rest.lf-even cap acc (omega (arith, long)) (lines bs))
-  one-lf (Odd h) lf = both-refuse (Odd h) ([] ∷ lines bs) (Bytes.lf-odd b lf h) (lines-lf b bs lf) (Rest.lf-odd cap h acc (lines bs))
+      ∙ paper Even ([] ∷ lines bs) (from cap Start acc (lines bs)) (lines-lf b bs lf)
+      (Rest.lf-even cap acc (omega (arith, long)) (lines bs))
+  one-lf (Odd h) lf = both-refuse (Odd h) ([] ∷ lines bs) (Bytes.lf-odd b lf h) (lines-lf b bs lf)
+      (Rest.lf-odd cap h acc (lines bs))
 
   module _ (other : eqb b 10 ≡ false) where
-    kept : (x : ℕ) → n < length buf → left Even (n + 1) v (set buf n x) bs ≡ talk v (from cap Even (acc ++ (x ∷ [])) (lines bs))
+    kept : (x : ℕ) → n < length buf
+        → left Even (n + 1) v (set buf n x) bs ≡ talk v (from cap Even (acc ++ (x ∷ [])) (lines bs))
     kept x h =
         ap (λ (c : ℕ). talk v (from c Even (take (n + 1) (set buf n x)) (lines bs))) (length-set buf n x)
         ∙ ap (λ (l : List ℕ). talk v (from cap Even l (lines bs))) (stored buf n x h)
 
-    digit-odd : (h : ℕ) → ltb (digit b) 16 ≡ true → (f : Bool) → ltb n (length buf) ≡ f → ran (at (reader (Odd h) n false) v buf) (b ∷ bs) ≡ left (Odd h) n v buf (b ∷ bs)
+    digit-odd : (h : ℕ) → ltb (digit b) 16 ≡ true → (f : Bool) → ltb n (length buf) ≡ f
+        → ran (at (reader (Odd h) n false) v buf) (b ∷ bs) ≡ left (Odd h) n v buf (b ∷ bs)
     digit-odd h d true ef =
         let k : n < length buf = ltb-true n (length buf) ef in
         let x = h % 16 * 16 + digit b in
         ran-byte _ _ b bs (Bytes.fits v (going v run) (Odd h) n false buf b x (Bytes.digit-odd b other h d) k)
         ∙ ih Even (n + 1) v (set buf n x) run (omega (arith, length-set buf n x))
         ∙ kept x k
-        ∙ paper (Odd h) (longer b (lines bs)) (from cap Even (acc ++ (x ∷ [])) (lines bs)) (lines-other b bs other) (Rest.whole b d cap h acc (omega (arith, long)) (lines bs))
+        ∙ paper (Odd h) (longer b (lines bs)) (from cap Even (acc ++ (x ∷ [])) (lines bs)) (lines-other b bs other)
+        (Rest.whole b d cap h acc (omega (arith, long)) (lines bs))
     digit-odd h d false ef =
         let k : length buf ≤ n = ltb-false n (length buf) ef in
         let x = h % 16 * 16 + digit b in
         ran-byte _ _ b bs (Bytes.over v (going v run) (Odd h) n false buf b x (Bytes.digit-odd b other h d) k)
         ∙ spoils v run bs Even n buf refl
         ∙ spoilt-is
-        ∙ paper (Odd h) (longer b (lines bs)) spoilt (lines-other b bs other) (Rest.over b d cap h acc (omega (arith, long)) (lines bs))
+        ∙ paper (Odd h) (longer b (lines bs)) spoilt (lines-other b bs other)
+        (Rest.over b d cap h acc (omega (arith, long)) (lines bs))
 
-    one-other : (p : Place) (d : Bool) → ltb (digit b) 16 ≡ d → ran (at (reader p n false) v buf) (b ∷ bs) ≡ left p n v buf (b ∷ bs)
-    one-other p false d = both-refuse p (longer b (lines bs)) (Bytes.no-digit b other p d) (lines-other b bs other) (Rest.refused b d cap p acc (lines bs))
+    one-other : (p : Place) (d : Bool) → ltb (digit b) 16 ≡ d
+        → ran (at (reader p n false) v buf) (b ∷ bs) ≡ left p n v buf (b ∷ bs)
+    one-other p false d = both-refuse p (longer b (lines bs)) (Bytes.no-digit b other p d) (lines-other b bs other)
+        (Rest.refused b d cap p acc (lines bs))
     one-other Start true d =
         ran-byte _ _ b bs (Bytes.half v (going v run) Start n false buf b (digit b) (Bytes.digit-start b other d))
         ∙ ih (Odd (digit b)) n v buf run room
-        ∙ paper Start (longer b (lines bs)) (from cap (Odd (digit b)) acc (lines bs)) (lines-other b bs other) (Rest.half-start b d cap acc (lines bs))
+        ∙ paper Start (longer b (lines bs)) (from cap (Odd (digit b)) acc (lines bs)) (lines-other b bs other)
+        (Rest.half-start b d cap acc (lines bs))
     one-other Even true d =
         ran-byte _ _ b bs (Bytes.half v (going v run) Even n false buf b (digit b) (Bytes.digit-even b other d))
         ∙ ih (Odd (digit b)) n v buf run room
-        ∙ paper Even (longer b (lines bs)) (from cap (Odd (digit b)) acc (lines bs)) (lines-other b bs other) (Rest.half-even b d cap acc (lines bs))
+        ∙ paper Even (longer b (lines bs)) (from cap (Odd (digit b)) acc (lines bs)) (lines-other b bs other)
+        (Rest.half-even b d cap acc (lines bs))
     one-other (Odd h) true d = digit-odd h d (ltb n (length buf)) refl
 
   one : (p : Place) (e : Bool) → eqb b 10 ≡ e → ran (at (reader p n false) v buf) (b ∷ bs) ≡ left p n v buf (b ∷ bs)
   one p true lf = one-lf p lf
   one p false other = one-other other p (ltb (digit b) 16) refl
 
-at-end : (p : Place) (n : ℕ) (v : Replay) (buf : List ℕ) → v .stage ≡ Running → ran (at (reader p n false) v buf) [] ≡ left p n v buf []
+at-end : (p : Place) (n : ℕ) (v : Replay) (buf : List ℕ) → v .stage ≡ Running
+    → ran (at (reader p n false) v buf) [] ≡ left p n v buf []
 unfolding talk from fromEven fromOdd lines joined lined
 at-end Start n v buf run = end-start v n false buf
 at-end Even n v buf run = end-even v (going v run) n false buf ∙ rw run

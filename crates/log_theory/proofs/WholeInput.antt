@@ -1,5 +1,4 @@
 -- The log read in any pieces is a function of the whole input: of line one, and the client's talk over the records.
--- Assumes nothing.
 use Prim.Native.Nat.{ℕ}
 use mathlib.Core.List.{List, [], _∷_, _++_}
 use mathlib.Core.Path.{_≡_, refl, sym, _∙_, ap}
@@ -44,5 +43,6 @@ whole ps buf h =
 
 -- What is written of them.
 pub whole-text : (ps : List (List ℕ)) (buf : List ℕ) → length buf ≡ 4096
-    → text (answer (lastLine (pieces (record { log = begun; bytes = buf }) ps) .log .replay)) ≡ text (answer (runOf (concat ps)))
+    → text (answer (lastLine (pieces (record { log = begun; bytes = buf }) ps) .log .replay))
+    ≡ text (answer (runOf (concat ps)))
 whole-text ps buf h = ap (λ (v : Replay). text (answer v)) (whole ps buf h)

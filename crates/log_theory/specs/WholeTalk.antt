@@ -1,5 +1,4 @@
 -- The client over the records of a whole input: line one, then one record after the other.
--- Assumes nothing.
 use Prim.Native.Nat.{ℕ}
 use mathlib.Core.Bool.{cond}
 use mathlib.Core.List.{List, [], _∷_}

@@ -1,5 +1,4 @@
 -- A choice by a test, from the fact that a branch of the code has: `search (ways, needs)`.
--- Assumes nothing.
 use mathlib.Core.Bool.{Bool, true, false, cond, _&&_, false≢true}
 use mathlib.Core.Path.{_≡_, refl, sym, _∙_}
 use borrow.Author.Tests.{lt-ltb, le-ltb, le-leb, lt-leb, eq-eqb, ne-eqb}
@@ -20,7 +19,19 @@ pub and-not-right : (a b : Bool) → b ≡ false → (a && b) ≡ false
 and-not-right true b h = h
 and-not-right false b h = refl
 
-pub ruleset ways = (cond-yes, cond-no, and-yes, and-not-left, and-not-right, lt-ltb, le-ltb, le-leb, lt-leb, eq-eqb, ne-eqb)
+pub ruleset ways = (
+  cond-yes,
+  cond-no,
+  and-yes,
+  and-not-left,
+  and-not-right,
+  lt-ltb,
+  le-ltb,
+  le-leb,
+  lt-leb,
+  eq-eqb,
+  ne-eqb,
+)
 
 -- What holds of both holds of the one that a test chooses.
 pub by-test : {A : Type 0} (P : A → Type 0) (b : Bool) {x y : A} → (b ≡ true → P x) → (b ≡ false → P y) → P (cond b x y)

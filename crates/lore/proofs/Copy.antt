@@ -1,5 +1,4 @@
 -- A copy to the front of a list, one element further; and at its end. The source is any list, a repeat too.
--- Assumes nothing.
 use Prim.Native.Nat.{ℕ, suc, _+_, _<_, _≤_}
 use mathlib.Core.List.{List, _++_, [], _∷_, append-assoc}
 use mathlib.Core.Path.{_≡_, sym, _∙_, ap}
@@ -26,7 +25,8 @@ module _ (s d l : List ℕ) (i : ℕ) (e : l ≡ take i s ++ drop i d) where
 module _ (n v : ℕ) (d l : List ℕ) (i : ℕ) (e : l ≡ take i (replicate n v) ++ drop i d) where
   pub fill-more : i < n → n ≤ length d → set l i v ≡ take (i + 1) (replicate n v) ++ drop (i + 1) d
   fill-more h room =
-      ap (set l i) (sym (getD-replicate n i v 0 h)) ∙ copy-more (replicate n v) d l i e (rw (length-replicate n v) h) (rw (length-replicate n v) room)
+      ap (set l i) (sym (getD-replicate n i v 0 h))
+      ∙ copy-more (replicate n v) d l i e (rw (length-replicate n v) h) (rw (length-replicate n v) room)
 
   pub fill-done : i ≤ n → n ≤ i → l ≡ replicate n v ++ drop n d
   fill-done h k =

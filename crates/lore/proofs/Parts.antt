@@ -1,5 +1,4 @@
 -- A part from a place to the end that was lent, said of the whole.
--- Assumes nothing.
 use Prim.Native.Nat.{ℕ, _+_, _-_}
 use mathlib.Core.List.{List, _++_, append-nil, append-assoc}
 use mathlib.Core.Path.{_≡_, sym, _∙_, ap}
@@ -13,7 +12,8 @@ part-all a xs = take-all (length xs - a) (drop a xs) (omega (arith, length-drop 
 
 pub mid-all : (a : ℕ) (xs ys : List ℕ) → putMid a (length xs - a) xs ys ≡ take a xs ++ ys
 mid-all a xs ys =
-    ap (λ (r : List ℕ). take a xs ++ (ys ++ r)) (drop-of-length-le (drop a xs) {i = length xs - a} (omega (arith, length-drop a xs)))
+    ap (λ (r : List ℕ). take a xs ++ (ys ++ r))
+    (drop-of-length-le (drop a xs) {i = length xs - a} (omega (arith, length-drop a xs)))
     ∙ ap (λ (r : List ℕ). take a xs ++ r) (append-nil ys)
 
 -- A list put into the part that was lent from a place on.
@@ -21,5 +21,7 @@ pub put-part : (at : ℕ) (s b d : List ℕ) → d ≡ s ++ drop (length s) (tak
     → putMid at (length b - at) b d ≡ take at b ++ s ++ drop (at + length s) b
 put-part at s b d e =
     mid-all at b d
-    ∙ ap (λ (r : List ℕ). take at b ++ r) (e ∙ ap (λ (r : List ℕ). s ++ drop (length s) r) (part-all at b) ∙ ap (λ (r : List ℕ). s ++ r) (drop-drop (length s) at b))
+    ∙ ap (λ (r : List ℕ). take at b ++ r)
+    (e ∙ ap (λ (r : List ℕ). s ++ drop (length s) r) (part-all at b)
+    ∙ ap (λ (r : List ℕ). s ++ r) (drop-drop (length s) at b))
     ∙ sym (append-assoc (take at b) s (drop (at + length s) b))

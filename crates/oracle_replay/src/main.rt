@@ -1,5 +1,6 @@
-// Runs of the Rust that were written down: the operations and the records come in, and what this client sends and how it ends go out.
-// The lines are those of tests/oracle: an operation, a record a line with 00 before its bytes, an empty line.
+// Runs of the Rust that were written down: the operations and the records come in, and what this client sends and how
+// it ends go out. The lines are those of tests/oracle: an operation, a record a line with 00 before its bytes, an empty
+// line.
 use client::Client;
 use client::Outcome;
 use client::Progress;

@@ -1,5 +1,4 @@
 -- The frame that answers a request: where it lies in the record, and what its payload is there.
--- Assumes nothing.
 use Prim.Native.Nat.{ℕ, zero, suc, _+_, _-_, _≤_}
 use mathlib.Core.Bool.{Bool, true, false, cond}
 use mathlib.Core.List.{List}
@@ -8,8 +7,10 @@ use native.Mathlib.Omega.{arith}
 use lib.ListN.{length, take, drop, length-drop}
 use lib.Seq.{drop-drop}
 use lib.Dec.{eqb}
-use Rattle.paper.specs.Frame.{Frame, size, Reading, short, tooLong, badCheck, whole, onReading, read, status-Request, status-Ok, status-CrcMismatch}
-use Rattle.paper.specs.Answers.{Reply, ok, device, Answer, lost, answered, replyOf, unlessEcho, answerFrom, answer}
+use Rattle.paper.specs.Frame.{Frame, size, Reading, short, tooLong, badCheck, whole, onReading, read}
+use Rattle.paper.specs.Frame.{status-Request, status-Ok, status-CrcMismatch}
+use Rattle.paper.specs.Answers.{Reply, ok, device, Answer, lost, answered, replyOf, unlessEcho, answerFrom}
+use Rattle.paper.specs.Answers.{answer}
 use Rattle.paper.proofs.Readings.{Read, framed, read-known}
 
 -- What a frame says, with its check right or not.
@@ -27,7 +28,8 @@ pub record Found (bytes : List ℕ) (r : Reply) (end : ℕ) : Type 0 where
   pub says : saidBy right frame ≡ r
   pub ends : from + (skip + size frame) ≡ end
 
-found-from : (n at : ℕ) (bytes : List ℕ) (r : Reply) (end : ℕ) → answerFrom n at bytes ≡ answered r end → Found bytes r end
+found-from : (n at : ℕ) (bytes : List ℕ) (r : Reply) (end : ℕ) → answerFrom n at bytes ≡ answered r end
+    → Found bytes r end
 unfolding answerFrom
 found-from zero at bytes r end e = absurd (let z : _≡_ {A = ℕ} 0 1 = cc in omega arith)
 found-from (suc n) at bytes r end e = go (λ later. found-from n later bytes r end) (read (drop at bytes)) refl e
@@ -41,10 +43,12 @@ found-from (suc n) at bytes r end e = go (λ later. found-from n later bytes r e
     which : More → (right : Bool) (k : ℕ) (f : Frame) → read (drop at bytes) ≡ framed right k f → (b : Bool)
         → cond b (next k f) (answered (saidBy right f) (at + (k + size f))) ≡ answered r end → Found bytes r end
     which more right k f q true e = more (at + (k + size f)) e
-    which more right k f q false e = record { from = at; skip = k; frame = f; right = right; reads = q; says = cc; ends = cc }
+    which more right k f q false e =
+        record { from = at; skip = k; frame = f; right = right; reads = q; says = cc; ends = cc }
 
     go : More → (x : Reading) → read (drop at bytes) ≡ x
-        → onReading x lost lost (λ k f. unlessEcho f (next k f) (answered (device status-CrcMismatch) (at + (k + size f))))
+        → onReading x lost lost (λ k f. unlessEcho f (next k f)
+        (answered (device status-CrcMismatch) (at + (k + size f))))
         (λ k f. unlessEcho f (next k f) (answered (replyOf f) (at + (k + size f)))) ≡ answered r end
         → Found bytes r end
     go more short q e = absurd (let z : _≡_ {A = ℕ} 0 1 = cc in omega arith)
@@ -72,8 +76,13 @@ ok-payload false f payload e = absurd (let z : _≡_ {A = ℕ} 0 1 = cc in omega
 
 -- The payload of an answer of status Ok lies two bytes before the answer's end.
 pub answer-payload : (bytes payload : List ℕ) (end : ℕ) → answer bytes ≡ answered (ok payload) end
-    → (end - (2 + length payload) + length payload ≤ length bytes) × (take (length payload) (drop (end - (2 + length payload)) bytes) ≡ payload)
-answer-payload bytes payload end e = (omega (arith, start, f .ends, ap length same, answer-end bytes (ok payload) end e), ap (λ (x : ℕ). take (length payload) (drop x bytes)) start ∙ there)
+    → (end - (2 + length payload) + length payload ≤ length bytes)
+    × (take (length payload) (drop (end - (2 + length payload)) bytes) ≡ payload)
+answer-payload bytes payload end e = (
+  omega (arith, start, f .ends, ap length same, answer-end bytes (ok payload) end e),
+  ap
+      (λ (x : ℕ). take (length payload) (drop x bytes)) start ∙ there,
+)
   where
     f : Found bytes (ok payload) end
     f = answer-found bytes (ok payload) end e
@@ -89,7 +98,8 @@ answer-payload bytes payload end e = (omega (arith, start, f .ends, ap length sa
 
     there : take (length payload) (drop (f .from + (f .skip + 10)) bytes) ≡ payload
     there =
-        ap (λ (x : List ℕ). take (length payload) x) (sym (drop-drop (f .skip + 10) (f .from) bytes) ∙ sym (drop-drop 10 (f .skip) (drop (f .from) bytes)))
+        ap (λ (x : List ℕ). take (length payload) x)
+        (sym (drop-drop (f .skip + 10) (f .from) bytes) ∙ sym (drop-drop 10 (f .skip) (drop (f .from) bytes)))
         ∙ ap (λ (x : List ℕ). take (length x) (drop 10 (drop (f .skip) (drop (f .from) bytes)))) (sym same)
         ∙ sym (ap (λ (x : Frame). x .payload) (k .frame))
         ∙ same

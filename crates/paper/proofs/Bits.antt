@@ -1,5 +1,4 @@
 -- The bits of an id one by one: how many there are, the one at a place, and a row of them in two parts.
--- Assumes nothing.
 use Prim.Native.Nat.{ℕ, zero, suc, _+_, _-_, _*_, _/_, _%_, _^_, _<_, _≤_}
 use mathlib.Core.Bool.{Bool, false}
 use mathlib.Core.List.{List, _∷_, _++_}
@@ -21,7 +20,8 @@ module _ {A : Type 0} (f : ℕ → A) where
   unfolding counting
   counting-at d zero k i h = absurd (omega arith)
   counting-at d (suc n) k zero h = let e : k ≡ k + 0 = omega arith in ap f e
-  counting-at d (suc n) k (suc i) h = let e : suc k + i ≡ k + suc i = omega arith in counting-at d n (suc k) i (omega arith) ∙ ap f e
+  counting-at d (suc n) k (suc i) h = let e : suc k + i ≡ k + suc i = omega arith
+      in counting-at d n (suc k) i (omega arith) ∙ ap f e
 
 module _ {A : Type 0} where
   -- The count in two parts.
@@ -31,7 +31,8 @@ module _ {A : Type 0} where
   counting-add f (suc m) n k = rw (suc-add, add-suc) (ap (f k ∷_) (rw suc-add at (counting-add f m n (suc k))))
 
   -- Two functions that agree on the numbers counted.
-  pub counting-same : (f g : ℕ → A) (n k j : ℕ) → ((i : ℕ) → i < n → f (k + i) ≡ g (j + i)) → counting f k n ≡ counting g j n
+  pub counting-same : (f g : ℕ → A) (n k j : ℕ) → ((i : ℕ) → i < n → f (k + i) ≡ g (j + i))
+      → counting f k n ≡ counting g j n
   unfolding counting
   counting-same f g zero k j h = refl
   counting-same f g (suc n) k j h =
@@ -53,9 +54,11 @@ unfolding bitsOf bit
 bits-byte id i r h room =
     ap (λ (n : ℕ). take r (drop (8 * i) (counting (bit id) 0 n))) whole
     ∙ ap (λ (l : List Bool). take r (drop (8 * i) l)) (counting-add (bit id) (8 * i) (r + left) 0)
-    ∙ ap (take r) (drop-at (counting (bit id) 0 (8 * i)) (counting (bit id) (0 + 8 * i) (r + left)) (8 * i) (counting-length (bit id) 0 (8 * i)))
+    ∙ ap (take r) (drop-at (counting (bit id) 0 (8 * i)) (counting (bit id) (0 + 8 * i) (r + left)) (8 * i)
+    (counting-length (bit id) 0 (8 * i)))
     ∙ ap (take r) (counting-add (bit id) r left (0 + 8 * i))
-    ∙ take-at (counting (bit id) (0 + 8 * i) r) (counting (bit id) (0 + 8 * i + r) left) r (counting-length (bit id) (0 + 8 * i) r)
+    ∙ take-at (counting (bit id) (0 + 8 * i) r) (counting (bit id) (0 + 8 * i + r) left) r
+    (counting-length (bit id) (0 + 8 * i) r)
     ∙ counting-same (bit id) (λ k. eqb (getD id i 0 / 2 ^ k % 2) 1) r (0 + 8 * i) 0 (λ k l. same k l)
   where
     left : ℕ
@@ -64,7 +67,8 @@ bits-byte id i r h room =
     whole : 8 * length id ≡ 8 * i + (r + left)
     whole = omega arith
 
-    same : (k : ℕ) → k < r → eqb (getD id ((0 + 8 * i + k) / 8) 0 / 2 ^ ((0 + 8 * i + k) % 8) % 2) 1 ≡ eqb (getD id i 0 / 2 ^ (0 + k) % 2) 1
+    same : (k : ℕ) → k < r → eqb (getD id ((0 + 8 * i + k) / 8) 0 / 2 ^ ((0 + 8 * i + k) % 8) % 2) 1
+        ≡ eqb (getD id i 0 / 2 ^ (0 + k) % 2) 1
     same k l =
         let d : (0 + 8 * i + k) / 8 ≡ i = omega arith in
         let m : (0 + 8 * i + k) % 8 ≡ k = omega arith in

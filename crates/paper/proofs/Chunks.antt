@@ -1,6 +1,5 @@
--- What the rules on chunks and padding come to: a chunk is a multiple of 4 within 1024, a padded length a multiple of 4 within 3 bytes more,
--- a Write the smaller of a chunk and what is left.
--- Assumes nothing.
+-- What the rules on chunks and padding come to: a chunk is a multiple of 4 within 1024, a padded length a multiple of 4
+-- within 3 bytes more, a Write the smaller of a chunk and what is left.
 use Prim.Native.Nat.{ℕ, _+_, _-_, _*_, _/_, _%_, _<_, _≤_, min}
 use mathlib.Core.Bool.{Bool, true, false, cond}
 use mathlib.Core.Path.{_≡_, refl}

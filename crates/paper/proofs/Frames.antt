@@ -1,5 +1,4 @@
 -- The lengths of a frame's parts.
--- Assumes nothing.
 use Prim.Native.Nat.{ℕ, _+_}
 use mathlib.Core.Path.{_≡_, refl, _∙_, ap}
 use native.Mathlib.Omega.{arith}
@@ -17,4 +16,10 @@ body-length f = length-append (frameHead f) (f .payload) ∙ ap (λ (n : ℕ). n
 
 pub frame-length : (f : Frame) → length (frameBytes f) ≡ size f
 unfolding frameBytes
-frame-length f = omega (arith, length-append (frameBody f) (le 2 (check (frameBody f))), body-length f, le-length 2 (check (frameBody f)))
+frame-length f = omega (
+  arith,
+  length-append (frameBody f) (le 2 (check (frameBody f))),
+  body-length f,
+  le-length 2
+      (check (frameBody f)),
+)

@@ -1,5 +1,5 @@
--- What a digit is worth; the digits of bytes, how many there are and those of two lists one after the other; two characters read.
--- Assumes nothing.
+-- What a digit is worth; the digits of bytes, how many there are and those of two lists one after the other; two
+-- characters read.
 use Prim.Native.Nat.{ℕ, _+_, _-_, _*_, _/_, _%_, _<_, _≤_}
 use mathlib.Core.Bool.{Bool, true, false, _&&_, false≢true}
 use mathlib.Core.List.{List, [], _∷_, _++_}
@@ -84,7 +84,8 @@ hexText-append [] bs = refl
 hexText-append (a ∷ xs) bs = ap (λ (t : List ℕ). hexDigit (a / 16) ∷ hexDigit (a % 16) ∷ t) (hexText-append xs bs)
 
 module _ (h l : ℕ) (text : List ℕ) where
-  pub unhex-pair : (rest : Option (List ℕ)) → digit h < 16 → digit l < 16 → unhex text ≡ rest → unhex (h ∷ l ∷ text) ≡ onSome rest none (λ bytes. some ((digit h * 16 + digit l) ∷ bytes))
+  pub unhex-pair : (rest : Option (List ℕ)) → digit h < 16 → digit l < 16 → unhex text ≡ rest
+      → unhex (h ∷ l ∷ text) ≡ onSome rest none (λ bytes. some ((digit h * 16 + digit l) ∷ bytes))
   unfolding unhex
   unhex-pair rest a b e = rw (lt-ltb (digit h) 16 a, lt-ltb (digit l) 16 b, e)
 

@@ -1,5 +1,4 @@
 -- What meets the premises: each theorem with a premise, applied to values that meet it.
--- Assumes nothing.
 use Prim.Native.Nat.{ℕ}
 use mathlib.Core.Bool.{true, false}
 use mathlib.Core.List.{[], _∷_}
@@ -20,7 +19,8 @@ number-le-met = number-le 4 0x12345678 (lit< tt)
 
 pub le-number-met : le 4 0x12345678 ≡ 0x78 ∷ 0x56 ∷ 0x34 ∷ 0x12 ∷ []
 unfolding number
-le-number-met = le-number (0x78 ∷ 0x56 ∷ 0x34 ∷ 0x12 ∷ []) (omega arith, (omega arith, (omega arith, (omega arith, tt))))
+le-number-met = le-number (0x78 ∷ 0x56 ∷ 0x34 ∷ 0x12 ∷ [])
+    (omega arith, (omega arith, (omega arith, (omega arith, tt))))
 
 -- Bit 10 of C1 05: bit 2 of byte 1.
 pub bits-at-met : getD (bitsOf (0xC1 ∷ 0x05 ∷ [])) 10 false ≡ true

@@ -1,5 +1,4 @@
 -- Bits packed in bytes: how many bytes, each of them as a number, one bit more, and the bits read back.
--- Assumes nothing.
 use Prim.Native.Nat.{ℕ, zero, suc, _+_, _*_, _/_, _%_, _^_, _<_, _≤_}
 use mathlib.Core.Bool.{Bool, true, false, cond}
 use mathlib.Core.List.{List, [], _∷_}
@@ -26,7 +25,8 @@ unfolding packed
 packed-at zero i q h = absurd (omega arith)
 packed-at (suc n) zero q h = refl
 packed-at (suc n) (suc i) q h =
-    packed-at n i (drop 8 q) (omega arith) ∙ ap (λ (l : List Bool). binary (take 8 l)) (drop-drop (8 * i) 8 q ∙ ap (λ (k : ℕ). drop k q) (next i))
+    packed-at n i (drop 8 q) (omega arith)
+    ∙ ap (λ (l : List Bool). binary (take 8 l)) (drop-drop (8 * i) 8 q ∙ ap (λ (k : ℕ). drop k q) (next i))
   where
     next : (i : ℕ) → 8 + 8 * i ≡ 8 * suc i
     next i = omega arith
@@ -43,10 +43,12 @@ binary-bits x j (suc r) = go (binary-bits x (suc j) r) (eqb (x / 2 ^ j % 2) 1) r
     parts : (y : ℕ) → y % 2 ^ suc r ≡ (y / 2 % 2 ^ r) * 2 + y % 2
     parts y = let e : suc r ≡ r + 1 = omega arith in rw e (mod-pow-add y r 1)
 
-    go : binary (counting (λ k. eqb (x / 2 ^ k % 2) 1) (suc j) r) ≡ x / 2 ^ suc j % 2 ^ r → (b : Bool) → eqb (x / 2 ^ j % 2) 1 ≡ b
+    go : binary (counting (λ k. eqb (x / 2 ^ k % 2) 1) (suc j) r) ≡ x / 2 ^ suc j % 2 ^ r → (b : Bool)
+        → eqb (x / 2 ^ j % 2) 1 ≡ b
         → cond b 1 0 + 2 * binary (counting (λ k. eqb (x / 2 ^ k % 2) 1) (suc j) r) ≡ x / 2 ^ j % 2 ^ suc r
     go ih true e = rw (ih, half, parts (x / 2 ^ j)) (omega (arith, eqb-true (x / 2 ^ j % 2) 1 e))
-    go ih false e = let n : (x / 2 ^ j % 2 ≡ 1 → ⊥) = eqb-false (x / 2 ^ j % 2) 1 e in rw (ih, half, parts (x / 2 ^ j)) (omega arith)
+    go ih false e = let n : (x / 2 ^ j % 2 ≡ 1 → ⊥) = eqb-false (x / 2 ^ j % 2) 1 e
+        in rw (ih, half, parts (x / 2 ^ j)) (omega arith)
 
 pub binary-below : (q : List Bool) → binary q < 2 ^ length q
 unfolding binary
@@ -92,7 +94,8 @@ module _ (n : ℕ) (q : List Bool) (b : Bool) where
 
   pub more-long : 8 ≤ length q → packed (suc n) (q ▹ b) ≡ binary (take 8 q) ∷ packed n (drop 8 q ▹ b)
   unfolding packed
-  more-long h = ap₂ (λ (x y : List Bool). binary x ∷ packed n y) (take-append-le 8 q (b ∷ []) h) (drop-append-le 8 q (b ∷ []) h)
+  more-long h = ap₂ (λ (x y : List Bool). binary x ∷ packed n y) (take-append-le 8 q (b ∷ []) h)
+      (drop-append-le 8 q (b ∷ []) h)
 
 -- A zero bit more changes nothing.
 pub packed-zero : (n : ℕ) (q : List Bool) → packed n (q ▹ false) ≡ packed n q
@@ -103,7 +106,8 @@ packed-zero (suc n) q = go (packed-zero n (drop 8 q)) (decLt (length q) 8)
     same : binary (q ▹ false) ≡ binary q
     same = omega (arith, binary-more q false)
 
-    go : packed n (drop 8 q ▹ false) ≡ packed n (drop 8 q) → Dec (length q < 8) → packed (suc n) (q ▹ false) ≡ packed (suc n) q
+    go : packed n (drop 8 q ▹ false) ≡ packed n (drop 8 q) → Dec (length q < 8)
+        → packed (suc n) (q ▹ false) ≡ packed (suc n) q
     go ih (yes h) = more-short n q false h ∙ ap (λ (x : ℕ). x ∷ packed n []) same ∙ sym (packed-short n q (omega arith))
     go ih (no h) = more-long n q false (omega arith) ∙ ap (λ (l : List ℕ). binary (take 8 q) ∷ l) ih
 
@@ -125,7 +129,8 @@ packed-read n q h = ext-getD false (take (length q) (bitsOf (packed n q))) q siz
     size : length (take (length q) (bitsOf (packed n q))) ≡ length q
     size = length-take-le (length q) (bitsOf (packed n q)) (rw (bits-length (packed n q), packed-length n q) h)
 
-    at : (i : ℕ) → i < length (take (length q) (bitsOf (packed n q))) → getD (take (length q) (bitsOf (packed n q))) i false ≡ getD q i false
+    at : (i : ℕ) → i < length (take (length q) (bitsOf (packed n q)))
+        → getD (take (length q) (bitsOf (packed n q))) i false ≡ getD q i false
     at i l =
         getD-take (length q) (bitsOf (packed n q)) i false (omega (arith, size))
         ∙ bits-at (packed n q) i (omega (arith, size, packed-length n q))

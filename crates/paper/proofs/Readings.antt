@@ -1,5 +1,5 @@
--- What is known of a frame that was read, where it lies and of which bytes its fields are; and the frames of a record one at a time.
--- Assumes nothing.
+-- What is known of a frame that was read, where it lies and of which bytes its fields are; and the frames of a record
+-- one at a time.
 use Prim.Native.Nat.{ℕ, zero, suc, _+_, _<_, _≤_}
 use mathlib.Core.Bool.{Bool, true, false, cond}
 use mathlib.Core.List.{List, [], _∷_}
@@ -10,7 +10,8 @@ use lib.ListN.{length, take, drop, length-drop}
 use lib.Seq.{length-take-le}
 use lib.Dec.{ltb}
 use borrow.Author.Tests.{ltb-false}
-use Rattle.paper.specs.Frame.{field, skipped, Frame, fields, most, size, rightCheck, readSized, readSynced, read, Reading, short, tooLong, badCheck, whole}
+use Rattle.paper.specs.Frame.{field, skipped, Frame, fields, most, size, rightCheck, readSized, readSynced, read}
+use Rattle.paper.specs.Frame.{Reading, short, tooLong, badCheck, whole}
 use Rattle.paper.specs.Hearing.{clean, frames, onSome}
 
 -- A frame that begins k bytes on, with its check right or not.
@@ -42,10 +43,12 @@ no-long true k f e = let z : _≡_ {A = ℕ} 0 1 = cc in omega arith
 no-long false k f e = let z : _≡_ {A = ℕ} 0 1 = cc in omega arith
 
 -- The same of the fields as they stand.
-known : (s : List ℕ) (k n : ℕ) (d : Bool) → k ≡ skipped s → field 8 2 (drop k s) ≡ n → n ≤ most → 12 + n ≤ length (drop k s)
+known : (s : List ℕ) (k n : ℕ) (d : Bool) → k ≡ skipped s → field 8 2 (drop k s) ≡ n → n ≤ most
+    → 12 + n ≤ length (drop k s)
     → rightCheck n (drop k s) ≡ d → Read s k (fields n (drop k s)) d
 known s k n d ek en small room ed =
-    let long : length (take n (drop 10 (drop k s))) ≡ n = length-take-le n (drop 10 (drop k s)) (omega (arith, length-drop 10 (drop k s))) in
+    let long : length (take n (drop 10 (drop k s))) ≡ n =
+    length-take-le n (drop 10 (drop k s)) (omega (arith, length-drop 10 (drop k s))) in
     record {
       skip = ek;
       frame = rw long;
@@ -66,22 +69,27 @@ read-known s k f right e =
     n : ℕ
     n = field 8 2 t
 
-    found : (d : Bool) → ltb most n ≡ false → ltb (length t) (12 + n) ≡ false → rightCheck n t ≡ d → (d ≡ right) × (skipped s ≡ k) × (fields n t ≡ f) → Read s k f right
+    found : (d : Bool) → ltb most n ≡ false → ltb (length t) (12 + n) ≡ false → rightCheck n t ≡ d
+        → (d ≡ right) × (skipped s ≡ k) × (fields n t ≡ f) → Read s k f right
     found d eb ec ed (er, ek, ef) =
         rw (← er, ← ek, ← ef) (known s (skipped s) n d refl refl (ltb-false _ _ eb) (ltb-false _ _ ec) ed)
 
     go : (a b c d : Bool) → ltb (length t) 10 ≡ a → ltb most n ≡ b → ltb (length t) (12 + n) ≡ c → rightCheck n t ≡ d
-        → cond a short (cond b tooLong (cond c short (cond d (whole (skipped s) (fields n t)) (badCheck (skipped s) (fields n t))))) ≡ framed right k f
+        → cond a short (cond b tooLong
+        (cond c short (cond d (whole (skipped s) (fields n t)) (badCheck (skipped s) (fields n t))))) ≡ framed right k f
         → Read s k f right
     go true b c d ea eb ec ed q = absurd (no-short right k f q)
     go false true c d ea eb ec ed q = absurd (no-long right k f q)
     go false false true d ea eb ec ed q = absurd (no-short right k f q)
-    go false false false true ea eb ec ed q = found true eb ec ed (same-framed true right (skipped s) k (fields n t) f q)
-    go false false false false ea eb ec ed q = found false eb ec ed (same-framed false right (skipped s) k (fields n t) f q)
+    go false false false true ea eb ec ed q =
+        found true eb ec ed (same-framed true right (skipped s) k (fields n t) f q)
+    go false false false false ea eb ec ed q =
+        found false eb ec ed (same-framed false right (skipped s) k (fields n t) f q)
 
 -- A record's frames, one at a time.
 pub frames-first : (n : ℕ) (s : List ℕ) → 0 < length s
-    → frames (suc n) s ≡ onSome (clean (read s)) none (λ f. onSome (frames n (drop (size f) s)) none (λ fs. some (f ∷ fs)))
+    → frames (suc n) s ≡ onSome (clean (read s)) none
+    (λ f. onSome (frames n (drop (size f) s)) none (λ fs. some (f ∷ fs)))
 unfolding frames
 frames-first n [] h = absurd (omega arith)
 frames-first n (b ∷ bs) h = refl

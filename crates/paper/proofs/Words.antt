@@ -1,5 +1,5 @@
--- Byte order, once over the width: a number written is read back, bytes read are written back, and a field byte by byte.
--- Assumes nothing.
+-- Byte order, once over the width: a number written is read back, bytes read are written back, and a field byte by
+-- byte.
 use Prim.Native.Nat.{ℕ, zero, suc, _+_, _*_, _/_, _%_, _^_, _<_, _≤_}
 use mathlib.Core.List.{List, [], _∷_, _++_}
 use mathlib.Core.Path.{_≡_, refl, sym, _∙_, ap, ap₂}
@@ -46,7 +46,8 @@ Bytes bs = All (λ b. b < 256) bs
 pub le-number : (bs : List ℕ) → Bytes bs → le (length bs) (number bs) ≡ bs
 unfolding le number
 le-number [] h = refl
-le-number (b ∷ bs) h = ap₂ _∷_ (low b (number bs) (h .0)) (ap (le (length bs)) (high b (number bs) (h .0)) ∙ le-number bs (h .1))
+le-number (b ∷ bs) h = ap₂ _∷_ (low b (number bs) (h .0))
+    (ap (le (length bs)) (high b (number bs) (h .0)) ∙ le-number bs (h .1))
   where
     low : (b n : ℕ) → b < 256 → (b + 256 * n) % 256 ≡ b
     low b n h = omega arith
@@ -63,7 +64,13 @@ field-suc at k s = go (decLt at (length s))
     go (yes h) = rw (drop-cons s at 0 h, add-one at)
     go (no h) =
         let past : length s ≤ at = omega arith in
-        rw (drop-of-length-le s {i = at} past, drop-of-length-le s {i = at + 1} (omega arith), List·getD-eq-default s 0 {n = at} past, take-nil k) (omega arith)
+        rw (
+          drop-of-length-le s {i = at} past,
+          drop-of-length-le s {i = at + 1} (omega arith),
+          List·getD-eq-default s 0
+              {n = at} past,
+          take-nil k,
+        ) (omega arith)
 
 pub field-none : (at : ℕ) (s : List ℕ) → field at 0 s ≡ 0
 unfolding number
@@ -73,20 +80,33 @@ field-none at s = refl
 pub field-add : (j k at : ℕ) (s : List ℕ) → field at (j + k) s ≡ field at j s + 256 ^ j * field (at + j) k s
 field-add zero k at s = rw (field-none at s, add-zero at, zero-add k) (omega arith)
 field-add (suc j) k at s =
-    rw (suc-add j k, field-suc at (j + k) s, field-add j k (at + 1) s, field-suc at j s, next at j, pow-suc 256 j, mul-assoc (256 ^ j) 256 (field (at + suc j) k s)) (omega arith)
+    rw (
+      suc-add j k,
+      field-suc at (j + k) s,
+      field-add j k
+          (at + 1) s,
+      field-suc at j s,
+      next at j,
+      pow-suc 256 j,
+      mul-assoc (256 ^ j) 256 (field (at + suc j) k s),
+    )
+    (omega arith)
   where
     next : (at j : ℕ) → at + 1 + j ≡ at + suc j
     next at j = omega arith
 
 -- The same for the widths in use, from the bytes that the code reads.
 pub field-2 : (s : List ℕ) (at a b : ℕ) → a ≡ getD s at 0 → b ≡ getD s (at + 1) 0 → a + 256 * b ≡ field at 2 s
-field-2 s at a b ea eb = rw (field-suc at 1 s, field-suc (at + 1) 0 s, field-none (at + 1 + 1) s, ← ea, ← eb) (omega arith)
+field-2 s at a b ea eb = rw (field-suc at 1 s, field-suc (at + 1) 0 s, field-none (at + 1 + 1) s, ← ea, ← eb)
+    (omega arith)
 
-pub field-4 : (s : List ℕ) (at a b c d : ℕ) → a ≡ getD s at 0 → b ≡ getD s (at + 1) 0 → c ≡ getD s (at + 2) 0 → d ≡ getD s (at + 3) 0
+pub field-4 : (s : List ℕ) (at a b c d : ℕ) → a ≡ getD s at 0 → b ≡ getD s (at + 1) 0 → c ≡ getD s (at + 2) 0
+    → d ≡ getD s (at + 3) 0
     → a + 256 * b + 65536 * (c + 256 * d) ≡ field at 4 s
 field-4 s at a b c d ea eb ec ed =
     let low : a + 256 * b ≡ field at 2 s = field-2 s at a b ea eb in
-    let high : c + 256 * d ≡ field (at + 2) 2 s = field-2 s (at + 2) c d ec (ed ∙ ap (λ (i : ℕ). getD s i 0) (plus at)) in
+    let high : c + 256 * d ≡ field (at + 2) 2 s =
+    field-2 s (at + 2) c d ec (ed ∙ ap (λ (i : ℕ). getD s i 0) (plus at)) in
     rw (field-suc at 3 s, field-suc (at + 1) 2 s, ← ea, ← eb, one at, ← high) (omega arith)
   where
     plus : (at : ℕ) → at + 3 ≡ at + 2 + 1
@@ -95,13 +115,15 @@ field-4 s at a b c d ea eb ec ed =
     one : (at : ℕ) → at + 1 + 1 ≡ at + 2
     one at = omega arith
 
-pub field-8 : (s : List ℕ) (at a b x y : ℕ) → a ≡ field at 4 s → b ≡ field (at + 4) 4 s → x ≡ a → y ≡ b → x + 4294967296 * y ≡ field at 8 s
+pub field-8 : (s : List ℕ) (at a b x y : ℕ) → a ≡ field at 4 s → b ≡ field (at + 4) 4 s → x ≡ a → y ≡ b
+    → x + 4294967296 * y ≡ field at 8 s
 field-8 s at a b x y ea eb ex ey = rw (field-add 4 4 at s, ← ea, ← eb, ex, ey)
 
 -- Eight bytes are twice four.
 pub le-8 : (x : ℕ) → le 4 (x % 4294967296) ++ le 4 (x / 4294967296) ≡ le 8 x
 unfolding le
-le-8 x = ap₂ _++_ (ap₂ _∷_ (b₀ x) (ap₂ _∷_ (b₁ x) (ap₂ _∷_ (b₂ x) (ap (λ (y : ℕ). y ∷ []) (b₃ x))))) (ap (le 4) (high x))
+le-8 x = ap₂ _++_ (ap₂ _∷_ (b₀ x) (ap₂ _∷_ (b₁ x) (ap₂ _∷_ (b₂ x) (ap (λ (y : ℕ). y ∷ []) (b₃ x)))))
+    (ap (le 4) (high x))
   where
     b₀ : (x : ℕ) → x % 4294967296 % 256 ≡ x % 256
     b₀ x = omega arith

@@ -1,12 +1,12 @@
 -- Document 01, "Requests with one answer": the frame that answers, the device information, and the rules on images.
--- Assumes nothing.
 use Prim.Native.Nat.{ℕ, zero, suc, _+_, _-_, _*_, _/_, _%_}
 use mathlib.Core.Bool.{Bool, false, _&&_, not, cond}
 use mathlib.Core.List.{List, [], _∷_}
 use mathlib.Core.Option.{Option, none, some}
 use lib.Dec.{leb, ltb, eqb}
 use lib.ListN.{length, drop}
-use Rattle.paper.specs.Frame.{field, Frame, size, most, onReading, read, status-Request, status-Ok, status-CrcMismatch, Info, infoOf, unset}
+use Rattle.paper.specs.Frame.{field, Frame, size, most, onReading, read, status-Request, status-Ok}
+use Rattle.paper.specs.Frame.{status-CrcMismatch, Info, infoOf, unset}
 
 -- "Status other than Ok: 2 with it": the payload that came with Ok, or the status.
 pub data Reply : Type 0 where
@@ -26,12 +26,14 @@ replyOf f = cond (eqb (f .status) status-Ok) (ok (f .payload)) (device (f .statu
 abbrev pub unlessEcho : Frame → Answer → Answer → Answer
 unlessEcho f more this = cond (eqb (f .status) status-Request) more this
 
--- "Short or too long, of any status: 1. Bad check: 2 with status 3. Status other than Ok: 2 with it": from a place on, within n frames.
+-- "Short or too long, of any status: 1. Bad check: 2 with status 3. Status other than Ok: 2 with it": from a place on,
+-- within n frames.
 unfoldable pub answerFrom : ℕ → ℕ → List ℕ → Answer
 answerFrom zero at bytes = lost
 answerFrom (suc n) at bytes =
     onReading (read (drop at bytes)) lost lost
-    (λ k f. unlessEcho f (answerFrom n (at + (k + size f)) bytes) (answered (device status-CrcMismatch) (at + (k + size f))))
+    (λ k f. unlessEcho f (answerFrom n (at + (k + size f)) bytes)
+    (answered (device status-CrcMismatch) (at + (k + size f))))
     (λ k f. unlessEcho f (answerFrom n (at + (k + size f)) bytes) (answered (replyOf f) (at + (k + size f))))
 
 -- "Read frames, skipping every frame of status Request, even with a bad check, to the first other one."
@@ -83,7 +85,8 @@ tooLarge info n = ltb (info .capacity) n
 unfoldable pub reported : ℕ → ℕ
 reported n = cond (leb n 0xFFFFFFFF) n 0xFFFFFFFF
 
--- "The key exists if the length is at least 6 and leaves 2 on division by 4: the four bytes that begin six before the end."
+-- "The key exists if the length is at least 6 and leaves 2 on division by 4: the four bytes that begin six before the
+-- end."
 unfoldable pub key : List ℕ → Option ℕ
 key image = cond (leb 6 (length image) && eqb (length image % 4) 2) (some (field (length image - 6) 4 image)) none
 

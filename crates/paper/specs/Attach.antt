@@ -1,11 +1,11 @@
 -- Document 01, "Attach", with the plain select and the deselect of "Ids and hearing": each operation as a conversation.
--- Assumes nothing.
 use mathlib.Core.List.{[]}
 use mathlib.Core.Option.{Option, none, some}
 use Rattle.paper.specs.Hearing.{Id, Prefix, bitsOf, onSome, Heard, nothing, one, unaddressed, garble}
 use Rattle.paper.specs.Walk as Walk
 use Rattle.paper.specs.Walk.{nobody}
-use Rattle.paper.specs.Talk.{select, Talk, return, stop, ask, _>>=_, _>>_, walking, Outcome, quiet, heard, attached, found}
+use Rattle.paper.specs.Talk.{select, Talk, return, stop, ask, _>>=_, _>>_, walking, Outcome, quiet, heard}
+use Rattle.paper.specs.Talk.{attached, found}
 
 -- "An id over 16 bytes gives refusal 14": a Select, and what it hears.
 unfoldable pub listen : Prefix → Talk Heard
@@ -25,8 +25,8 @@ deselect = ask (select nobody) (λ _. return quiet)
 abbrev pub prefixOf : Option Id → Prefix
 prefixOf uid = onSome uid [] bitsOf
 
--- "One: attached. Unaddressed: success with no id if no prefix was given, else 11. Nothing: 9 with a prefix, 7 without. Garble: deselect,
--- then 10 with a prefix, 8 without."
+-- "One: attached. Unaddressed: success with no id if no prefix was given, else 11. Nothing: 9 with a prefix, 7 without.
+-- Garble: deselect, then 10 with a prefix, 8 without."
 unfoldable pub met : Option Id → Heard → Talk Outcome
 met uid (one id) = return (attached (some id))
 met uid unaddressed = onSome uid (return (attached none)) (λ given. stop 11 [])

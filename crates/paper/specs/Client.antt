@@ -1,5 +1,4 @@
 -- Document 01, "The port and its edges" and "Refusal numbers": what each call answers and leaves.
--- Assumes nothing.
 use Prim.Native.Nat.{ℕ, _+_, _-_, _*_, _%_}
 use mathlib.Core.Bool.{Bool, true, false, _&&_, not, cond}
 use mathlib.Core.List.{List, [], _∷_, _++_}
@@ -10,15 +9,17 @@ use Rattle.paper.specs.Frame.{Frame, frameBytes, status-Request}
 use Rattle.paper.specs.Hearing.{Id, bitsOf, selectFrame, hear, longest, onSome}
 use Rattle.paper.specs.Answers as Answers
 use Rattle.paper.specs.Answers.{lost, answered, answer}
-use Rattle.paper.specs.Talk.{Payload, these, piece, Demand, Ask, select, demand, leave, Answered, Answer, Talk, return, stop, report, ask, Outcome, quiet, heard, attached, found, knows}
+use Rattle.paper.specs.Talk.{Payload, these, piece, Demand, Ask, select, demand, leave, Answered, AnswerTo, Talk}
+use Rattle.paper.specs.Talk.{return, stop, report, ask, Outcome, quiet, heard, attached, found, knows}
 use Rattle.paper.specs.Attach.{selectOnly, deselect, attach, discover}
 use Rattle.paper.specs.Flash.{informOnly, erase, flash, reset}
 
--- "The port and its edges": nothing runs; the next request and how it goes on; a request that is out, and how it goes on.
+-- "The port and its edges": nothing runs; the next request and how it goes on; a request that is out, and how it goes
+-- on.
 pub data Left : Type 0 where
   idle : Left
-  ready : (q : Ask) → (Answer q → Talk Outcome) → Left
-  waiting : (q : Ask) → (Answer q → Talk Outcome) → Left
+  ready : (q : Ask) → (AnswerTo q → Talk Outcome) → Left
+  waiting : (q : Ask) → (AnswerTo q → Talk Outcome) → Left
 
 -- "a client by value": with the attached id or none, and the length of the image that a running flash was started with.
 pub record Client : Type 0 where
@@ -31,8 +32,9 @@ pub record Client : Type 0 where
 unfoldable pub fresh : Client
 fresh = record { seed = 0; id = none; image = none; left = idle }
 
--- "The port and its edges": a refusal's number and what it carries; a request of so many bytes, whose answer is awaited; one with which the
--- operation has succeeded; it goes on, with the progress made; it has ended, with the progress made and its outcome.
+-- "The port and its edges": a refusal's number and what it carries; a request of so many bytes, whose answer is
+-- awaited; one with which the operation has succeeded; it goes on, with the progress made; it has ended, with the
+-- progress made and its outcome.
 pub data Says : Type 0 where
   refused : ℕ → List ℕ → Says
   granted : ℕ → Says
@@ -58,30 +60,38 @@ idAfter (attached new) id = new
 idAfter (found ids) id = id
 idAfter (knows info) id = id
 
--- "The others end the operation; seed and (but for deselects) attached id stay as they are then": a conversation up to its next request
--- or its end.
+-- "The others end the operation; seed and (but for deselects) attached id stay as they are then": a conversation up to
+-- its next request or its end.
 unfoldable pub proceed : Client → Option (ℕ × ℕ) → Talk Outcome → ℕ → Told
 proceed c progress (return o) at = record { says = over progress o; client = ended c (idAfter o (c .id)); rest = at }
 proceed c progress (stop n carries) at = record { says = refused n carries; client = ended c (c .id); rest = at }
 proceed c progress (report a b m) at = proceed c (some (a, b)) m at
 proceed c progress (ask q f) at =
-    record { says = onward progress; client = record { seed = c .seed; id = c .id; image = c .image; left = ready q f }; rest = at }
+    record {
+      says = onward progress;
+      client = record
+          { seed = c .seed; id = c .id; image = c .image; left = ready q f };
+      rest = at;
+    }
 
 -- "13, 16, 20, 21, 22 change no state."; "the unread rest is .. the whole record after 20 or 21".
 abbrev pub refuses : Client → ℕ → List ℕ → Told
 refuses c n carries = record { says = refused n carries; client = c; rest = 0 }
 
 -- "The port and its edges": what follows from what is left to do, case by case.
-abbrev pub onLeft {ℓ} : {A : Type ℓ} → Left → A → ((q : Ask) → (Answer q → Talk Outcome) → A) → ((q : Ask) → (Answer q → Talk Outcome) → A) → A
+abbrev pub onLeft {ℓ} : {A : Type ℓ} → Left → A → ((q : Ask) → (AnswerTo q → Talk Outcome) → A)
+    → ((q : Ask) → (AnswerTo q → Talk Outcome) → A) → A
 onLeft idle i r w = i
 onLeft (ready q f) i r w = r q f
 onLeft (waiting q f) i r w = w q f
 
--- "Out of turn is: a start while an operation runs"; "Order: 21, 20, 13". A flash is started with an image of some length.
+-- "Out of turn is: a start while an operation runs"; "Order: 21, 20, 13". A flash is started with an image of some
+-- length.
 unfoldable pub startWith : Option ℕ → Client → Bool → Talk Outcome → Told
 startWith image c good talk =
     onLeft (c .left)
-    (cond good (proceed (record { seed = c .seed; id = c .id; image = image; left = idle }) none talk 0) (refuses c 13 []))
+    (cond good (proceed (record { seed = c .seed; id = c .id; image = image; left = idle }) none talk 0)
+    (refuses c 13 []))
     (λ q f. refuses c 21 []) (λ q f. refuses c 21 [])
 
 -- "the host starts an operation": any but a flash.
@@ -89,13 +99,14 @@ abbrev pub start : Client → Bool → Talk Outcome → Told
 start c good talk = startWith none c good talk
 
 -- "prefix or id given over 16 bytes": whether it is not.
-abbrev pub short : Id → Bool
-short bytes = leb (length bytes) longest
+abbrev pub withinLongest : Id → Bool
+withinLongest bytes = leb (length bytes) longest
 
--- "The plain select takes prefix bytes and a bit count; a count over 128 or over 8 times the bytes given is 13", and so is a
--- "prefix or id given over 16 bytes".
+-- "The plain select takes prefix bytes and a bit count; a count over 128 or over 8 times the bytes given is 13", and so
+-- is a "prefix or id given over 16 bytes".
 unfoldable pub startSelect : Client → Id → ℕ → Told
-startSelect c bytes bits = start c (short bytes && (leb bits 128 && leb bits (8 * length bytes))) (selectOnly (take bits (bitsOf bytes)))
+startSelect c bytes bits = start c (withinLongest bytes && (leb bits 128 && leb bits (8 * length bytes)))
+    (selectOnly (take bits (bitsOf bytes)))
 
 -- "Deselect is a Select of 129 zero bits".
 unfoldable pub startDeselect : Client → Told
@@ -103,11 +114,11 @@ startDeselect c = start c true deselect
 
 -- "Select the prefix (empty if none given)."
 unfoldable pub startAttach : Client → Option Id → Told
-startAttach c uid = start c (onSome uid true short) (attach uid)
+startAttach c uid = start c (onSome uid true withinLongest) (attach uid)
 
 -- "The walk", from its start.
 unfoldable pub startDiscover : Client → Id → Told
-startDiscover c bytes = start c (short bytes) (discover bytes)
+startDiscover c bytes = start c (withinLongest bytes) (discover bytes)
 
 -- "Requests with one answer": Info.
 unfoldable pub startInfo : Client → Told
@@ -148,7 +159,14 @@ payloadOf (piece offset k) image = take k (drop offset image) ++ replicate (k - 
 -- "Requests have status 0": the frame, with the image lent.
 abbrev pub demandFrame : Demand → List ℕ → Frame
 demandFrame d image =
-    record { command = d .command; status = status-Request; flags = d .flags; address = d .address; payload = payloadOf (d .payload) image }
+    record {
+      command = d .command;
+      status = status-Request;
+      flags = d .flags;
+      address = d .address;
+      payload = payloadOf
+          (d .payload) image;
+    }
 
 -- "asks for a request": its bytes, with the seed that it carries, and the image lent.
 unfoldable pub bytesOf : Ask → ℕ → List ℕ → List ℕ
@@ -162,33 +180,42 @@ pub record Asked : Type 0 where
   pub client : Client
   pub buffer : List ℕ
 
--- "In boot the reply is awaited; otherwise the operation succeeds on handing out the request": what is said of a request of n bytes.
+-- "In boot the reply is awaited; otherwise the operation succeeds on handing out the request": what is said of a
+-- request of n bytes.
 abbrev pub handing : Ask → ℕ → Says
 handing (select p) n = granted n
 handing (demand d) n = granted n
 handing (leave d) n = closing n
 
 -- "otherwise the operation succeeds on handing out the request": one whose answer is not awaited goes on at once.
-unfoldable pub handedOut : Client → ℕ → (q : Ask) → (Answer q → Talk Outcome) → Client
+unfoldable pub handedOut : Client → ℕ → (q : Ask) → (AnswerTo q → Talk Outcome) → Client
 handedOut c seed (select p) f = record { seed = seed; id = c .id; image = c .image; left = waiting (select p) f }
 handedOut c seed (demand d) f = record { seed = seed; id = c .id; image = c .image; left = waiting (demand d) f }
-handedOut c seed (leave d) f = proceed (record { seed = seed; id = c .id; image = c .image; left = c .left }) none (f tt) 0 .client
+handedOut c seed (leave d) f =
+    proceed (record { seed = seed; id = c .id; image = c .image; left = c .left }) none (f tt) 0 .client
 
 -- "13, 16, 20, 21, 22 change no state": and no byte is written.
 abbrev pub withholds : Client → ℕ → List ℕ → List ℕ → Asked
 withholds c n carries buffer = record { says = refused n carries; client = c; buffer = buffer }
 
--- "A granted request fills its own length of the buffer and changes no byte after it."; "request or text buffer too short .. length needed".
-unfoldable pub grant : Client → List ℕ → ℕ → (q : Ask) → (Answer q → Talk Outcome) → List ℕ → Asked
+-- "A granted request fills its own length of the buffer and changes no byte after it."; "request or text buffer too
+-- short .. length needed".
+unfoldable pub grant : Client → List ℕ → ℕ → (q : Ask) → (AnswerTo q → Talk Outcome) → List ℕ → Asked
 grant c bytes seed q f buffer =
     cond (ltb (length buffer) (length bytes)) (withholds c 16 (length bytes ∷ []) buffer)
-    (record { says = handing q (length bytes); client = handedOut c seed q f; buffer = bytes ++ drop (length bytes) buffer })
+    (record {
+      says = handing q (length bytes);
+      client = handedOut c seed q f;
+      buffer = bytes
+          ++ drop (length bytes) buffer;
+    })
 
 -- "asking with none running or with a request unanswered"; "Order: 21, 20, 13, 16".
 unfoldable pub request : Client → List ℕ → List ℕ → Asked
 request c image buffer =
     onLeft (c .left) (withholds c 21 [] buffer)
-    (λ q f. cond (otherLength (c .image) image) (withholds c 20 [] buffer) (grant c (bytesOf q (seedAfter q (c .seed)) image) (seedAfter q (c .seed)) q f buffer))
+    (λ q f. cond (otherLength (c .image) image) (withholds c 20 [] buffer)
+    (grant c (bytesOf q (seedAfter q (c .seed)) image) (seedAfter q (c .seed)) q f buffer))
     (λ q f. withholds c 21 [] buffer)
 
 -- "Deselect .. its record, once handed in, clears the attached id": no other Select has more than 128 bits.
@@ -203,7 +230,7 @@ replied lost image = none
 replied (answered r end) image = some (record { reply = r; image = image })
 
 -- "hands back the bytes heard": what they say to a request, if they answer it.
-abbrev pub reading : (q : Ask) → List ℕ → List ℕ → Option (Answer q)
+abbrev pub reading : (q : Ask) → List ℕ → List ℕ → Option (AnswerTo q)
 reading (select p) image bytes = some (hear bytes)
 reading (demand d) image bytes = replied (answer bytes) image
 reading (leave d) image bytes = some tt
@@ -230,7 +257,8 @@ record′ c image bytes =
     (λ q f.
     cond (otherLength (c .image) image) (refuses c 20 [])
     (onSome (reading q image bytes) (fails c (place q bytes))
-    (λ a. proceed (record { seed = c .seed; id = cleared q (c .id); image = c .image; left = c .left }) none (f a) (place q bytes))))
+    (λ a. proceed (record { seed = c .seed; id = cleared q (c .id); image = c .image; left = c .left }) none (f a)
+    (place q bytes))))
 
 -- "or says that the link failed": no record, so the rest is at 0.
 unfoldable pub linkFailed : Client → Told

@@ -1,5 +1,5 @@
--- Document 01, "The walk", its count: the honest wire, the ids that it speaks of, and the Selects that it counts from them.
--- Assumes nothing.
+-- Document 01, "The walk", its count: the honest wire, the ids that it speaks of, and the Selects that it counts from
+-- them.
 use Prim.Native.Nat.{ℕ, zero, suc, _+_, _-_, _*_, _≤_, _<_}
 use mathlib.Core.Bool.{Bool, true, false, _||_, cond}
 use mathlib.Core.List.{List, [], _∷_}
@@ -40,40 +40,42 @@ pub record Pods (L : ℕ) (ids : List Id) : Type 0 where
   pub distinct : Distinct ids
   pub sized : All (λ id. length id ≡ L) ids
   pub bytes : All (λ id. All (λ b. b < 256) id) ids
-  pub short : L ≤ 16
+  pub within16 : L ≤ 16
 
 -- "that several ids match": how many match.
 abbrev pub count : List Id → Prefix → ℕ
 count ids q = length (matching q ids)
 
 -- "under some prefix": some number below n passes the test.
-unfoldable pub some : ℕ → (ℕ → Bool) → Bool
-some zero test = false
-some (suc n) test = test n || some n test
+unfoldable pub someBelow : ℕ → (ℕ → Bool) → Bool
+someBelow zero test = false
+someBelow (suc n) test = test n || someBelow n test
 
 -- "plus 2 for each id": the sum of f over a list.
 unfoldable pub sumOver : (Id → ℕ) → List Id → ℕ
 sumOver f [] = 0
 sumOver f (x ∷ xs) = f x + sumOver f xs
 
--- "plus for every prefix of p bits or more that extends the given one": the sum of f over those that extend q by fewer than d bits, q
--- itself among them.
+-- "plus for every prefix of p bits or more that extends the given one": the sum of f over those that extend q by fewer
+-- than d bits, q itself among them.
 unfoldable pub sumUnder : ℕ → Prefix → (Prefix → ℕ) → ℕ
 sumUnder zero q f = 0
 sumUnder (suc d) q f = f q + (sumUnder d (q ▹ false) f + sumUnder d (q ▹ true) f)
 
 -- "2 for each id alone under some prefix of at least p and fewer than 8L bits": here of fewer than n bits.
-unfoldable pub alone : List Id → ℕ → ℕ → Id → ℕ
-alone ids p n x = cond (some (n - p) (λ i. eqb (count ids (take (p + i) (bitsOf x))) 1)) 2 0
+unfoldable pub aloneUnder : List Id → ℕ → ℕ → Id → ℕ
+aloneUnder ids p n x = cond (someBelow (n - p) (λ i. eqb (count ids (take (p + i) (bitsOf x))) 1)) 2 0
 
 -- "that several ids match: 2 if some id matches its zero child, else 1."
 unfoldable pub forked : List Id → Prefix → ℕ
 forked ids q = cond (ltb 1 (count ids q)) (cond (ltb 0 (count ids (q ▹ false))) 2 1) 0
 
--- "Count for an honest wire .. 2, plus 2 for each id .. plus for every prefix". A prefix of more than 128 bits matches no id.
+-- "Count for an honest wire .. 2, plus 2 for each id .. plus for every prefix". A prefix of more than 128 bits matches
+-- no id.
 unfoldable pub selects : List Id → ℕ → Prefix → ℕ
 selects ids L prefix =
-    2 + (sumOver (alone ids (length prefix) (8 * L)) (matching prefix ids) + sumUnder (129 - length prefix) prefix (forked ids))
+    2 + (sumOver (aloneUnder ids (length prefix) (8 * L)) (matching prefix ids) + sumUnder (129 - length prefix) prefix
+    (forked ids))
 
 -- "the bare bound" (of "Holding the contracts to account") on the Selects of a discovery: condition 3's number.
 abbrev pub limit : Prefix → ℕ

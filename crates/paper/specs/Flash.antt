@@ -1,21 +1,24 @@
 -- Document 01, "Requests with one answer": info, erase, flash and reset, each as a conversation.
--- Assumes nothing.
 use Prim.Native.Nat.{ℕ, zero, suc, _+_, _-_, _/_}
 use mathlib.Core.Bool.{Bool, true, false, not, cond}
 use mathlib.Core.List.{List, [], _∷_}
 use mathlib.Core.Option.{Option}
 use lib.Dec.{leb, ltb, eqb}
 use lib.ListN.{length}
-use Rattle.paper.specs.Frame.{le, field, check, Info, command-Info, command-Erase, command-Write, command-Verify, command-Reset, status-CrcMismatch, flag-FLUSH, flag-BOOTLOADER, flag-BAUD}
+use Rattle.paper.specs.Frame.{le, field, check, Info, command-Info, command-Erase, command-Write, command-Verify}
+use Rattle.paper.specs.Frame.{command-Reset, status-CrcMismatch, flag-FLUSH, flag-BOOTLOADER, flag-BAUD}
 use Rattle.paper.specs.Hearing.{onSome}
-use Rattle.paper.specs.Answers.{Reply, ok, device, informed, steps, below, spansTooFar, eraseAddresses, eraseProgress, tooLarge, reported, key, incompatible, chunk, padded}
-use Rattle.paper.specs.Talk.{these, piece, Demand, demand, leave, Talk, return, stop, report, ask, _>>=_, _>>_, each, Outcome, quiet, knows}
+use Rattle.paper.specs.Answers.{Reply, ok, device, informed, steps, below, spansTooFar, eraseAddresses}
+use Rattle.paper.specs.Answers.{eraseProgress, tooLarge, reported, key, incompatible, chunk, padded}
+use Rattle.paper.specs.Talk.{these, piece, Demand, demand, leave, Talk, return, stop, report, ask, _>>=_, _>>_}
+use Rattle.paper.specs.Talk.{each, Outcome, quiet, knows}
 
 -- The requests.
 
 -- Of the next: a request with these bytes for its payload.
 abbrev pub plain : ℕ → ℕ → ℕ → List ℕ → Demand
-plain command flags address bytes = record { command = command; flags = flags; address = address; payload = these bytes }
+plain command flags address bytes =
+    record { command = command; flags = flags; address = address; payload = these bytes }
 
 -- "Info payload": the request for it. Here and below, addresses and flags that document 01 leaves open are the Rust's.
 abbrev pub infoRequest : Demand
@@ -27,7 +30,8 @@ eraseRequest info address = plain command-Erase 0 address (le 2 (info .eraseSize
 
 -- "a chunk or what is left".
 abbrev pub writeSize : Info → ℕ → ℕ → ℕ
-writeSize info n offset = cond (leb (chunk (info .maxPayload)) (padded n - offset)) (chunk (info .maxPayload)) (padded n - offset)
+writeSize info n offset = cond (leb (chunk (info .maxPayload)) (padded n - offset)) (chunk (info .maxPayload))
+    (padded n - offset)
 
 -- "FLUSH on the last".
 abbrev pub writeFlags : Info → ℕ → ℕ → ℕ
@@ -36,7 +40,13 @@ writeFlags info n offset = cond (leb (padded n) (offset + chunk (info .maxPayloa
 -- "each Write carries the image from its offset on": of an image of n bytes.
 abbrev pub writeRequest : Info → ℕ → ℕ → Demand
 writeRequest info n offset =
-    record { command = command-Write; flags = writeFlags info n offset; address = offset; payload = piece offset (writeSize info n offset) }
+    record {
+      command = command-Write;
+      flags = writeFlags info n offset;
+      address = offset;
+      payload = piece offset
+          (writeSize info n offset);
+    }
 
 -- "Verify has address = image length".
 abbrev pub verifyRequest : ℕ → Demand
@@ -88,7 +98,8 @@ eraseAll info = do
 abbrev pub keys : Info → List ℕ → List ℕ
 keys info image = info .compat ∷ onSome (key image) [] (λ k. k ∷ [])
 
--- "Info; 3 if the image exceeds capacity .. 6 if compat is set and the image's key is missing or different; 19; all Erases".
+-- "Info; 3 if the image exceeds capacity .. 6 if compat is set and the image's key is missing or different; 19; all
+-- Erases".
 unfoldable pub prepare : ℕ → Talk Info
 prepare n = do
   (info, image) ← inform
@@ -102,7 +113,8 @@ unfoldable pub repeated : Reply → Talk (Unit {0}) → Talk (Unit {0})
 repeated (ok payload) again = return tt
 repeated (device status) again = cond (eqb status status-CrcMismatch) again (stop 2 (status ∷ []))
 
--- "Status 3 repeats the same Write; the 17th in a row for one offset gives 17": a request that may go out so many times.
+-- "Status 3 repeats the same Write; the 17th in a row for one offset gives 17": a request that may go out so many
+-- times.
 unfoldable pub persist : ℕ → Demand → Talk (Unit {0})
 persist zero d = stop 17 []
 persist (suc times) d = ask (demand d) (λ a. repeated (a .reply) (persist times d))
@@ -125,8 +137,8 @@ offsets info n = below (chunk (info .maxPayload)) (padded n) 0
 unfoldable pub writeAll : Info → ℕ → Talk (Unit {0})
 writeAll info n = each (offsets info n) (writeOne info n)
 
--- "the check expected is that of the image lent with the Verify reply"; "its reply's first two bytes are the check, else 4; under two
--- bytes is 18".
+-- "the check expected is that of the image lent with the Verify reply"; "its reply's first two bytes are the check,
+-- else 4; under two bytes is 18".
 unfoldable pub verify : ℕ → Talk (Unit {0})
 verify n = do
   (payload, image) ← transact (verifyRequest n)

@@ -1,5 +1,5 @@
--- Document 01, "Bench frame": numbers in bytes, how a frame is written, its check, how a frame is read, and the Info payload.
--- Assumes nothing.
+-- Document 01, "Bench frame": numbers in bytes, how a frame is written, its check, how a frame is read, and the Info
+-- payload.
 use Prim.Native.Nat.{ℕ, zero, suc, _+_, _*_, _/_, _%_}
 use mathlib.Core.Bool.{Bool, cond}
 use mathlib.Core.List.{List, [], _∷_, _++_}
@@ -49,7 +49,8 @@ frameHead f = (0xA5 ∷ f .command ∷ f .status ∷ f .flags ∷ []) ++ le 4 (f
 unfoldable pub frameBody : Frame → List ℕ
 frameBody f = frameHead f ++ f .payload
 
--- "polynomial 1021 .. no reflection": one bit. The register shifts left, and where a 1 was shifted out the polynomial is added.
+-- "polynomial 1021 .. no reflection": one bit. The register shifts left, and where a 1 was shifted out the polynomial
+-- is added.
 unfoldable pub crcBit : ℕ → ℕ
 crcBit c = cond (ltb c 0x8000) (c * 2) (bitXor (c * 2 % 0x10000) 0x1021)
 
@@ -62,7 +63,8 @@ unfoldable pub crcFrom : ℕ → List ℕ → ℕ
 crcFrom c [] = c
 crcFrom c (b ∷ bs) = crcFrom (crcByte c b) bs
 
--- "The check is CRC-16/IBM-3740 of the public CRC catalogue: polynomial 1021, start FFFF, no reflection, no final change."
+-- "The check is CRC-16/IBM-3740 of the public CRC catalogue: polynomial 1021, start FFFF, no reflection, no final
+-- change."
 unfoldable pub check : List ℕ → ℕ
 check bytes = crcFrom 0xFFFF bytes
 
@@ -148,7 +150,8 @@ fields n bytes = record {
 unfoldable pub rightCheck : ℕ → List ℕ → Bool
 rightCheck n bytes = eqb (check (take (10 + n) bytes)) (field (10 + n) 2 bytes)
 
--- "Then a length over 1,024: too long. Then bytes missing: short. A wrong check: bad check, fields still read. Else whole."
+-- "Then a length over 1,024: too long. Then bytes missing: short. A wrong check: bad check, fields still read. Else
+-- whole."
 unfoldable pub readSized : ℕ → ℕ → List ℕ → Reading
 readSized skip n bytes =
     cond (ltb most n) tooLong
@@ -170,7 +173,8 @@ onReading tooLong s l b w = l
 onReading (badCheck k f) s l b w = b k f
 onReading (whole k f) s l b w = w k f
 
--- "Info payload, 18 bytes: capacity 4, erase_size 2, boot_version 2, app_version 2, mode 1, boot_baud 1, compat 4, max_payload 2."
+-- "Info payload, 18 bytes: capacity 4, erase_size 2, boot_version 2, app_version 2, mode 1, boot_baud 1, compat 4,
+-- max_payload 2."
 pub record Info : Type 0 where
   pub capacity : ℕ
   pub eraseSize : ℕ

@@ -1,12 +1,12 @@
 -- Document 01, "Ids and hearing": the bits of an id, what a Select sends, and what its record is heard as.
--- Assumes nothing.
 use Prim.Native.Nat.{ℕ, zero, suc, _+_, _*_, _/_, _%_, _^_}
 use mathlib.Core.Bool.{Bool, true, false, _&&_, _||_, cond, Bool·beq}
 use mathlib.Core.List.{List, [], _∷_}
 use mathlib.Core.Option.{Option, none, some}
 use lib.Dec.{ltb, eqb}
 use lib.ListN.{length, take, drop}
-use Rattle.paper.specs.Frame.{byte, Frame, size, Reading, short, tooLong, badCheck, whole, read, command-Select, status-Request, status-Ok, status-Unsupported}
+use Rattle.paper.specs.Frame.{byte, Frame, size, Reading, short, tooLong, badCheck, whole, read, command-Select}
+use Rattle.paper.specs.Frame.{status-Request, status-Ok, status-Unsupported}
 
 -- "Ids and hearing": an id is its bytes.
 abbrev pub Id : Type 0
@@ -55,7 +55,13 @@ selectPayload seed bits = seed ∷ length bits ∷ packed ((length bits + 7) / 8
 
 -- "Address and flags 0"; "Requests have status 0."
 abbrev pub selectFrame : ℕ → Prefix → Frame
-selectFrame seed p = record { command = command-Select; status = status-Request; flags = 0; address = 0; payload = selectPayload seed p }
+selectFrame seed p = record {
+  command = command-Select;
+  status = status-Request;
+  flags = 0;
+  address = 0;
+  payload = selectPayload seed p;
+}
 
 -- "short, too long or of bad check, or bytes were skipped": none of a frame that is so.
 unfoldable pub clean : Reading → Option Frame
@@ -69,8 +75,8 @@ abbrev pub onSome : {A B : Type 0} → Option A → B → (A → B) → B
 onSome none b f = b
 onSome (some a) b f = f a
 
--- "Hearing reads frames until no byte is left (an empty record holds none)": those of a record, if all are clean. Each takes a byte at
--- least, so there are no more than n, the record's length.
+-- "Hearing reads frames until no byte is left (an empty record holds none)": those of a record, if all are clean. Each
+-- takes a byte at least, so there are no more than n, the record's length.
 unfoldable pub frames : ℕ → List ℕ → Option (List Frame)
 frames zero bytes = some []
 frames (suc n) [] = some []
@@ -89,16 +95,18 @@ pub data Heard : Type 0 where
   unaddressed : Heard
   garble : Heard
 
--- "None left: Nothing. One of status Ok: One with its payload as id. One of Unsupported: Unaddressed. Anything else: Garble. The command
--- isn't looked at."
-unfoldable pub alone : List Frame → Heard
-alone [] = nothing
-alone (f ∷ []) = cond (eqb (f .status) status-Ok) (one (f .payload)) (cond (eqb (f .status) status-Unsupported) unaddressed garble)
-alone (f ∷ g ∷ fs) = garble
+-- "None left: Nothing. One of status Ok: One with its payload as id. One of Unsupported: Unaddressed. Anything else:
+-- Garble. The command isn't looked at."
+unfoldable pub repliesHeard : List Frame → Heard
+repliesHeard [] = nothing
+repliesHeard (f ∷ []) = cond (eqb (f .status) status-Ok) (one (f .payload))
+    (cond (eqb (f .status) status-Unsupported) unaddressed garble)
+repliesHeard (f ∷ g ∷ fs) = garble
 
--- "if any frame is short, too long or of bad check, or bytes were skipped, it is Garble. Else drop frames of status Request."
+-- "if any frame is short, too long or of bad check, or bytes were skipped, it is Garble. Else drop frames of status
+-- Request."
 unfoldable pub hear : List ℕ → Heard
-hear bytes = onSome (frames (length bytes) bytes) garble (λ fs. alone (replies fs))
+hear bytes = onSome (frames (length bytes) bytes) garble (λ fs. repliesHeard (replies fs))
 
 -- "An id over 16 bytes".
 abbrev pub longest : ℕ

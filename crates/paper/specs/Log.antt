@@ -1,5 +1,4 @@
 -- Document 01, "The bench log program": standard output as a function of standard input.
--- Assumes nothing.
 use Prim.Native.Nat.{ℕ, suc, _+_, _/_, _%_}
 use mathlib.Core.Bool.{cond}
 use mathlib.Core.List.{List, [], _∷_, _++_}
@@ -27,33 +26,36 @@ pub data Records : Type 0 where
   spoilt : Records
   next : List ℕ → Records → Records
 
--- "its lines joined, ended by an empty line. Odd length, a bad digit, a record over 4,096 bytes .. ends the run with answer 22; a record
--- without its empty line gives 1. The first met counts": after the lines joined so far, in at most cap bytes.
+-- "its lines joined, ended by an empty line. Odd length, a bad digit, a record over 4,096 bytes .. ends the run with
+-- answer 22; a record without its empty line gives 1. The first met counts": after the lines joined so far, in at most
+-- cap bytes.
 unfoldable pub joined : ℕ → List ℕ → List (List ℕ) → Records
 joined cap acc [] = missing
 joined cap acc ([] ∷ ls) = next acc (joined cap [] ls)
 joined cap acc ((b ∷ l) ∷ ls) =
-    onSome (unhex (b ∷ l)) spoilt (λ bytes. cond (ltb cap (length (acc ++ bytes))) spoilt (joined cap (acc ++ bytes) ls))
+    onSome (unhex (b ∷ l)) spoilt (λ bytes. cond (ltb cap (length (acc ++ bytes))) spoilt
+    (joined cap (acc ++ bytes) ls))
 
 -- "Selects handed out": a conversation over the records of a log, how it ends, and these.
-unfoldable pub over : {A : Type 0} → Walk A → Records → ℕ → Ended A × ℕ
-over (Walk.return a) rs k = (done a, k)
-over (Walk.stop c) rs k = (stopped c, k)
-over (Walk.select p f) missing k = (stopped 1, suc k)
-over (Walk.select p f) spoilt k = (stopped 22, suc k)
-over (Walk.select p f) (next bytes rs) k = over (f (hear bytes)) rs (suc k)
+unfoldable pub overRecords : {A : Type 0} → Walk A → Records → ℕ → Ended A × ℕ
+overRecords (Walk.return a) rs k = (done a, k)
+overRecords (Walk.stop c) rs k = (stopped c, k)
+overRecords (Walk.select p f) missing k = (stopped 1, suc k)
+overRecords (Walk.select p f) spoilt k = (stopped 22, suc k)
+overRecords (Walk.select p f) (next bytes rs) k = overRecords (f (hear bytes)) rs (suc k)
 
 -- "Line one: 01 and prefix bytes."
 unfoldable pub prefixIn : List ℕ → Option Id
 prefixIn [] = none
 prefixIn (b ∷ bytes) = cond (eqb b 1) (some bytes) none
 
--- "a first line missing or not beginning with 01 ends the run with answer 22": a line is judged whole before it is used, 22, then 13.
+-- "a first line missing or not beginning with 01 ends the run with answer 22": a line is judged whole before it is
+-- used, 22, then 13.
 unfoldable pub opened : List (List ℕ) → Ended (List Id) × ℕ
 opened [] = (stopped 22, 0)
 opened (l ∷ ls) =
     onSome (unhex l) (stopped 22, 0) (λ bytes. onSome (prefixIn bytes) (stopped 22, 0) (λ given.
-    cond (leb (length given) longest) (over (discover (bitsOf given)) (joined 4096 [] ls) 0) (stopped 13, 0)))
+    cond (leb (length given) longest) (overRecords (discover (bitsOf given)) (joined 4096 [] ls) 0) (stopped 13, 0)))
 
 -- "each id on a line".
 unfoldable pub idLines : List Id → List ℕ

@@ -1,5 +1,5 @@
--- Document 01, "The port and its edges": an operation as a conversation: what is asked, and how it goes on from the answer.
--- Assumes nothing.
+-- Document 01, "The port and its edges": an operation as a conversation: what is asked, and how it goes on from the
+-- answer.
 use Prim.Native.Nat.{ℕ}
 use mathlib.Core.List.{List, [], _∷_}
 use mathlib.Core.Option.{Option}
@@ -9,7 +9,8 @@ use Rattle.paper.specs.Answers.{Reply}
 use Rattle.paper.specs.Walk as Walk
 use Rattle.paper.specs.Walk.{Walk}
 
--- "each Write carries the image from its offset on": these bytes; or so many of the image lent with the request, from an offset on.
+-- "each Write carries the image from its offset on": these bytes; or so many of the image lent with the request, from
+-- an offset on.
 pub data Payload : Type 0 where
   these : List ℕ → Payload
   piece : ℕ → ℕ → Payload
@@ -21,7 +22,8 @@ pub record Demand : Type 0 where
   pub address : ℕ
   pub payload : Payload
 
--- "asks for a request": a Select of a prefix, whose seed is no part of it; a request with one answer; one whose answer is not awaited.
+-- "asks for a request": a Select of a prefix, whose seed is no part of it; a request with one answer; one whose answer
+-- is not awaited.
 pub data Ask : Type 0 where
   select : Prefix → Ask
   demand : Demand → Ask
@@ -33,18 +35,18 @@ pub record Answered : Type 0 where
   pub image : List ℕ
 
 -- "hands back the bytes heard": what they say to each kind of request.
-abbrev pub Answer : Ask → Type 0
-Answer (select p) = Heard
-Answer (demand d) = Answered
-Answer (leave d) = Unit {0}
+abbrev pub AnswerTo : Ask → Type 0
+AnswerTo (select p) = Heard
+AnswerTo (demand d) = Answered
+AnswerTo (leave d) = Unit {0}
 
--- "We add a step machine": a conversation returns a value, ends the operation with a refusal's number and what that carries, reports
--- progress, or asks.
+-- "We add a step machine": a conversation returns a value, ends the operation with a refusal's number and what that
+-- carries, reports progress, or asks.
 pub data Talk (A : Type 0) : Type 0 where
   return : A → Talk A
   stop : ℕ → List ℕ → Talk A
   report : ℕ → ℕ → Talk A → Talk A
-  ask : (q : Ask) → (Answer q → Talk A) → Talk A
+  ask : (q : Ask) → (AnswerTo q → Talk A) → Talk A
 
 infixl 20 _>>=_
 -- "The port and its edges": a conversation, then another from its value; where the first stops, both do.
@@ -70,7 +72,8 @@ walking (Walk.return a) = return a
 walking (Walk.stop c) = stop c []
 walking (Walk.select p f) = ask (select p) (λ h. walking (f h))
 
--- "the operation succeeds": with nothing, what a Select heard, the attached id or none, the ids found, the device information.
+-- "the operation succeeds": with nothing, what a Select heard, the attached id or none, the ids found, the device
+-- information.
 pub data Outcome : Type 0 where
   quiet : Outcome
   heard : Heard → Outcome

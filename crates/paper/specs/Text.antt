@@ -1,5 +1,4 @@
 -- Document 01, "Refusal numbers", hex text: text read as an id, and an id written as text.
--- Assumes nothing.
 use Prim.Native.Nat.{ℕ, _+_, _-_, _*_, _/_, _%_}
 use mathlib.Core.Bool.{_&&_, cond}
 use mathlib.Core.List.{List, [], _∷_}
@@ -20,7 +19,8 @@ unfoldable pub unhex : List ℕ → Option (List ℕ)
 unhex [] = some []
 unhex (h ∷ []) = none
 unhex (h ∷ l ∷ text) =
-    cond (ltb (digit h) 16 && ltb (digit l) 16) (onSome (unhex text) none (λ bytes. some ((digit h * 16 + digit l) ∷ bytes))) none
+    cond (ltb (digit h) 16 && ltb (digit l) 16)
+    (onSome (unhex text) none (λ bytes. some ((digit h * 16 + digit l) ∷ bytes))) none
 
 -- "Hex text: even length, at most 32 digits, either letter case read .. else 22": none then.
 unfoldable pub parseUid : List ℕ → Option Id

@@ -1,19 +1,19 @@
 -- Document 01, "The walk": the discovery as a conversation: what is asked, and how it goes on from what is heard.
--- Assumes nothing.
 use Prim.Native.Nat.{ℕ, zero, suc, _-_}
 use mathlib.Core.Bool.{Bool, true, false, _&&_, not, cond}
 use mathlib.Core.List.{List, [], _∷_, _++_}
 use lib.Dec.{ltb, eqb}
 use lib.ListN.{length, drop, replicate}
-use Rattle.paper.specs.Hearing.{Id, Prefix, longest, bitsOf, matches, before, Heard, nothing, one, unaddressed, garble}
+use Rattle.paper.specs.Hearing.{Id, Prefix, longest, bitsOf, matches, before, Heard, nothing, one, unaddressed}
+use Rattle.paper.specs.Hearing.{garble}
 
 infixl 60 _▹_
 -- "prefix plus the id's next bit": a prefix with one bit more.
 abbrev pub _▹_ : Prefix → Bool → Prefix
 prefix ▹ b = prefix ++ (b ∷ [])
 
--- "The walk": a conversation that only selects. It returns a value, ends the operation with an answer number, or sends a Select and goes
--- on from what is heard.
+-- "The walk": a conversation that only selects. It returns a value, ends the operation with an answer number, or sends
+-- a Select and goes on from what is heard.
 pub data Walk (A : Type 0) : Type 0 where
   return : A → Walk A
   stop : ℕ → Walk A
@@ -58,8 +58,8 @@ isOne id (one x) = sameId x id
 isOne id unaddressed = false
 isOne id garble = false
 
--- "If it has no further bit, it holds, without a probe. Else Select prefix plus the id's next bit, then prefix plus the other bit,
--- always both; it holds if the first hears the same id and the second Nothing."
+-- "If it has no further bit, it holds, without a probe. Else Select prefix plus the id's next bit, then prefix plus the
+-- other bit, always both; it holds if the first hears the same id and the second Nothing."
 unfoldable pub confirmRest : Prefix → Id → List Bool → Walk Bool
 confirmRest prefix id [] = return true
 confirmRest prefix id (b ∷ bits) = do
@@ -75,8 +75,8 @@ confirm prefix id = cond (matches prefix id) (confirmRest prefix id (drop (lengt
 unfoldable pub keep : List Id → Id → Walk (List Id)
 keep ids id = cond (ltb (length ids) 64) (return (ids ++ (id ∷ []))) (stop 15)
 
--- "Nothing: the branch ends. Unaddressed: the discovery ends with outcome 23, no ids, no deselect. One: confirm. .. Held: the id is kept.
--- Else descend".
+-- "Nothing: the branch ends. Unaddressed: the discovery ends with outcome 23, no ids, no deselect. One: confirm. ..
+-- Held: the id is kept. Else descend".
 unfoldable pub judge : Prefix → List Id → Heard → Walk (List Id) → Walk (List Id)
 judge prefix ids nothing descend = return ids
 judge prefix ids (one id) descend = do
@@ -85,8 +85,8 @@ judge prefix ids (one id) descend = do
 judge prefix ids unaddressed descend = stop 23
 judge prefix ids garble descend = descend
 
--- "at 128 bits give 12. Select the zero child. If that is Nothing, the one child counts as Garble with no probe. Walk the zero child, then
--- the one child." What the prefix holds is known, and it can grow by n bits.
+-- "at 128 bits give 12. Select the zero child. If that is Nothing, the one child counts as Garble with no probe. Walk
+-- the zero child, then the one child." What the prefix holds is known, and it can grow by n bits.
 unfoldable pub walk : ℕ → Prefix → List Id → Heard → Walk (List Id)
 walk zero prefix ids heard = judge prefix ids heard (stop 12)
 walk (suc n) prefix ids heard = judge prefix ids heard (do

@@ -1,5 +1,4 @@
 -- The ways through the reader: the search for A5, the check, and a frame with the places that it takes.
--- Assumes nothing.
 use Prim.Native.Nat.{ℕ, _+_, _-_, _<_, _≤_}
 use mathlib.Core.Bool.{Bool, true, false, cond}
 use mathlib.Core.List.{List}
@@ -13,7 +12,8 @@ use lib.Dec.{eqb, ltb}
 use borrow.Author.Tests.{eq-eqb, ne-eqb, le-ltb}
 use Rattle.lore.proofs.Parts.{part-all}
 use Rattle.paper.specs.Frame as Paper
-use Rattle.paper.specs.Frame.{field, byte, skipped, check, crcFrom, rightCheck, readSized, readSynced, read, short, tooLong, badCheck, whole}
+use Rattle.paper.specs.Frame.{field, byte, skipped, check, crcFrom, rightCheck, readSized, readSynced, read, short}
+use Rattle.paper.specs.Frame.{tooLong, badCheck, whole}
 use Rattle.reader.specs.declared.Frame.{Frame}
 use Rattle.reader.specs.declared.Reading.{Reading}
 use Rattle.reader.specs.declared.Reading.the-variants.{Short, BadCheck, Whole}
@@ -41,28 +41,40 @@ module _ (s : List ℕ) (i : ℕ) (e : i + skipped (drop i s) ≡ skipped s) whe
       none : skipped (drop i s) ≡ 0
       none = rw (drop-of-length-le s {i = i} h)
 
-pub checked : (s : List ℕ) (n c w : ℕ) → c ≡ crcFrom 0xFFFF (take (10 + n) s) → w ≡ field (10 + n) 2 s → eqb c w ≡ rightCheck n s
+pub checked : (s : List ℕ) (n c w : ℕ) → c ≡ crcFrom 0xFFFF (take (10 + n) s) → w ≡ field (10 + n) 2 s
+    → eqb c w ≡ rightCheck n s
 unfolding rightCheck check
 checked s n c w ec ew = rw (ec, ew)
 
 pub fields-read : (s : List ℕ) (base n a : ℕ) → a ≡ field 4 4 s
-    → record { command = byte 1 s; status = byte 2 s; flags = byte 3 s; address = a; payload = base + 10; len = n; end = base + (12 + n) } ≡ fieldsAt base n s
+    → record {
+      command = byte 1 s;
+      status = byte 2 s;
+      flags = byte 3 s;
+      address = a;
+      payload = base + 10;
+      len = n;
+      end = base + (12 + n);
+    } ≡ fieldsAt base n s
 fields-read s base n a e = rw e
 
 -- The fields, as read with n bytes of payload.
 fields-shown : (base n : ℕ) (s : List ℕ) → 12 + n ≤ length s → frameAt (base + 0) (Paper.fields n s) ≡ fieldsAt base n s
 fields-shown base n s h = rw (add-zero base, length-take-le n (drop 10 s) (omega (arith, length-drop 10 s)))
 
-module _ (s : List ℕ) (base n : ℕ) (f : Frame) (m : Bool) (small : n ≤ 1024) (room : 12 + n ≤ length s) (ef : f ≡ fieldsAt base n s) (em : m ≡ rightCheck n s) where
+module _ (s : List ℕ) (base n : ℕ) (f : Frame) (m : Bool) (small : n ≤ 1024) (room : 12 + n ≤ length s)
+    (ef : f ≡ fieldsAt base n s) (em : m ≡ rightCheck n s) where
   pub read-whole : m ≡ true → Whole f ≡ shownFrom base (readSized 0 n s)
   unfolding readSized
   read-whole h = simp (le-ltb _ _ small, le-ltb _ _ room, sym em ∙ h) (ap Whole (ef ∙ sym (fields-shown base n s room)))
 
   pub read-bad : m ≡ false → BadCheck f ≡ shownFrom base (readSized 0 n s)
   unfolding readSized
-  read-bad h = simp (le-ltb _ _ small, le-ltb _ _ room, sym em ∙ h) (ap BadCheck (ef ∙ sym (fields-shown base n s room)))
+  read-bad h = simp (le-ltb _ _ small, le-ltb _ _ room, sym em ∙ h)
+      (ap BadCheck (ef ∙ sym (fields-shown base n s room)))
 
-pub read-sized : (s : List ℕ) (base w : ℕ) (r : Reading) → 10 ≤ length s → w ≡ field 8 2 s → r ≡ shownFrom base (readSized 0 w s) → r ≡ shownFrom base (readSynced 0 s)
+pub read-sized : (s : List ℕ) (base w : ℕ) (r : Reading) → 10 ≤ length s → w ≡ field 8 2 s
+    → r ≡ shownFrom base (readSized 0 w s) → r ≡ shownFrom base (readSynced 0 s)
 unfolding readSynced
 read-sized s base w r h ew er = simp (le-ltb _ _ h, ← ew) er
 
@@ -88,7 +100,8 @@ shown-skipped at k s = go (ltb (length s) 10) (ltb Paper.most n) (ltb (length s)
     go false false false false = rw (add-zero (at + k))
 
 pub read-from : (s : List ℕ) (at k : ℕ) (r : Reading) → k ≡ skipped (take (length s - at) (drop at s))
-    → r ≡ shownFrom (at + k) (readSynced 0 (take (length s - (at + k)) (drop (at + k) s))) → r ≡ shownFrom at (read (drop at s))
+    → r ≡ shownFrom (at + k) (readSynced 0 (take (length s - (at + k)) (drop (at + k) s)))
+    → r ≡ shownFrom at (read (drop at s))
 unfolding read
 read-from s at k r ek er =
     let same : k ≡ skipped (drop at s) = rw (part-all at s) at ek in

@@ -1,5 +1,4 @@
 -- A frame as the paper reads it, with the places that it takes in the record.
--- Assumes nothing.
 use Prim.Native.Nat.{ℕ, _+_}
 use mathlib.Core.List.{List}
 use lib.ListN.{length}

@@ -1,5 +1,4 @@
 -- What meets the premises: each theorem with a premise, applied to values that meet it.
--- Assumes nothing.
 use Prim.Native.Nat.{ℕ, _≤_}
 use mathlib.Core.List.{List, [], _∷_}
 use mathlib.Core.Option.{Option, some}
@@ -25,10 +24,10 @@ use Rattle.walk_table.specs.Rows.{row, sorted}
 use Rattle.walk.specs.declared.Phase.the-variants.{Mine}
 use Rattle.walk.specs.Moves as Moves
 use Rattle.walk_step.specs.Steps as Steps
-use Rattle.client_start.specs.Start as Code
-use Rattle.client_request.specs.Request as Code₂
+use Rattle.client_start.specs.Start as CodeStart
+use Rattle.client_request.specs.Request as CodeRequest
 use Rattle.client_record.specs.Answer.{tells}
-use Rattle.client_record.specs.Record as Code₃
+use Rattle.client_record.specs.Record as CodeRecord
 use Rattle.refinement.specs.ClientRecord.{jobIn, recordOf, clientOf, startedAs, toldAs, askedAs}
 use Rattle.refinement.specs.WalkDriven.{bitsAsked, driven, begun}
 use Rattle.refinement.specs.WalkRecord.{rowOf, tableOf, walkOf, nextOf}
@@ -38,10 +37,12 @@ use Rattle.refinement.proofs.client.JobAnswers.{answering, job-told}
 use Rattle.refinement.proofs.client.RequestBytes.{request-asked}
 use Rattle.refinement.proofs.walk.StepIsMachine.{step-sim}
 use Rattle.refinement.proofs.client.Starts.{discover-started}
-use Rattle.refinement.proofs.walk.TableRows.{row-of-table, unused-bytes, unused-lengths, unused-row, table-sorted}
+use Rattle.refinement.proofs.walk.TableRows.{row-of-table, unused-bytes, unused-lengths, unused-row}
+use Rattle.refinement.proofs.walk.TableRows.{table-sorted}
 use Rattle.refinement.proofs.client.RecordAnswers.{record-told}
 
--- A flash of 5 bytes before its second Write and after it, by a client of the last seed with an id attached; and the answer to that Write.
+-- A flash of 5 bytes before its second Write and after it, by a client of the last seed with an id attached; and the
+-- answer to that Write.
 abbrev device : Info
 device = record {
   capacity = 6;
@@ -72,31 +73,47 @@ sends = record { seed = 255; id = attached; turn = ready (demanding job) }
 abbrev sent : Machine.Client
 sent = record { seed = 255; id = attached; turn = waiting (demanding job) }
 
-pub discover-started-met : Code.startDiscover (clientOf sends) (0xC1 ∷ 0x07 ∷ []) ≡ startedAs (Machine.startDiscover sends (0xC1 ∷ 0x07 ∷ []))
+pub discover-started-met : CodeStart.startDiscover (clientOf sends) (0xC1 ∷ 0x07 ∷ [])
+    ≡ startedAs (Machine.startDiscover sends (0xC1 ∷ 0x07 ∷ []))
 discover-started-met = discover-started sends (0xC1 ∷ 0x07 ∷ []) (omega arith, (omega arith, tt))
 
-pub job-told-met : tells (recordOf 255 attached (waiting (demanding job))) (jobIn job) image wrote ≡ toldAs (answering 255 attached job image wrote (answer wrote))
+pub job-told-met : tells (recordOf 255 attached (waiting (demanding job))) (jobIn job) image wrote
+    ≡ toldAs (answering 255 attached job image wrote (answer wrote))
 unfolding sound
 job-told-met = job-told 255 attached job refl image wrote refl
 
-pub request-asked-met : Code₂.request (clientOf sends) image (replicate 17 0) ≡ askedAs (Machine.request sends image (replicate 17 0))
+pub request-asked-met : CodeRequest.request (clientOf sends) image (replicate 17 0)
+    ≡ askedAs (Machine.request sends image (replicate 17 0))
 unfolding sound
-request-asked-met = request-asked sends (record { seed = omega arith; id = omega arith; turn = refl }) image (replicate 17 0)
+request-asked-met = request-asked sends (record { seed = omega arith; id = omega arith; turn = refl }) image
+    (replicate 17 0)
 
-pub record-told-met : Code₃.record′ (clientOf sent) image wrote ≡ toldAs (Machine.record′ sent image wrote)
+pub record-told-met : CodeRecord.record′ (clientOf sent) image wrote ≡ toldAs (Machine.record′ sent image wrote)
 unfolding sound
 record-told-met = record-told sent (record { seed = omega arith; id = omega arith; turn = refl }) image wrote
 
 -- A discovery under C1 that has kept C1 07 and confirms C1 87 by its own child.
 abbrev confirming : State
-confirming = record { pre = bitsOf (0xC1 ∷ []); marks = []; ids = (0xC1 ∷ 0x07 ∷ []) ∷ []; phase = mine (0xC1 ∷ 0x87 ∷ []) }
+confirming = record {
+  pre = bitsOf (0xC1 ∷ []);
+  marks = [];
+  ids = (0xC1 ∷ 0x07 ∷ [])
+      ∷ [];
+  phase = mine (0xC1 ∷ 0x87 ∷ []);
+}
 
 confirming-fits : Walk.Fits confirming
 unfolding bitsOf counting
-confirming-fits = record { depth = omega arith; few = omega arith; short = (omega arith, tt); held = (omega arith, omega arith) }
+confirming-fits = record {
+  depth = omega arith;
+  few = omega arith;
+  short = (omega arith, tt);
+  held = (omega arith, omega arith);
+}
 
 pub step-sim-met :
-    Steps.step (walkOf confirming) Mine (shownHeard (one (0xC1 ∷ 0x87 ∷ [])) .heard) (shownHeard (one (0xC1 ∷ 0x87 ∷ [])) .id)
+    Steps.step (walkOf confirming) Mine (shownHeard (one (0xC1 ∷ 0x87 ∷ [])) .heard)
+    (shownHeard (one (0xC1 ∷ 0x87 ∷ [])) .id)
     ≡ nextOf (step confirming (one (0xC1 ∷ 0x87 ∷ [])))
 step-sim-met = step-sim confirming (one (0xC1 ∷ 0x87 ∷ [])) confirming-fits
 
@@ -128,11 +145,13 @@ table-sorted-met = table-sorted two (omega arith) two-short
 
 -- Three ids, of which two begin with C1.
 pub ends-met :
-    (driven 31332 (honest ids) 0 (begun under) ≡ (nextOf (ended ((run (honest ids) 0 (discover under)) .0)), (run (honest ids) 0 (discover under)) .1))
+    (driven 31332 (honest ids) 0 (begun under)
+    ≡ (nextOf (ended ((run (honest ids) 0 (discover under)) .0)), (run (honest ids) 0 (discover under)) .1))
     × ((run (honest ids) 0 (discover under)) .1 ≤ 31332)
 unfolding bitsOf counting
 ends-met = Condition3.ends (honest ids) under (omega arith)
 
-pub finds-met : (driven 31332 (honest ids) 0 (begun under) ≡ (nextOf (ended (done found)), selects ids 2 under)) × (selects ids 2 under ≤ 22)
+pub finds-met : (driven 31332 (honest ids) 0 (begun under) ≡ (nextOf (ended (done found)), selects ids 2 under))
+    × (selects ids 2 under ≤ 22)
 unfolding matching begins bitsOf counting bit sort insert before
 finds-met = Condition3.finds (honest ids) ids 2 under (λ k q l b n. refl) (omega arith) pods

@@ -1,5 +1,4 @@
 -- Any calls, in any order: what the code answers to them, and what document 01 says that they answer.
--- Assumes nothing.
 use Prim.Native.Nat.{ℕ, _<_}
 use mathlib.Core.Bool.{Bool, cond}
 use mathlib.Core.List.{List, [], _∷_}
@@ -16,13 +15,13 @@ use Rattle.client.specs.declared.Progress.the-variants.{None}
 use Rattle.client.specs.declared.Started.{Started}
 use Rattle.client.specs.declared.Told.{Told}
 use Rattle.client.specs.Numbers.{saysOf}
-use Rattle.client_start.specs.Start as Code
-use Rattle.client_request.specs.Request as Code₂
-use Rattle.client_record.specs.Record as Code₃
+use Rattle.client_start.specs.Start as CodeStart
+use Rattle.client_request.specs.Request as CodeRequest
+use Rattle.client_record.specs.Record as CodeRecord
 use Rattle.refinement.specs.ClientServed.{resting}
 
--- The starts with their arguments, a request with the image lent and its buffer, a record with the image lent and its bytes, a link that
--- failed.
+-- The starts with their arguments, a request with the image lent and its buffer, a record with the image lent and its
+-- bytes, a link that failed.
 pub data Call : Type 0 where
   startSelect : Id → ℕ → Call
   startDeselect : Call
@@ -83,26 +82,29 @@ paperCall c linkFailed = saidBy (Paper.linkFailed c)
 abbrev pub startedBy : Started → Reply × Client
 startedBy s = (record { says = saysOf (s .says) None noId noTable; rest = 0; buffer = [] }, s .client)
 
-abbrev pub askedBy : Code₂.Asking → Reply × Client
-askedBy a = (record { says = saysOf (a .answer .says) None noId noTable; rest = 0; buffer = a .bytes }, a .answer .client)
+abbrev pub askedBy : CodeRequest.Asking → Reply × Client
+askedBy a = (
+  record { says = saysOf (a .answer .says) None noId noTable; rest = 0; buffer = a .bytes },
+  a .answer .client,
+)
 
 abbrev pub toldBy : Told → Reply × Client
 toldBy t = (record { says = saysOf (t .says) (t .progress) (t .id) (t .found); rest = t .rest; buffer = [] }, t .client)
 
 unfoldable pub codeCall : Client → Call → Reply × Client
-codeCall c (startSelect bytes bits) = startedBy (Code.startSelect c bytes bits)
-codeCall c startDeselect = startedBy (Code.startDeselect c)
-codeCall c (startAttach none) = startedBy (Code.startAttach c)
-codeCall c (startAttach (some bytes)) = startedBy (Code.startAttachTo c bytes)
-codeCall c (startDiscover given) = startedBy (Code.startDiscover c given)
-codeCall c startInfo = startedBy (Code.startInfo c)
-codeCall c startErase = startedBy (Code.startErase c)
-codeCall c (startFlash image) = startedBy (Code.startFlash c image)
-codeCall c (startReset bootloader inBoot) = startedBy (Code.startReset c bootloader inBoot)
-codeCall c (startSetBaud baud bootloader inBoot) = startedBy (Code.startSetBaud c baud bootloader inBoot)
-codeCall c (request image buffer) = askedBy (Code₂.request c image buffer)
-codeCall c (record′ image bytes) = toldBy (Code₃.record′ c image bytes)
-codeCall c linkFailed = toldBy (Code₃.linkFailed c)
+codeCall c (startSelect bytes bits) = startedBy (CodeStart.startSelect c bytes bits)
+codeCall c startDeselect = startedBy (CodeStart.startDeselect c)
+codeCall c (startAttach none) = startedBy (CodeStart.startAttach c)
+codeCall c (startAttach (some bytes)) = startedBy (CodeStart.startAttachTo c bytes)
+codeCall c (startDiscover given) = startedBy (CodeStart.startDiscover c given)
+codeCall c startInfo = startedBy (CodeStart.startInfo c)
+codeCall c startErase = startedBy (CodeStart.startErase c)
+codeCall c (startFlash image) = startedBy (CodeStart.startFlash c image)
+codeCall c (startReset bootloader inBoot) = startedBy (CodeStart.startReset c bootloader inBoot)
+codeCall c (startSetBaud baud bootloader inBoot) = startedBy (CodeStart.startSetBaud c baud bootloader inBoot)
+codeCall c (request image buffer) = askedBy (CodeRequest.request c image buffer)
+codeCall c (record′ image bytes) = toldBy (CodeRecord.record′ c image bytes)
+codeCall c linkFailed = toldBy (CodeRecord.linkFailed c)
 
 -- An answer, with the seed and the attached id after it.
 pub record Answer : Type 0 where

@@ -1,5 +1,5 @@
--- The code's client as a host drives it, over any events: what it answers last, what it hands out, and that it stands where a conversation does.
--- Assumes nothing.
+-- The code's client as a host drives it, over any events: what it answers last, what it hands out, and that it stands
+-- where a conversation does.
 use Prim.Native.Nat.{ℕ, _≤_}
 use mathlib.Core.Bool.{true, cond}
 use mathlib.Core.List.{List, [], _∷_, _++_}
@@ -11,7 +11,8 @@ use Rattle.paper.specs.Client.{startWith, seedAfter, bytesOf, handing}
 use Rattle.paper.specs.Hearing.{Id}
 use Rattle.paper.specs.Talk.{Ask, Talk, Outcome}
 use Rattle.theory.specs.ClientDriven as Theory
-use Rattle.theory.specs.ClientDriven.{Round, events, Sent, OfLength, sizeOf, seedAt, idAt, Brought, nothingYet, brought, saidAt}
+use Rattle.theory.specs.ClientDriven.{Round, events, Sent, OfLength, sizeOf, seedAt, idAt, Brought, nothingYet, brought}
+use Rattle.theory.specs.ClientDriven.{saidAt}
 use Rattle.theory.specs.FlashOrder.{Past, Event, heard, failed, Stand, returned, refused, lost, pending, play}
 use Rattle.client.specs.declared.Client.{Client}
 use Rattle.client.specs.declared.Started.{Started}
@@ -34,13 +35,14 @@ asking buffer r t = request (t .client) (r .lent) buffer
 abbrev pub telling : List ℕ → Round → Told → Told
 telling buffer r t = tells (asking buffer r t .answer .client) (r .event)
 
--- From the start's answer on, while the operation goes on and requests are granted; a request that is refused, or with which the operation has
--- ended, is the last.
+-- From the start's answer on, while the operation goes on and requests are granted; a request that is refused, or with
+-- which the operation has ended, is the last.
 unfoldable pub driven : List ℕ → List Round → Told → Told
 driven buffer [] t = t
 driven buffer (r ∷ rs) t =
     cond (isOnward (t .says))
-    (onSays (asking buffer r t .answer .says) (λ k. driven buffer rs (telling buffer r t)) (λ k. opening (asking buffer r t .answer))
+    (onSays (asking buffer r t .answer .says) (λ k. driven buffer rs (telling buffer r t))
+    (λ k. opening (asking buffer r t .answer))
     (opening (asking buffer r t .answer)) (opening (asking buffer r t .answer)))
     t
 
@@ -49,7 +51,8 @@ unfoldable pub sends : List ℕ → List Round → Told → List Sent
 sends buffer [] t = []
 sends buffer (r ∷ rs) t =
     cond (isOnward (t .says))
-    (onSays (asking buffer r t .answer .says) (λ k. Theory.sending k (asking buffer r t .bytes) (some (r .event)) ∷ sends buffer rs (telling buffer r t))
+    (onSays (asking buffer r t .answer .says)
+    (λ k. Theory.sending k (asking buffer r t .bytes) (some (r .event)) ∷ sends buffer rs (telling buffer r t))
     (λ k. Theory.sending k (asking buffer r t .bytes) none ∷ []) [] [])
     []
 
@@ -66,7 +69,8 @@ pub record Grants (c : Client) (image buffer : List ℕ) (q : Ask) (bytes : List
 pub record Asks (n : Option ℕ) (seed : ℕ) (id : Option Id) (q : Ask) (c : Client) : Type 0 where
   pub seeded : c .seed ≡ seed
   pub attached : attachedTo c ≡ id
-  pub grants : (image buffer : List ℕ) → OfLength n image → sizeOf q ≤ length buffer → Grants c image buffer q (bytesOf q (seedAfter q seed) image)
+  pub grants : (image buffer : List ℕ) → OfLength n image → sizeOf q ≤ length buffer
+      → Grants c image buffer q (bytesOf q (seedAfter q seed) image)
 
 abbrev pub Leaves : Option ℕ → ℕ → Option Id → Stand Outcome → Client → Type 0
 Leaves n seed id (returned o) c = c ≡ resting seed id
@@ -74,14 +78,18 @@ Leaves n seed id (refused k carries) c = c ≡ resting seed id
 Leaves n seed id (lost q) c = c ≡ resting seed id
 Leaves n seed id (pending q) c = Asks n seed id q c
 
--- A client that began with a seed and an attached id or none stands where its conversation does; images of length n are lent.
-pub record StandsAs (n : Option ℕ) (seed : ℕ) (id : Option Id) (r : Past × Stand Outcome) (b : Brought) (t : Told) : Type 0 where
+-- A client that began with a seed and an attached id or none stands where its conversation does; images of length n are
+-- lent.
+pub record StandsAs (n : Option ℕ) (seed : ℕ) (id : Option Id) (r : Past × Stand Outcome) (b : Brought)
+    (t : Told) : Type 0 where
   pub says : answerOf t ≡ saidAt r b
   pub rest : t .rest ≡ b .rest
   pub client : Leaves n (seedAt seed r) (idAt id r) (r .1) (t .client)
 
--- An operation started on a client with none, by this answer, and driven over these rounds: it stands where document 01's conversation does, and
--- what it hands out is what document 01's client does.
-pub record Plays (n : Option ℕ) (seed : ℕ) (id : Option Id) (m : Talk Outcome) (buffer : List ℕ) (rounds : List Round) (s : Started) : Type 0 where
-  pub stands : StandsAs n seed id (play m (events rounds) []) (brought m (events rounds) nothingYet) (driven buffer rounds (opening s))
+-- An operation started on a client with none, by this answer, and driven over these rounds: it stands where document
+-- 01's conversation does, and what it hands out is what document 01's client does.
+pub record Plays (n : Option ℕ) (seed : ℕ) (id : Option Id) (m : Talk Outcome) (buffer : List ℕ) (rounds : List Round)
+    (s : Started) : Type 0 where
+  pub stands : StandsAs n seed id (play m (events rounds) []) (brought m (events rounds) nothingYet)
+      (driven buffer rounds (opening s))
   pub sent : sends buffer rounds (opening s) ≡ Theory.sends buffer rounds (startWith n (Theory.resting seed id) true m)

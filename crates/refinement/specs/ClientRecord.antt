@@ -1,17 +1,19 @@
--- The record of each client of the operations' machine, every field of it, and what the code answers where the machine does.
--- Assumes nothing.
+-- The record of each client of the operations' machine, every field of it, and what the code answers where the machine
+-- does.
 use Prim.Native.Nat.{ℕ}
 use mathlib.Core.Bool.{Bool, true, false, cond}
 use mathlib.Core.List.{List, [], _∷_}
 use mathlib.Core.Option.{Option, none, some}
 use lib.Dec.{eqb}
 use lib.ListN.{getD}
-use Rattle.paper.specs.Client as Paper
+use Rattle.paper.specs.Client as PaperClient
 use Rattle.paper.specs.Client.{refused, granted, closing, onward, over}
-use Rattle.paper.specs.Hearing as Paper₂
-use Rattle.paper.specs.Talk as Paper₃
+use Rattle.paper.specs.Hearing as PaperHearing
+use Rattle.paper.specs.Talk as PaperTalk
 use Rattle.paper.specs.Talk.{quiet, heard, attached, found, knows}
-use Rattle.theory.specs.OperationMachine.{Search, probing, parting, seeking, backing, walking, Purpose, tell, clear, load, Job, informing, erasing, writing, verifying, resetting, Phase, selecting, demanding, leaving}
+use Rattle.theory.specs.OperationMachine.{Search, probing, parting, seeking, backing, walking, Purpose, tell, clear}
+use Rattle.theory.specs.OperationMachine.{load, Job, informing, erasing, writing, verifying, resetting, Phase}
+use Rattle.theory.specs.OperationMachine.{selecting, demanding, leaving}
 use Rattle.theory.specs.ClientMachine as Machine
 use Rattle.theory.specs.ClientMachine.{Turn, idle, ready, waiting}
 use Rattle.ids.specs.declared.Id.{Id}
@@ -24,22 +26,26 @@ use Rattle.walk.specs.Moves.{noWalk}
 use Rattle.image.specs.declared.Compat.{Compat}
 use Rattle.image.specs.declared.Compat.the-variants.{Key, Missing}
 use Rattle.image.specs.Images.{codeInfo}
-use Rattle.client.specs.declared.Search as Code
+use Rattle.client.specs.declared.Search as CodeSearch
 use Rattle.client.specs.declared.Search.the-variants.{Probing, Parting, Seeking, Backing, Walking}
-use Rattle.client.specs.declared.Purpose as Code₃
+use Rattle.client.specs.declared.Purpose as CodePurpose
 use Rattle.client.specs.declared.Purpose.the-variants.{Tell, Clear, Load}
 use Rattle.client.specs.declared.Reset.{Reset}
-use Rattle.client.specs.declared.Job as Code₄
+use Rattle.client.specs.declared.Job as CodeJob
 use Rattle.client.specs.declared.Job.the-variants.{Informing, Erasing, Writing, Verifying, Resetting}
-use Rattle.client.specs.declared.Phase as Code₅
+use Rattle.client.specs.declared.Phase as CodePhase
 use Rattle.client.specs.declared.Phase.the-variants.{Select, Demand, Leave}
 use Rattle.client.specs.declared.Progress.{Progress}
 use Rattle.client.specs.declared.Progress.the-variants.{None, Made}
-use Rattle.client.specs.declared.Turn as Code₂
+use Rattle.client.specs.declared.Turn as CodeTurn
 use Rattle.client.specs.declared.Turn.the-variants.{Idle, Ready, Waiting}
 use Rattle.client.specs.declared.Client.{Client}
 use Rattle.client.specs.declared.Outcome.the-variants as Outcome
-use Rattle.client.specs.declared.Refusal.the-variants.{Io, Device, FirmwareTooLarge, CrcMismatch, BadInfo, Incompatible, NoDevice, SeveralDevices, NoSuchUid, AmbiguousUid, NotAddressable, DuplicateUid, BadPrefix, LongId, TableFull, ShortBuffer, RetriesSpent, ShortVerify, SpansTooFar, OtherImage, OutOfTurn}
+use Rattle.client.specs.declared.Refusal.the-variants.{Io, Device, FirmwareTooLarge, CrcMismatch, BadInfo, Incompatible}
+use Rattle.client.specs.declared.Refusal.the-variants.{NoDevice, SeveralDevices, NoSuchUid, AmbiguousUid}
+use Rattle.client.specs.declared.Refusal.the-variants.{NotAddressable, DuplicateUid, BadPrefix, LongId, TableFull}
+use Rattle.client.specs.declared.Refusal.the-variants.{ShortBuffer, RetriesSpent, ShortVerify, SpansTooFar, OtherImage}
+use Rattle.client.specs.declared.Refusal.the-variants.{OutOfTurn}
 use Rattle.client.specs.declared.Says.{Says}
 use Rattle.client.specs.declared.Says.the-variants.{Granted, Closing, Onward, Over, Refused}
 use Rattle.client.specs.declared.Started.{Started}
@@ -48,23 +54,23 @@ use Rattle.client_request.specs.Request.{Asking}
 use Rattle.refinement.specs.WalkRecord.{tableOf, phaseOf, walkOf}
 
 -- An id that may be missing: whether it is there, and its value.
-abbrev pub isThere : Option Paper₂.Id → Bool
+abbrev pub isThere : Option PaperHearing.Id → Bool
 isThere none = false
 isThere (some x) = true
 
-abbrev pub valueOf : Option Paper₂.Id → Id
+abbrev pub valueOf : Option PaperHearing.Id → Id
 valueOf none = noId
 valueOf (some x) = idFrom x
 
 -- What the record holds in each phase: the phase, the prefix, its number of bits, the walk.
-abbrev pub searchIn : Search → Code.Search
+abbrev pub searchIn : Search → CodeSearch.Search
 searchIn (probing bytes bits) = Probing
 searchIn parting = Parting
 searchIn (seeking uid) = Seeking (isThere uid)
 searchIn (backing uid) = Backing (isThere uid)
 searchIn (walking s) = Walking (phaseOf (s .phase))
 
-abbrev pub purposeIn : Purpose → Code₃.Purpose
+abbrev pub purposeIn : Purpose → CodePurpose.Purpose
 purposeIn tell = Tell
 purposeIn clear = Clear
 purposeIn (load n) = Load n
@@ -73,14 +79,14 @@ abbrev pub resetIn : Bool → Option ℕ → Reset
 resetIn bootloader none = record { bootloader = bootloader; given = false; baud = 0 }
 resetIn bootloader (some baud) = record { bootloader = bootloader; given = true; baud = baud }
 
-abbrev pub jobIn : Job → Code₄.Job
+abbrev pub jobIn : Job → CodeJob.Job
 jobIn (informing why) = Informing (purposeIn why)
 jobIn (erasing why info address) = Erasing (purposeIn why) (codeInfo info) address
 jobIn (writing n info offset retries) = Writing n (codeInfo info) offset retries
 jobIn (verifying n info) = Verifying n (codeInfo info)
 jobIn (resetting bootloader baud) = Resetting (resetIn bootloader baud)
 
-abbrev pub phaseIn : Phase → Code₅.Phase
+abbrev pub phaseIn : Phase → CodePhase.Phase
 phaseIn (selecting s) = Select (searchIn s)
 phaseIn (demanding j) = Demand (jobIn j)
 phaseIn (leaving bootloader baud) = Leave (resetIn bootloader baud)
@@ -112,11 +118,20 @@ walkIn (selecting (walking s)) = walkOf s
 walkIn (demanding j) = noWalk
 walkIn (leaving bootloader baud) = noWalk
 
-abbrev pub standing : ℕ → Option Paper₂.Id → Code₂.Turn → Id → ℕ → Walk → Client
-standing seed id turn prefix bits walk = record { seed = seed; attached = isThere id; id = valueOf id; turn = turn; prefix = prefix; bits = bits; walk = walk }
+abbrev pub standing : ℕ → Option PaperHearing.Id → CodeTurn.Turn → Id → ℕ → Walk → Client
+standing seed id turn prefix bits walk =
+    record {
+      seed = seed;
+      attached = isThere id;
+      id = valueOf id;
+      turn = turn;
+      prefix = prefix;
+      bits = bits;
+      walk = walk;
+    }
 
 -- The client's record. With no operation, all that belongs to one is zero.
-abbrev pub recordOf : ℕ → Option Paper₂.Id → Turn → Client
+abbrev pub recordOf : ℕ → Option PaperHearing.Id → Turn → Client
 recordOf seed id idle = standing seed id Idle noId 0 noWalk
 recordOf seed id (ready ph) = standing seed id (Ready (phaseIn ph)) (prefixIn ph) (bitsIn ph) (walkIn ph)
 recordOf seed id (waiting ph) = standing seed id (Waiting (phaseIn ph)) (prefixIn ph) (bitsIn ph) (walkIn ph)
@@ -179,14 +194,14 @@ refusedAs n carries =
     (cond (eqb n 20) (plainly (Refused OtherImage))
     (cond (eqb n 23) (plainly (Over Outcome.Unaddressed)) (plainly (Refused OutOfTurn))))))))))))))))))))))
 
-abbrev pub endedAs : Option (ℕ × ℕ) → Paper₃.Outcome → Shown
+abbrev pub endedAs : Option (ℕ × ℕ) → PaperTalk.Outcome → Shown
 endedAs p quiet = making (Over Outcome.Quiet) p
 endedAs p (heard h) = beside (Over (Outcome.Heard (shownHeard h .heard))) (shownHeard h .id)
 endedAs p (attached id) = beside (Over (Outcome.Attached (isThere id))) (valueOf id)
 endedAs p (found ids) = record { says = Over Outcome.Found; progress = None; id = noId; found = tableOf ids }
 endedAs p (knows info) = making (Over (Outcome.Knows (codeInfo info))) p
 
-abbrev pub shownSays : Paper.Says → Shown
+abbrev pub shownSays : PaperClient.Says → Shown
 shownSays (refused n carries) = refusedAs n carries
 shownSays (granted n) = plainly (Granted n)
 shownSays (closing n) = plainly (Closing n)
@@ -207,4 +222,8 @@ toldAs t = record {
 }
 
 abbrev pub askedAs : Machine.Asked → Asking
-askedAs a = record { answer = record { says = shownSays (a .says) .says; client = clientOf (a .client) }; bytes = a .buffer }
+askedAs a = record {
+  answer = record
+      { says = shownSays (a .says) .says; client = clientOf (a .client) };
+  bytes = a .buffer;
+}

@@ -1,18 +1,18 @@
--- A client driven over a wire, from bytes to bytes: a request is asked for, the wire is handed its bytes, and its record is handed in.
--- Assumes nothing.
+-- A client driven over a wire, from bytes to bytes: a request is asked for, the wire is handed its bytes, and its
+-- record is handed in.
 use Prim.Native.Nat.{ℕ, zero, suc, _+_, _%_, _≤_, _<_}
 use mathlib.Core.Bool.{Bool, true, false, cond}
 use mathlib.Core.List.{List, [], _∷_}
 use mathlib.Core.Option.{Option, none}
 use mathlib.Core.Path.{_≡_}
 use lib.ListN.{length, take, drop}
-use Rattle.paper.specs.Client as Paper
+use Rattle.paper.specs.Client as PaperClient
 use Rattle.paper.specs.Client.{bytesOf, refused, over}
 use Rattle.paper.specs.Count.{matching, heardOf, All, Distinct, limit}
 use Rattle.paper.specs.Frame.{byte, frameBytes, command-Select, status-Ok}
 use Rattle.paper.specs.Hearing.{Id, Prefix, bitsOf, begins, matches, hear}
 use Rattle.paper.specs.Talk.{select, found}
-use Rattle.paper.specs.Walk as Paper₃
+use Rattle.paper.specs.Walk as PaperWalk
 use Rattle.paper.specs.Walk.{sort, Ended, done, stopped}
 use Rattle.ids.specs.Ids.{noId}
 use Rattle.walk_table.specs.declared.Table.{Table}
@@ -59,7 +59,8 @@ isOnward s = onSays s (λ n. false) (λ n. false) true false
 -- While the operation goes on, at most n rounds more, after k Selects: the last answer, and the Selects by then.
 unfoldable pub served : ℕ → List ℕ → Wire → ℕ → Told → Told × ℕ
 served zero buffer wire k t = (t, k)
-served (suc n) buffer wire k t = cond (isOnward (t .says)) (served n buffer wire (suc k) (round buffer wire k (t .client))) (t, k)
+served (suc n) buffer wire k t =
+    cond (isOnward (t .says)) (served n buffer wire (suc k) (round buffer wire k (t .client))) (t, k)
 
 -- A start's answer, as one to a record.
 abbrev pub opening : Started → Told
@@ -71,21 +72,31 @@ discovered buffer wire c given = served (limit (bitsOf given)) buffer wire 0 (op
 
 -- A client with no operation, of a seed and an attached id or none.
 abbrev pub resting : ℕ → Option Id → Client
-resting seed id = record { seed = seed; attached = isThere id; id = valueOf id; turn = Idle; prefix = noId; bits = 0; walk = noWalk }
+resting seed id = record {
+  seed = seed;
+  attached = isThere id;
+  id = valueOf id;
+  turn = Idle;
+  prefix = noId;
+  bits = 0;
+  walk = noWalk;
+}
 
 -- What document 01's discovery hears over a wire, from a client of that seed on: each Select has the next seed.
-unfoldable pub heardBy : Wire → ℕ → Paper₃.Wire
+unfoldable pub heardBy : Wire → ℕ → PaperWalk.Wire
 heardBy wire seed k q = hear (wire k (bytesOf (select q) ((seed + suc k) % 256) []))
 
--- "an honest wire", of the Selects that a discovery under this prefix hands out before its deselect, from a client of this
--- seed: fewer than the limit went before, and the prefix asked extends the given one and has at most 128 bits. Each is heard
--- as silence, the one id, or garble, as none, one or several ids match. Of any other Select it says nothing.
+-- "an honest wire", of the Selects that a discovery under this prefix hands out before its deselect, from a client of
+-- this seed: fewer than the limit went before, and the prefix asked extends the given one and has at most 128 bits.
+-- Each is heard as silence, the one id, or garble, as none, one or several ids match. Of any other Select it says
+-- nothing.
 abbrev pub Honest : Wire → ℕ → Prefix → List Id → Type 0
 Honest wire seed given ids =
-    (k : ℕ) (q : Prefix) → k < limit given → begins given q ≡ true → length q ≤ 128 → heardBy wire seed k q ≡ heardOf (matching q ids)
+    (k : ℕ) (q : Prefix) → k < limit given → begins given q ≡ true → length q ≤ 128
+    → heardBy wire seed k q ≡ heardOf (matching q ids)
 
 -- What a discovery's end says, its table, and the attached id after it: one that is done has deselected.
-abbrev pub endSays : Ended (List Id) → Paper.Says
+abbrev pub endSays : Ended (List Id) → PaperClient.Says
 endSays (done ids) = over none (found ids)
 endSays (stopped n) = refused n []
 
@@ -97,14 +108,16 @@ abbrev pub endId : Option Id → Ended (List Id) → Option Id
 endId id (done ids) = none
 endId id (stopped n) = id
 
--- A driven discovery ended as document 01's did: with the same answer and ids, after as many Selects, and with nothing left running.
+-- A driven discovery ended as document 01's did: with the same answer and ids, after as many Selects, and with nothing
+-- left running.
 pub record EndsAs (seed : ℕ) (id : Option Id) (paper : Ended (List Id) × ℕ) (code : Told × ℕ) : Type 0 where
   pub answer : saysOf (code .0 .says) (code .0 .progress) (code .0 .id) (code .0 .found) ≡ endSays (paper .0)
   pub found : code .0 .found ≡ endTable (paper .0)
   pub client : code .0 .client ≡ resting ((seed + paper .1) % 256) (endId id (paper .0))
   pub selects : code .1 ≡ paper .1
 
--- A driven discovery found exactly these ids, after so many Selects: they are the answer and the table, and no id is attached.
+-- A driven discovery found exactly these ids, after so many Selects: they are the answer and the table, and no id is
+-- attached.
 pub record Finds (seed : ℕ) (ids : List Id) (n : ℕ) (code : Told × ℕ) : Type 0 where
   pub says : code .0 .says ≡ Over Found
   pub answer : idsOf (code .0 .found) ≡ ids
@@ -130,7 +143,8 @@ bitsIn bytes = take (byte 11 bytes) (bitsOf (drop 12 bytes))
 -- The record of the ids that match: silence, the one's reply, or a stray byte where several speak at once.
 unfoldable pub spoken : List Id → List ℕ
 spoken [] = []
-spoken (x ∷ []) = frameBytes (record { command = command-Select; status = status-Ok; flags = 0; address = 0; payload = x })
+spoken (x ∷ []) = frameBytes (record
+    { command = command-Select; status = status-Ok; flags = 0; address = 0; payload = x })
 spoken (x ∷ y ∷ zs) = 0 ∷ []
 
 -- The wire of some devices, as bytes.

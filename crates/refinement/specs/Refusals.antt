@@ -1,11 +1,10 @@
 -- Document 01, "Refusal numbers": what a refusal leaves of the client, and what a start that is refused answers.
--- Assumes nothing.
 use Prim.Native.Nat.{ℕ, _*_}
 use mathlib.Core.Bool.{Bool, true, false, _&&_, _||_, cond}
 use mathlib.Core.List.{List}
 use lib.Dec.{leb, eqb}
 use lib.ListN.{length}
-use Rattle.paper.specs.Client.{short}
+use Rattle.paper.specs.Client.{withinLongest}
 use Rattle.ids.specs.Ids.{noId}
 use Rattle.walk.specs.Moves.{noWalk}
 use Rattle.client.specs.declared.Client.{Client}
@@ -33,13 +32,15 @@ parts r = eqb (numberOf r) 8 || eqb (numberOf r) 10
 unfoldable pub leaves : Refusal → Client → Client
 leaves r c = cond (keeps r) c (idle (cond (parts r) (cleared c) c))
 
--- "Out of turn is: a start while an operation runs"; "Order: 21, 20, 13": a start, whose arguments are good or bad, and the client that it begins.
+-- "Out of turn is: a start while an operation runs"; "Order: 21, 20, 13": a start, whose arguments are good or bad, and
+-- the client that it begins.
 unfoldable pub begins : Client → Bool → Client → Started
-begins c good next = cond (running (c .turn)) (refuse c OutOfTurn) (cond good (record { says = Onward; client = next }) (refuse c BadPrefix))
+begins c good next = cond (running (c .turn)) (refuse c OutOfTurn)
+    (cond good (record { says = Onward; client = next }) (refuse c BadPrefix))
 
 -- "a count over 128 or over 8 times the bytes given is 13", and so is a "prefix or id given over 16 bytes".
 abbrev pub goodCount : List ℕ → ℕ → Bool
-goodCount bytes bits = short bytes && (leb bits 128 && leb bits (8 * length bytes))
+goodCount bytes bits = withinLongest bytes && (leb bits 128 && leb bits (8 * length bytes))
 
 -- A client at its first request, of an operation that selects nothing.
 abbrev pub asking : Client → Phase → Client

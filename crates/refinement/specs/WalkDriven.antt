@@ -1,5 +1,4 @@
 -- The code's walk over a wire: asked, told what the wire lets hear, at most n Selects more; and the Selects by then.
--- Assumes nothing.
 use Prim.Native.Nat.{ℕ, zero, suc}
 use mathlib.Core.List.{[]}
 use Rattle.paper.specs.Hearing as Paper
@@ -31,7 +30,8 @@ onGoes (Stopped c) on ended = ended
 
 unfoldable pub driven : ℕ → Wire → ℕ → Next → Next × ℕ
 driven zero wire k n = (n, k)
-driven (suc m) wire k n = onGoes (n .goes) (λ p. driven m wire (suc k) (told (n .walk) p (wire k (bitsAsked (asks (n .walk) p))))) (n, k)
+driven (suc m) wire k n = onGoes (n .goes)
+    (λ p. driven m wire (suc k) (told (n .walk) p (wire k (bitsAsked (asks (n .walk) p))))) (n, k)
 
 -- A walk of any prefix, at its first Select.
 unfoldable pub begun : Prefix → Next

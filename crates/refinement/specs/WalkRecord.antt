@@ -1,5 +1,4 @@
 -- The record of each state of the machine: every bit, byte and row of it, those not in use zero.
--- Assumes nothing.
 use Prim.Native.Nat.{ℕ, _-_}
 use mathlib.Core.Bool.{cond}
 use mathlib.Core.List.{List, [], _∷_, _++_, map}

@@ -1,5 +1,4 @@
 -- The ways through the Select's writer.
--- Assumes nothing.
 use Prim.Native.Nat.{ℕ, suc, _+_, _-_, _*_, _/_, _%_, _^_, _<_, _≤_}
 use mathlib.Core.Bool.{Bool, true, false, cond}
 use mathlib.Core.List.{List, [], _∷_, _++_}
@@ -10,7 +9,8 @@ use native.Mathlib.Numerals.{add-one}
 use native.Mathlib.Omega.{arith}
 use lib.Bits.{bitOr}
 use lib.Dec.{eqb}
-use lib.ListN.{length, take, drop, getD, set, replicate, length-take, length-append, length-replicate, getD-replicate, List·getD-append}
+use lib.ListN.{length, take, drop, getD, set, replicate, length-take, length-append, length-replicate, getD-replicate}
+use lib.ListN.{List·getD-append}
 use lib.Seq.{take-all, take-suc, length-take-le, drop-at, drop-drop, getD-take, getD-append-add, set-append-left}
 use borrow.Author.Tests.{eq-eqb, ne-eqb}
 use borrow.Rule.Slice.PartMut.{putMid}
@@ -31,11 +31,13 @@ use Rattle.select.specs.Selects.{asked, bytesFor}
 
 -- `dst[k / 8] |= 1 << (k % 8)` where the bit is 1, and nothing where it is 0.
 module _ (d : List ℕ) (x k r : ℕ) (e : r ≡ bitOf x (k % 8)) where
-  pub one-put : r ≡ 1 → set d (k / 8) (bitOr (getD d (k / 8) 0) (1 * 2 ^ (k % 8) % 256)) ≡ cond (eqb (bitOf x (k % 8)) 1) (setBit d k) d
+  pub one-put : r ≡ 1 → set d (k / 8) (bitOr (getD d (k / 8) 0) (1 * 2 ^ (k % 8) % 256))
+      ≡ cond (eqb (bitOf x (k % 8)) 1) (setBit d k) d
   unfolding setBit
   one-put h =
       rw (eq-eqb (bitOf x (k % 8)) 1 (sym e ∙ h))
-      (ap (set d (k / 8)) (ap (bitOr (getD d (k / 8) 0)) (one-shl (k % 8) (omega arith)) ∙ or-shl (getD d (k / 8) 0) (k % 8)))
+      (ap (set d (k / 8)) (ap (bitOr (getD d (k / 8) 0)) (one-shl (k % 8) (omega arith))
+      ∙ or-shl (getD d (k / 8) 0) (k % 8)))
 
   pub zero-put : (r ≡ 1 → ⊥) → d ≡ cond (eqb (bitOf x (k % 8)) 1) (setBit d k) d
   zero-put h = rw (ne-eqb (bitOf x (k % 8)) 1 (λ q. h (e ∙ q)))
@@ -50,7 +52,8 @@ set-front a rest k h =
 -- The first k bits in n bytes, and one more.
 module _ (n : ℕ) (q : List Bool) (k : ℕ) (h : k < length q) (room : length q ≤ 8 * n) where
   bit-more : cond (getD q k false) (setBit (packed n (take k q)) k) (packed n (take k q)) ≡ packed n (take (k + 1) q)
-  bit-more = go (getD q k false) ∙ ap (packed n) (sym (take-suc q k false h) ∙ ap (λ (m : ℕ). take m q) (sym (add-one k)))
+  bit-more = go (getD q k false)
+      ∙ ap (packed n) (sym (take-suc q k false h) ∙ ap (λ (m : ℕ). take m q) (sym (add-one k)))
     where
       so-many : length (take k q) ≡ k
       so-many = length-take-le k q (omega arith)
@@ -62,7 +65,14 @@ module _ (n : ℕ) (q : List Bool) (k : ℕ) (h : k < length q) (room : length q
 -- As many bits as asked for.
 asked-length : (bits : List ℕ) (count : ℕ) → length bits ≡ 16 → count < 256 → length (asked bits count) ≡ count
 asked-length bits count long h =
-    omega (arith, length-take count (bitsOf bits ++ replicate 127 false), length-append (bitsOf bits) (replicate 127 false), bits-length bits, length-replicate 127 false)
+    omega (
+      arith,
+      length-take count (bitsOf bits ++ replicate 127 false),
+      length-append (bitsOf bits)
+          (replicate 127 false),
+      bits-length bits,
+      length-replicate 127 false,
+    )
 
 -- The bits of a prefix put one by one behind zeros.
 module _ (bits : List ℕ) (count : ℕ) (long : length bits ≡ 16) (small : count < 256) where
@@ -89,14 +99,19 @@ module _ (bits : List ℕ) (count : ℕ) (long : length bits ≡ 16) (small : co
       ∙ getD-replicate 127 (i - 128) false false (omega arith)
 
   -- Bits that are all false need not be put.
-  passed : (k m : ℕ) → k ≤ m → ((i : ℕ) → k ≤ i → i < m → i < count → getD q i false ≡ false) → packed n (take k q) ≡ packed n (take m q)
+  passed : (k m : ℕ) → k ≤ m → ((i : ℕ) → k ≤ i → i < m → i < count → getD q i false ≡ false)
+      → packed n (take k q) ≡ packed n (take m q)
   passed k m h =
-      le-ind (λ (m : ℕ). ((i : ℕ) → k ≤ i → i < m → i < count → getD q i false ≡ false) → packed n (take k q) ≡ packed n (take m q)) (λ none. refl)
+      le-ind (λ (m : ℕ). ((i : ℕ) → k ≤ i → i < m → i < count → getD q i false ≡ false)
+      → packed n (take k q) ≡ packed n (take m q)) (λ none. refl)
       (λ m g ih none. ih (λ i f l. none i f (omega arith)) ∙ go m (none m g (omega arith)) (decLt m (length q))) m h
     where
-      go : (m : ℕ) → (m < count → getD q m false ≡ false) → Dec (m < length q) → packed n (take m q) ≡ packed n (take (suc m) q)
+      go : (m : ℕ) → (m < count → getD q m false ≡ false) → Dec (m < length q)
+          → packed n (take m q) ≡ packed n (take (suc m) q)
       go m e (yes h) =
-          sym (packed-zero n (take m q)) ∙ ap (packed n) (ap (take m q ▹_) (sym (e (omega (arith, asked-length bits count long small)))) ∙ sym (take-suc q m false h))
+          sym (packed-zero n (take m q))
+          ∙ ap (packed n) (ap (take m q ▹_) (sym (e (omega (arith, asked-length bits count long small))))
+          ∙ sym (take-suc q m false h))
       go m e (no h) = ap (packed n) (take-all m q (omega arith) ∙ sym (take-all (suc m) q (omega arith)))
 
   module _ (m : ℕ) (dst d₀ : List ℕ) (em : m ≡ n) (e₀ : d₀ ≡ replicate m 0 ++ drop m dst) where
@@ -108,12 +123,15 @@ module _ (bits : List ℕ) (count : ℕ) (long : length bits ≡ 16) (small : co
 
     module _ (k : ℕ) (d : List ℕ) (e : d ≡ packed n (take k q) ++ drop n d₀) where
       pub bits-done : count ≤ k → d ≡ packed n q ++ drop n dst
-      bits-done g = e ∙ ap₂ (λ (x : List Bool) (y : List ℕ). packed n x ++ y) (take-all k q (omega (arith, asked-length bits count long small))) behind
+      bits-done g = e ∙ ap₂ (λ (x : List Bool) (y : List ℕ). packed n x ++ y)
+          (take-all k q (omega (arith, asked-length bits count long small))) behind
 
       pub bits-over : 128 ≤ k → d ≡ packed n q ++ drop n dst
       bits-over g =
-          let all : take (k + count) q ≡ q = take-all (k + count) q (omega (arith, asked-length bits count long small)) in
-          e ∙ ap₂ (λ (x y : List ℕ). x ++ y) (passed k (k + count) (omega arith) (λ i l u m. asked-after i (omega arith) m) ∙ ap (packed n) all) behind
+          let all : take (k + count) q ≡ q =
+          take-all (k + count) q (omega (arith, asked-length bits count long small)) in
+          e ∙ ap₂ (λ (x y : List ℕ). x ++ y)
+          (passed k (k + count) (omega arith) (λ i l u m. asked-after i (omega arith) m) ∙ ap (packed n) all) behind
 
   module _ (k : ℕ) (d₀ d : List ℕ) (l : k < 128) (e : d ≡ packed n (take k q) ++ drop n d₀) where
     pub bits-passed : getD bits (k / 8) 0 ≡ 0 → d ≡ packed n (take (8 * (k / 8) + 8) q) ++ drop n d₀
@@ -122,7 +140,8 @@ module _ (bits : List ℕ) (count : ℕ) (long : length bits ≡ 16) (small : co
         none : (i : ℕ) → k ≤ i → i < 8 * (k / 8) + 8 → i < count → getD q i false ≡ false
         none i g h m =
             let byte : i / 8 ≡ k / 8 = omega arith in
-            asked-bit i m (omega arith) ∙ ap (λ (x : ℕ). eqb (bitOf x (i % 8)) 1) (ap (λ (j : ℕ). getD bits j 0) byte ∙ z) ∙ rw zero-div
+            asked-bit i m (omega arith) ∙ ap (λ (x : ℕ). eqb (bitOf x (i % 8)) 1)
+            (ap (λ (j : ℕ). getD bits j 0) byte ∙ z) ∙ rw zero-div
 
     pub bits-more : (d′ : List ℕ) → k < count → d′ ≡ cond (eqb (bitOf (getD bits (k / 8) 0) (k % 8)) 1) (setBit d k) d
         → d′ ≡ packed n (take (k + 1) q) ++ drop n d₀
@@ -130,9 +149,12 @@ module _ (bits : List ℕ) (count : ℕ) (long : length bits ≡ 16) (small : co
         e′
         ∙ ap₂ (λ (b : Bool) (x : List ℕ). cond b (setBit x k) x) (sym (asked-bit k h l)) e
         ∙ go (getD q k false)
-        ∙ ap (λ (x : List ℕ). x ++ drop n d₀) (bit-more n q k (omega (arith, asked-length bits count long small)) (omega (arith, asked-length bits count long small)))
+        ∙ ap (λ (x : List ℕ). x ++ drop n d₀)
+        (bit-more n q k (omega (arith, asked-length bits count long small))
+        (omega (arith, asked-length bits count long small)))
       where
-        go : (b : Bool) → cond b (setBit (packed n (take k q) ++ drop n d₀) k) (packed n (take k q) ++ drop n d₀) ≡ cond b (setBit (packed n (take k q)) k) (packed n (take k q)) ++ drop n d₀
+        go : (b : Bool) → cond b (setBit (packed n (take k q) ++ drop n d₀) k) (packed n (take k q) ++ drop n d₀)
+            ≡ cond b (setBit (packed n (take k q)) k) (packed n (take k q)) ++ drop n d₀
         go true = set-front (packed n (take k q)) (drop n d₀) k (rw (packed-length n (take k q)) (omega arith))
         go false = refl
 
@@ -150,7 +172,8 @@ module _ (seed : ℕ) (bits : List ℕ) (count : ℕ) (long : length bits ≡ 16
   payload-put dst d₁ d₂ e₁ e₂ =
       mid-all 2 d₁ d₂
       ∙ ap₂ (λ (x y : List ℕ). x ++ y) (ap (take 2) e₁)
-      (e₂ ∙ ap (λ (r : List ℕ). packed (bytesFor count) (asked bits count) ++ drop (bytesFor count) r) (part-all 2 d₁ ∙ ap (drop 2) e₁)
+      (e₂ ∙ ap (λ (r : List ℕ). packed (bytesFor count) (asked bits count) ++ drop (bytesFor count) r)
+      (part-all 2 d₁ ∙ ap (drop 2) e₁)
       ∙ ap (λ (r : List ℕ). packed (bytesFor count) (asked bits count) ++ r) (drop-drop (bytesFor count) 2 dst))
       ∙ ap (λ (x : List ℕ). x ++ drop (2 + bytesFor count) dst) (sym payload-is)
 
@@ -161,14 +184,19 @@ module _ (seed : ℕ) (bits : List ℕ) (count : ℕ) (long : length bits ≡ 16
     sized : length (selectPayload seed (asked bits count)) ≡ 2 + n
     sized = payload-length ∙ ap (λ (k : ℕ). 2 + k) (sym en)
 
-    pub select-short : length buf < 2 + n + 12 → record { answer = Short (2 + n + 12); bytes = buf } ≡ placed (frameBytes (selectFrame seed (asked bits count))) buf
+    pub select-short : length buf < 2 + n + 12
+        → record { answer = Short (2 + n + 12); bytes = buf }
+        ≡ placed (frameBytes (selectFrame seed (asked bits count))) buf
     select-short k = too-short head (selectPayload seed (asked bits count)) buf (2 + n) sized k
 
     pub select-wrote : (d₁ d₂ d₃ : List ℕ) → 2 + n + 12 ≤ length buf → d₁ ≡ headOf head (2 + n) ++ drop 10 buf
         → d₂ ≡ selectPayload seed (asked bits count) ++ drop (2 + bytesFor count) (take (length d₁ - 10) (drop 10 d₁))
-        → d₃ ≡ take (2 + n + 10) (putMid 10 (length d₁ - 10) d₁ d₂) ++ le 2 (check (take (2 + n + 10) (putMid 10 (length d₁ - 10) d₁ d₂)))
+        → d₃ ≡ take (2 + n + 10) (putMid 10 (length d₁ - 10) d₁ d₂)
+        ++ le 2 (check (take (2 + n + 10) (putMid 10 (length d₁ - 10) d₁ d₂)))
         ++ drop (2 + n + 10 + 2) (putMid 10 (length d₁ - 10) d₁ d₂)
-        → record { answer = Done (2 + n + 12); bytes = d₃ } ≡ placed (frameBytes (selectFrame seed (asked bits count))) buf
+        → record { answer = Done (2 + n + 12); bytes = d₃ }
+        ≡ placed (frameBytes (selectFrame seed (asked bits count))) buf
     select-wrote d₁ d₂ d₃ room e₁ e₂ e₃ =
         assembled head (selectPayload seed (asked bits count)) buf (2 + n) sized d₁ d₂ d₃ e₁
-        (e₂ ∙ ap (λ (k : ℕ). selectPayload seed (asked bits count) ++ drop (2 + k) (take (length d₁ - 10) (drop 10 d₁))) (sym en)) room e₃
+        (e₂ ∙ ap (λ (k : ℕ). selectPayload seed (asked bits count)
+        ++ drop (2 + k) (take (length d₁ - 10) (drop 10 d₁))) (sym en)) room e₃

@@ -1,5 +1,4 @@
 -- A Select's bits, and how many bytes hold them.
--- Assumes nothing.
 use Prim.Native.Nat.{ℕ, _+_, _/_}
 use mathlib.Core.Bool.{false}
 use mathlib.Core.List.{List, _++_}

@@ -24,18 +24,20 @@ fn bytes_for(count: u8) -> usize
 // Bit k mod 8 of a byte put as bit k, where it is still zero, by shift and mask.
 fn put_bit(dst: &mut [u8], x: u8, k: usize)
     requires { ⌜ k / 8 < length (now dst) ⌝ }
-    ensures { λ _. ⌜ now (dst .exit) ≡ cond (eqb (bitOf x (k % 8)) 1) (setBit (now (dst .entry)) k) (now (dst .entry)) ⌝ }
+    ensures { λ _. ⌜ now (dst .exit)
+        ≡ cond (eqb (bitOf x (k % 8)) 1) (setBit (now (dst .entry)) k) (now (dst .entry)) ⌝ }
 {
     if ids::bit_of(x, k % 8) == 1 {
         dst[k / 8] |= 1 << (k % 8);
     }
 }
 
-// The first so many bits, in as few bytes as hold them: those zero at first, then bit after bit. A byte that is zero has no bit to put, and
-// there is none after the sixteenth.
+// The first so many bits, in as few bytes as hold them: those zero at first, then bit after bit. A byte that is zero
+// has no bit to put, and there is none after the sixteenth.
 fn put_bits(dst: &mut [u8], bits: [u8; 16], count: u8)
     requires { ⌜ bytesFor count ≤ length (now dst) ⌝ }
-    ensures { λ _. ⌜ now (dst .exit) ≡ packed (bytesFor count) (asked bits count) ++ drop (bytesFor count) (now (dst .entry)) ⌝ }
+    ensures { λ _. ⌜ now (dst .exit)
+        ≡ packed (bytesFor count) (asked bits count) ++ drop (bytesFor count) (now (dst .entry)) ⌝ }
 {
     wire::fill(dst, bytes_for(count), 0);
     let mut k = 0;
@@ -64,7 +66,8 @@ fn put_pair(dst: &mut [u8], a: u8, b: u8)
 // The payload writer: seed, bit count, then the bits in as few bytes as hold them, spare bits 0.
 fn put_select(dst: &mut [u8], seed: u8, bits: [u8; 16], count: u8)
     requires { ⌜ 2 + bytesFor count ≤ length (now dst) ⌝ }
-    ensures { λ _. ⌜ now (dst .exit) ≡ selectPayload seed (asked bits count) ++ drop (2 + bytesFor count) (now (dst .entry)) ⌝ }
+    ensures { λ _. ⌜ now (dst .exit)
+        ≡ selectPayload seed (asked bits count) ++ drop (2 + bytesFor count) (now (dst .entry)) ⌝ }
 {
     put_pair(dst, seed, count);
     put_bits(&mut dst[2..], bits, count);
@@ -72,7 +75,8 @@ fn put_select(dst: &mut [u8], seed: u8, bits: [u8; 16], count: u8)
 
 // A Select of the first so many bits, those after the sixteenth byte zero.
 pub fn write_select(seed: u8, bits: [u8; 16], count: u8, buf: &mut [u8]) -> Placed
-    ensures { λ r. ⌜ record { answer = r; bytes = now (buf .exit) } ≡ placed (frameBytes (selectFrame seed (asked bits count))) (now (buf .entry)) ⌝ }
+    ensures { λ r. ⌜ record { answer = r; bytes = now (buf .exit) }
+        ≡ placed (frameBytes (selectFrame seed (asked bits count))) (now (buf .entry)) ⌝ }
 {
     let n = 2 + bytes_for(count);
     if buf.len() < n + 12 {

@@ -1,5 +1,4 @@
 -- The ways through reading an id's text, from the facts that the code has.
--- Assumes nothing.
 use Prim.Native.Nat.{ℕ, suc, _+_, _-_, _*_, _/_, _%_, _<_, _≤_}
 use mathlib.Core.Bool.{Bool, true, false, cond, _&&_}
 use mathlib.Core.List.{List, [], _∷_, _++_, append-assoc, append-nil}
@@ -14,7 +13,8 @@ use lib.Seq.{drop-cons, drop-drop, drop-set-lt, take-suc-set, length-take-le}
 use borrow.Author.Tests.{lt-leb, le-leb}
 use Rattle.paper.specs.Hearing.{onSome}
 use Rattle.paper.specs.Text.{digit, unhex, parseUid}
-use Rattle.paper.proofs.Hex.{digit-number, digit-upper, digit-small, digit-other, unhex-pair, unhex-bad-high, unhex-bad-low}
+use Rattle.paper.proofs.Hex.{digit-number, digit-upper, digit-small, digit-other, unhex-pair, unhex-bad-high}
+use Rattle.paper.proofs.Hex.{unhex-bad-low}
 use Rattle.ids.proofs.Ways.{id-is}
 use Rattle.ids.specs.declared.Id.{Id}
 use Rattle.text.specs.declared.Parsed.{Parsed}
@@ -54,7 +54,8 @@ pub none-read : (rest : Option (List ℕ)) → Joined [] rest ≡ rest
 none-read none = refl
 none-read (some bytes) = refl
 
-joined-more : (front : List ℕ) (v : ℕ) (rest : Option (List ℕ)) → Joined (front ++ (v ∷ [])) rest ≡ Joined front (onSome rest none (λ bytes. some (v ∷ bytes)))
+joined-more : (front : List ℕ) (v : ℕ) (rest : Option (List ℕ))
+    → Joined (front ++ (v ∷ [])) rest ≡ Joined front (onSome rest none (λ bytes. some (v ∷ bytes)))
 joined-more front v none = refl
 joined-more front v (some bytes) = ap some (append-assoc front (v ∷ []) bytes)
 
@@ -64,7 +65,8 @@ unhex-odd [] h = absurd (omega arith)
 unhex-odd (c ∷ []) h = refl
 unhex-odd (c ∷ d ∷ text) h = go (unhex-odd text (omega arith)) (ltb (digit c) 16 && ltb (digit d) 16)
   where
-    go : unhex text ≡ none → (b : Bool) → cond b (onSome (unhex text) none (λ bytes. some ((digit c * 16 + digit d) ∷ bytes))) none ≡ none
+    go : unhex text ≡ none → (b : Bool)
+        → cond b (onSome (unhex text) none (λ bytes. some ((digit c * 16 + digit d) ∷ bytes))) none ≡ none
     go e true = rw e
     go e false = refl
 
@@ -91,12 +93,14 @@ module _ (text : List ℕ) (r : Parsed) (bad : r ≡ badText) where
       go (yes h) = too-long h
       go (no h) = not-read (omega arith) (unhex-odd text (not-even (length text) n))
 
-module _ (text out : List ℕ) (i h l : ℕ) (inv : Joined (take i out) (unhex (drop (2 * i) text)) ≡ unhex text) (short : length text ≤ 32) (inside : i < length text / 2)
+module _ (text out : List ℕ) (i h l : ℕ) (inv : Joined (take i out) (unhex (drop (2 * i) text)) ≡ unhex text)
+    (short : length text ≤ 32) (inside : i < length text / 2)
     (eh : h ≡ digit (getD text (2 * i) 0)) (el : l ≡ digit (getD text (2 * i + 1) 0)) where
   two : drop (2 * i) text ≡ getD text (2 * i) 0 ∷ getD text (2 * i + 1) 0 ∷ drop (2 * (i + 1)) text
   two =
       drop-cons text (2 * i) 0 (omega arith)
-      ∙ ap (getD text (2 * i) 0 ∷_) (drop-cons text (suc (2 * i)) 0 (omega arith) ∙ ap₂ (λ (m n : ℕ). getD text m 0 ∷ drop n text) next after)
+      ∙ ap (getD text (2 * i) 0 ∷_) (drop-cons text (suc (2 * i)) 0 (omega arith)
+      ∙ ap₂ (λ (m n : ℕ). getD text m 0 ∷ drop n text) next after)
     where
       next : suc (2 * i) ≡ 2 * i + 1
       next = omega arith
@@ -108,12 +112,17 @@ module _ (text out : List ℕ) (i h l : ℕ) (inv : Joined (take i out) (unhex (
   none-of e = sym inv ∙ ap (Joined (take i out)) e
 
   pub bad-high : (r : Parsed) → r ≡ badText → 16 ≤ h → r ≡ parsed (parseUid text)
-  bad-high r bad g = not-read text r bad short (none-of (ap unhex two ∙ unhex-bad-high (getD text (2 * i) 0) (getD text (2 * i + 1) 0) (drop (2 * (i + 1)) text) (omega arith)))
+  bad-high r bad g = not-read text r bad short
+      (none-of (ap unhex two ∙ unhex-bad-high (getD text (2 * i) 0) (getD text (2 * i + 1) 0) (drop (2 * (i + 1)) text)
+      (omega arith)))
 
   pub bad-low : (r : Parsed) → r ≡ badText → 16 ≤ l → r ≡ parsed (parseUid text)
-  bad-low r bad g = not-read text r bad short (none-of (ap unhex two ∙ unhex-bad-low (getD text (2 * i) 0) (getD text (2 * i + 1) 0) (drop (2 * (i + 1)) text) (omega arith)))
+  bad-low r bad g = not-read text r bad short
+      (none-of (ap unhex two ∙ unhex-bad-low (getD text (2 * i) 0) (getD text (2 * i + 1) 0) (drop (2 * (i + 1)) text)
+      (omega arith)))
 
-  pub read-more : h < 16 → l < 16 → length out ≡ 16 → Joined (take (i + 1) (set out i (h * 16 + l))) (unhex (drop (2 * (i + 1)) text)) ≡ unhex text
+  pub read-more : h < 16 → l < 16 → length out ≡ 16
+      → Joined (take (i + 1) (set out i (h * 16 + l))) (unhex (drop (2 * (i + 1)) text)) ≡ unhex text
   read-more a b long =
       ap (λ (front : List ℕ). Joined front rest) stored
       ∙ joined-more (take i out) (h * 16 + l) rest
@@ -124,19 +133,26 @@ module _ (text out : List ℕ) (i h l : ℕ) (inv : Joined (take i out) (unhex (
       rest = unhex (drop (2 * (i + 1)) text)
 
       pair : unhex (drop (2 * i) text) ≡ onSome rest none (λ bytes. some ((h * 16 + l) ∷ bytes))
-      pair = rw (two, eh, el) (unhex-pair (getD text (2 * i) 0) (getD text (2 * i + 1) 0) (drop (2 * (i + 1)) text) rest (omega arith) (omega arith) refl)
+      pair = rw (two, eh, el) (unhex-pair (getD text (2 * i) 0) (getD text (2 * i + 1) 0)
+          (drop (2 * (i + 1)) text) rest (omega arith) (omega arith) refl)
 
       stored : take (i + 1) (set out i (h * 16 + l)) ≡ take i out ++ ((h * 16 + l) ∷ [])
       stored = rw (add-one i) (take-suc-set out i (h * 16 + l) (omega arith))
 
-pub zero-more : (out : List ℕ) (i v : ℕ) → drop i out ≡ drop i (replicate 16 0) → drop (i + 1) (set out i v) ≡ drop (i + 1) (replicate 16 0)
-zero-more out i v e = drop-set-lt (i + 1) out i v (omega arith) ∙ sym (drop-drop 1 i out) ∙ ap (drop 1) e ∙ drop-drop 1 i (replicate 16 0)
+pub zero-more : (out : List ℕ) (i v : ℕ) → drop i out ≡ drop i (replicate 16 0)
+    → drop (i + 1) (set out i v) ≡ drop (i + 1) (replicate 16 0)
+zero-more out i v e = drop-set-lt (i + 1) out i v (omega arith) ∙ sym (drop-drop 1 i out) ∙ ap (drop 1) e
+    ∙ drop-drop 1 i (replicate 16 0)
 
-pub read-all : (text out : List ℕ) (i n : ℕ) → Joined (take i out) (unhex (drop (2 * i) text)) ≡ unhex text → n ≡ length text → n ≤ 32 → n % 2 ≡ 0 → i ≤ n / 2 → n / 2 ≤ i
-    → length out ≡ 16 → drop i out ≡ drop i (replicate 16 0) → record { answer = Uid; id = record { bytes = out; len = n / 2 } } ≡ parsed (parseUid text)
+pub read-all : (text out : List ℕ) (i n : ℕ) → Joined (take i out) (unhex (drop (2 * i) text)) ≡ unhex text
+    → n ≡ length text → n ≤ 32 → n % 2 ≡ 0 → i ≤ n / 2 → n / 2 ≤ i
+    → length out ≡ 16 → drop i out ≡ drop i (replicate 16 0)
+    → record { answer = Uid; id = record { bytes = out; len = n / 2 } } ≡ parsed (parseUid text)
 unfolding parsed parseUid unhex
 read-all text out i n inv e short even h g long zeros =
-    rw (le-leb (length text) 32 (omega arith), ← inv, past, append-nil (take i out)) (ap (λ (x : Id). record { answer = Uid; id = x }) (id-is (take i out) out (n / 2) (omega (arith, size)) (rw (size, ← zeros) (sym (take-append-drop i out)))))
+    rw (le-leb (length text) 32 (omega arith), ← inv, past, append-nil (take i out))
+    (ap (λ (x : Id). record { answer = Uid; id = x })
+    (id-is (take i out) out (n / 2) (omega (arith, size)) (rw (size, ← zeros) (sym (take-append-drop i out)))))
   where
     size : length (take i out) ≡ i
     size = length-take-le i out (omega arith)

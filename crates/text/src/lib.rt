@@ -59,7 +59,8 @@ pub fn digit(c: u8) -> u8
 fn put_hex(text: &mut [u8], bytes: &[u8])
     requires { ⌜ length (now bytes) ≤ 16 ⌝ }
     requires { ⌜ 2 * length (now bytes) ≤ length (now text) ⌝ }
-    ensures { λ _. ⌜ now (text .exit) ≡ hexText (now (bytes .entry)) ++ drop (2 * length (now (bytes .entry))) (now (text .entry)) ⌝ }
+    ensures { λ _. ⌜ now (text .exit)
+        ≡ hexText (now (bytes .entry)) ++ drop (2 * length (now (bytes .entry))) (now (text .entry)) ⌝ }
 {
     let mut i = 0;
     while i < bytes.len() {

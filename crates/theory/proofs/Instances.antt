@@ -1,5 +1,4 @@
 -- What meets the premises: each theorem with a premise, applied to values that meet it.
--- Assumes nothing.
 use Prim.Native.Nat.{ℕ, _+_, _*_, _≤_, _<_}
 use mathlib.Core.Bool.{true}
 use mathlib.Core.List.{List, [], _∷_, _++_}
@@ -9,16 +8,20 @@ use native.Mathlib.Omega.{arith}
 use lib.ListN.{length, replicate}
 use Rattle.paper.proofs.Words.{Bytes}
 use Rattle.paper.proofs.Chunks.{chunk-least}
-use Rattle.paper.specs.Answers.{ok, answered, answerFrom, answer, sound, spansTooFar, steps, apart, below, eraseAddresses, chunk}
+use Rattle.paper.specs.Answers.{ok, answered, answerFrom, answer, sound, spansTooFar, steps, apart, below}
+use Rattle.paper.specs.Answers.{eraseAddresses, chunk}
 use Rattle.paper.specs.Client as Paper
 use Rattle.paper.specs.Count.{matching, heardOf, honest, All, Distinct, Pods, selects}
 use Rattle.paper.specs.Flash.{infoRequest, transact, inform, erase}
-use Rattle.paper.specs.Frame.{le, number, crcBit, crcByte, crcFrom, check, Frame, whole, frameHead, frameBody, frameBytes, skipped, rightCheck, readSized, readSynced, read, Info}
-use Rattle.paper.specs.Hearing.{Id, Prefix, bit, bitsOf, counting, begins, before, one, unaddressed, garble, frames, alone, hear}
+use Rattle.paper.specs.Frame.{le, number, crcBit, crcByte, crcFrom, check, Frame, whole, frameHead, frameBody}
+use Rattle.paper.specs.Frame.{frameBytes, skipped, rightCheck, readSized, readSynced, read, Info}
+use Rattle.paper.specs.Hearing.{Id, Prefix, bit, bitsOf, counting, begins, before, one, unaddressed, garble, frames}
+use Rattle.paper.specs.Hearing.{repliesHeard, hear}
 use Rattle.paper.specs.Talk.{return, Answered, knows, _>>=_}
 use Rattle.paper.specs.Text.{hexDigit, digit, hexText, unhex, parseUid}
 use Rattle.paper.specs.Walk as Paper-walk
-use Rattle.paper.specs.Walk.{long, ask, isNothing, sameId, isOne, confirmRest, confirm, keep, judge, walk, insert, sort, discover, done, run}
+use Rattle.paper.specs.Walk.{long, ask, isNothing, sameId, isOne, confirmRest, confirm, keep, judge, walk, insert, sort}
+use Rattle.paper.specs.Walk.{discover, done, run}
 use Rattle.theory.specs.ClientMachine as Machine
 use Rattle.theory.specs.ClientMachine.{waiting}
 use Rattle.theory.specs.FlashOrder.{Checked}
@@ -33,7 +36,8 @@ use Rattle.theory.proofs.walk.StatesFit as Walk
 use Rattle.theory.proofs.walk.StatesFit.{step-fits, start-fits}
 use Rattle.theory.proofs.flash.VerifySucceeds.{verdict, verify-only, verify-if}
 use Rattle.theory.proofs.frames.FramesReadBack.{Fits, read-written, written-read, fits-read}
-use Rattle.theory.proofs.frames.RecordsHeard.{hear-reply, hear-ok, hear-unsupported, hear-other, hear-echo, frames-fuel, answer-fuel, answer-reply, answer-echo}
+use Rattle.theory.proofs.frames.RecordsHeard.{hear-reply, hear-ok, hear-unsupported, hear-other, hear-echo}
+use Rattle.theory.proofs.frames.RecordsHeard.{frames-fuel, answer-fuel, answer-reply, answer-echo}
 use Rattle.theory.proofs.flash.EraseAddresses.{addresses-fit, capacity-fits, addresses-below}
 use Rattle.theory.proofs.client.ClientsFit as Keeping
 use Rattle.theory.proofs.client.ClientsFit.{turn-sound, record-fits}
@@ -45,30 +49,78 @@ use Rattle.theory.proofs.walk.IdOrder.{before-total, before-antisym, be
 use Rattle.theory.proofs.talk.UnreadRest.{host-moves}
 use Rattle.theory.proofs.walk.SelectsSent.{Sends, discover-sends, discover-alike}
 use Rattle.theory.proofs.client.MachineIsClient.{SoundTurn, paperOf, toldOf, record-sim}
-use Rattle.theory.proofs.frames.TextReadsBack.{lowerCase, lower, parse-of-written, written-of-parsed, parsed-even, parsed-short, parsed-bytes}
+use Rattle.theory.proofs.frames.TextReadsBack.{lowerCase, lower, parse-of-written, written-of-parsed}
+use Rattle.theory.proofs.frames.TextReadsBack.{parsed-even, parsed-short, parsed-bytes}
 
 -- "Text \"123456789\" has check 29B1."
 pub check-fits-met : check (49 ∷ 50 ∷ 51 ∷ 52 ∷ 53 ∷ 54 ∷ 55 ∷ 56 ∷ 57 ∷ []) < 65536
-check-fits-met = check-fits (49 ∷ 50 ∷ 51 ∷ 52 ∷ 53 ∷ 54 ∷ 55 ∷ 56 ∷ 57 ∷ []) (omega arith, (omega arith, (omega arith, (omega arith, (omega arith, (omega arith, (omega arith, (omega arith, (omega arith, tt)))))))))
+check-fits-met = check-fits (49 ∷ 50 ∷ 51 ∷ 52 ∷ 53 ∷ 54 ∷ 55 ∷ 56 ∷ 57 ∷ []) (
+  omega arith,
+  (
+    omega arith,
+    (
+      omega arith,
+      (omega arith, (omega arith, (omega arith, (omega arith, (omega arith, (omega arith, tt)))))),
+    ),
+  ),
+)
 
 -- A reply to a Select, with its status and its id C1 07; and a request, which is an echo where it is heard.
 abbrev replying : ℕ → Frame
 replying status = record { command = 5; status = status; flags = 0; address = 0; payload = 0xC1 ∷ 0x07 ∷ [] }
 
 replying-fits : (status : ℕ) → status < 256 → Fits (replying status)
-replying-fits status h = record { command = omega arith; status = h; flags = omega arith; address = omega arith; payload = (omega arith, (omega arith, tt)); short = omega arith }
+replying-fits status h = record {
+  command = omega arith;
+  status = h;
+  flags = omega arith;
+  address = omega arith;
+  payload = (omega arith, (omega arith, tt));
+  short = omega arith;
+}
 
 abbrev replied : List ℕ
 replied = 0xA5 ∷ 0x05 ∷ 0x01 ∷ 0x00 ∷ 0x00 ∷ 0x00 ∷ 0x00 ∷ 0x00 ∷ 0x02 ∷ 0x00 ∷ 0xC1 ∷ 0x07 ∷ 0xF8 ∷ 0x10 ∷ []
 
 replied-bytes : Bytes replied
-replied-bytes = (omega arith, (omega arith, (omega arith, (omega arith, (omega arith, (omega arith, (omega arith, (omega arith, (omega arith, (omega arith, (omega arith, (omega arith, (omega arith, (omega arith, tt))))))))))))))
+replied-bytes = (
+  omega arith,
+  (
+    omega arith,
+    (
+      omega arith,
+      (
+        omega arith,
+        (
+          omega arith,
+          (
+            omega arith,
+            (
+              omega arith,
+              (
+                omega arith,
+                (omega arith, (omega arith, (omega arith, (omega arith, (omega arith, (omega arith, tt)))))),
+              ),
+            ),
+          ),
+        ),
+      ),
+    ),
+  ),
+)
 
 abbrev asking : Frame
 asking = record { command = 5; status = 0; flags = 0; address = 0; payload = 0x01 ∷ 0x03 ∷ 0x05 ∷ [] }
 
 asking-fits : Fits asking
-asking-fits = record { command = omega arith; status = omega arith; flags = omega arith; address = omega arith; payload = (omega arith, (omega arith, (omega arith, tt))); short = omega arith }
+asking-fits = record {
+  command = omega arith;
+  status = omega arith;
+  flags = omega arith;
+  address = omega arith;
+  payload = (omega arith, (omega arith, (omega arith, tt)));
+  short = omega arith;
+}
 
 abbrev asked : List ℕ
 asked = 0xA5 ∷ 0x05 ∷ 0x00 ∷ 0x00 ∷ 0x00 ∷ 0x00 ∷ 0x00 ∷ 0x00 ∷ 0x03 ∷ 0x00 ∷ 0x01 ∷ 0x03 ∷ 0x05 ∷ 0xBF ∷ 0x22 ∷ []
@@ -82,7 +134,40 @@ abbrev between : List ℕ
 between = 0x11 ∷ (replied ++ (0x99 ∷ []))
 
 between-bytes : Bytes between
-between-bytes = (omega arith, (omega arith, (omega arith, (omega arith, (omega arith, (omega arith, (omega arith, (omega arith, (omega arith, (omega arith, (omega arith, (omega arith, (omega arith, (omega arith, (omega arith, (omega arith, tt))))))))))))))))
+between-bytes = (
+  omega arith,
+  (
+    omega arith,
+    (
+      omega arith,
+      (
+        omega arith,
+        (
+          omega arith,
+          (
+            omega arith,
+            (
+              omega arith,
+              (
+                omega arith,
+                (
+                  omega arith,
+                  (
+                    omega arith,
+                    (
+                      omega arith,
+                      (omega arith, (omega arith, (omega arith, (omega arith, (omega arith, tt))))),
+                    ),
+                  ),
+                ),
+              ),
+            ),
+          ),
+        ),
+      ),
+    ),
+  ),
+)
 
 between-read : read between ≡ whole 1 (replying 1)
 unfolding read readSynced readSized rightCheck skipped number check crcFrom crcByte crcBit
@@ -94,7 +179,7 @@ fits-read-met = fits-read between between-bytes 1 (replying 1) between-read
 pub written-read-met : between ≡ 0x11 ∷ (frameBytes (replying 1) ++ (0x99 ∷ []))
 written-read-met = written-read between between-bytes 1 (replying 1) between-read
 
-pub hear-reply-met : hear replied ≡ alone (replying 1 ∷ [])
+pub hear-reply-met : hear replied ≡ repliesHeard (replying 1 ∷ [])
 unfolding frameBytes frameBody frameHead le check crcFrom crcByte crcBit
 hear-reply-met = hear-reply (replying 1) (replying-fits 1 (omega arith)) (λ e. absurd (omega arith))
 
@@ -173,7 +258,8 @@ verified = record { reply = ok (0x87 ∷ 0xBD ∷ 0x00 ∷ []); image = 0x10 ∷
 
 pub verify-if-met : verdict device verified ≡ return (knows device)
 unfolding check crcFrom crcByte crcBit number
-verify-if-met = verify-if device verified (record { payload = 0x87 ∷ 0xBD ∷ 0x00 ∷ []; accepted = refl; long = omega arith; right = refl })
+verify-if-met = verify-if device verified
+    (record { payload = 0x87 ∷ 0xBD ∷ 0x00 ∷ []; accepted = refl; long = omega arith; right = refl })
 
 pub verify-only-met : Checked verified
 verify-only-met = verify-only device verified verify-if-met
@@ -240,11 +326,22 @@ record-fits-met = record-fits writing writing-fits image wrote
 
 -- A discovery under C1 that has kept C1 07 and confirms C1 87 by its own child.
 abbrev confirming : State
-confirming = record { pre = bitsOf (0xC1 ∷ []); marks = []; ids = (0xC1 ∷ 0x07 ∷ []) ∷ []; phase = mine (0xC1 ∷ 0x87 ∷ []) }
+confirming = record {
+  pre = bitsOf (0xC1 ∷ []);
+  marks = [];
+  ids = (0xC1 ∷ 0x07 ∷ [])
+      ∷ [];
+  phase = mine (0xC1 ∷ 0x87 ∷ []);
+}
 
 confirming-fits : Walk.Fits confirming
 unfolding bitsOf counting
-confirming-fits = record { depth = omega arith; few = omega arith; short = (omega arith, tt); held = (omega arith, omega arith) }
+confirming-fits = record {
+  depth = omega arith;
+  few = omega arith;
+  short = (omega arith, tt);
+  held = (omega arith, omega arith);
+}
 
 pub step-fits-met : Walk.FitsNext (step confirming (one (0xC1 ∷ 0x87 ∷ [])))
 step-fits-met = step-fits confirming (one (0xC1 ∷ 0x87 ∷ [])) confirming-fits
@@ -270,11 +367,12 @@ pods = record {
   distinct = (((λ e. let same : _≡_ {A = ℕ} 0x87 0x07 = cc in absurd (omega arith)), tt), (tt, tt));
   sized = (refl, (refl, tt));
   bytes = ((omega arith, (omega arith, tt)), ((omega arith, (omega arith, tt)), tt));
-  short = omega arith;
+  within16 = omega arith;
 }
 
 runs : run (honest ids) 0 (discover under) ≡ (done found, 15)
-unfolding discover run honest heardOf matching sort insert before walk judge keep confirm confirmRest isOne isNothing ask long Paper-walk._>>=_ bitsOf counting bit begins sameId
+unfolding discover run honest heardOf matching sort insert before walk judge keep confirm confirmRest isOne isNothing
+    ask long Paper-walk._>>=_ bitsOf counting bit begins sameId
 runs = refl
 
 found-is : sort (matching under ids) ≡ found
@@ -288,7 +386,8 @@ discover-exact-met = rw found-is at (discover-exact (honest ids) ids 2 under (λ
 -- One of the three ids does not match: without it the discovery is the same.
 pub discover-alike-met : run (honest (matching under ids)) 0 (discover under) ≡ run (honest ids) 0 (discover under)
 unfolding honest bitsOf counting
-discover-alike-met = discover-alike (honest (matching under ids)) (honest ids) under (omega arith) (λ k q l e n. ap heardOf (matching-extends under q ids e))
+discover-alike-met = discover-alike (honest (matching under ids)) (honest ids) under (omega arith)
+    (λ k q l e n. ap heardOf (matching-extends under q ids e))
 
 pub discover-sends-met : Sends (λ q. (begins under q ≡ true) × (length q ≤ 128)) (discover under)
 unfolding bitsOf counting
@@ -325,10 +424,12 @@ own-most-met = own-most uneven 3 [] apart-met (omega arith, (omega arith, (omega
 
 -- An erase: the answers to its Info and to its first Erase are heard together, or one after the other.
 abbrev informs : List ℕ
-informs = 0xA5 ∷ 0x00 ∷ 0x01 ∷ 0x00 ∷ 0x00 ∷ 0x00 ∷ 0x00 ∷ 0x00 ∷ 0x12 ∷ 0x00 ∷ 0x06 ∷ 0x00 ∷ 0x00 ∷ 0x00 ∷ 0x04 ∷ 0x00 ∷ 0x03 ∷ 0x00 ∷ 0x07 ∷ 0x00 ∷ 0x01 ∷ 0x02 ∷ 0xFF ∷ 0xFF ∷ 0xFF ∷ 0xFF ∷ 0x04 ∷ 0x00 ∷ 0x78 ∷ 0x99 ∷ []
+informs = 0xA5 ∷ 0x00 ∷ 0x01 ∷ 0x00 ∷ 0x00 ∷ 0x00 ∷ 0x00 ∷ 0x00 ∷ 0x12 ∷ 0x00 ∷ 0x06 ∷ 0x00 ∷ 0x00 ∷ 0x00 ∷ 0x04 ∷ 0x00
+    ∷ 0x03 ∷ 0x00 ∷ 0x07 ∷ 0x00 ∷ 0x01 ∷ 0x02 ∷ 0xFF ∷ 0xFF ∷ 0xFF ∷ 0xFF ∷ 0x04 ∷ 0x00 ∷ 0x78 ∷ 0x99 ∷ []
 
 abbrev told : List ℕ
-told = 0x06 ∷ 0x00 ∷ 0x00 ∷ 0x00 ∷ 0x04 ∷ 0x00 ∷ 0x03 ∷ 0x00 ∷ 0x07 ∷ 0x00 ∷ 0x01 ∷ 0x02 ∷ 0xFF ∷ 0xFF ∷ 0xFF ∷ 0xFF ∷ 0x04 ∷ 0x00 ∷ []
+told = 0x06 ∷ 0x00 ∷ 0x00 ∷ 0x00 ∷ 0x04 ∷ 0x00 ∷ 0x03 ∷ 0x00 ∷ 0x07 ∷ 0x00 ∷ 0x01 ∷ 0x02 ∷ 0xFF ∷ 0xFF ∷ 0xFF ∷ 0xFF
+    ∷ 0x04 ∷ 0x00 ∷ []
 
 abbrev erased : List ℕ
 erased = 0xA5 ∷ 0x01 ∷ 0x01 ∷ 0x00 ∷ 0x00 ∷ 0x00 ∷ 0x00 ∷ 0x00 ∷ 0x00 ∷ 0x00 ∷ 0x80 ∷ 0x52 ∷ []
@@ -339,5 +440,8 @@ hears bytes = record { image = []; buffer = replicate 14 0; heard = bytes }
 pub host-moves-met :
     hostRun (Paper.startErase Paper.fresh .client) [] (hears (informs ++ erased) ∷ hears [] ∷ hears erased ∷ [])
     ≡ hostRun (Paper.startErase Paper.fresh .client) [] (hears informs ∷ hears erased ∷ hears erased ∷ [])
-unfolding Paper.startErase Paper.startWith Paper.proceed Paper.fresh Paper.request Paper.grant Paper.handedOut Paper.bytesOf Paper.payloadOf erase inform transact _>>=_ frameBytes frameBody frameHead le answer answerFrom read readSynced readSized rightCheck skipped number check crcFrom crcByte crcBit
-host-moves-met = host-moves (Paper.startErase Paper.fresh .client) [] [] (replicate 14 0) informs erased infoRequest _ refl (ok told) 30 refl [] (replicate 14 0) [] (hears erased ∷ [])
+unfolding Paper.startErase Paper.startWith Paper.proceed Paper.fresh Paper.request Paper.grant Paper.handedOut
+    Paper.bytesOf Paper.payloadOf erase inform transact _>>=_ frameBytes frameBody frameHead le answer answerFrom read
+    readSynced readSized rightCheck skipped number check crcFrom crcByte crcBit
+host-moves-met = host-moves (Paper.startErase Paper.fresh .client) [] []
+    (replicate 14 0) informs erased infoRequest _ refl (ok told) 30 refl [] (replicate 14 0) [] (hears erased ∷ [])

@@ -1,15 +1,17 @@
--- Document 01's client as a host drives it, over any events: what it answers last, what it hands out, and where its conversation stands.
--- Assumes nothing.
+-- Document 01's client as a host drives it, over any events: what it answers last, what it hands out, and where its
+-- conversation stands.
 use Prim.Native.Nat.{ℕ, _+_, _/_}
 use mathlib.Core.Bool.{Bool, true, false, cond}
 use mathlib.Core.List.{List, [], _∷_, map}
 use mathlib.Core.Option.{Option, none, some}
 use mathlib.Core.Path.{_≡_}
 use lib.ListN.{length, take}
-use Rattle.paper.specs.Client.{idle, ready, Client, Says, refused, granted, closing, onward, over, Told, idAfter, seedAfter, Asked, request, cleared, place, record′, linkFailed}
+use Rattle.paper.specs.Client.{idle, ready, Client, Says, refused, granted, closing, onward, over, Told, idAfter}
+use Rattle.paper.specs.Client.{seedAfter, Asked, request, cleared, place, record′, linkFailed}
 use Rattle.paper.specs.Hearing.{Id, onSome}
-use Rattle.paper.specs.Talk.{Ask, select, demand, leave, Answer, Talk, return, stop, report, ask, Outcome}
-use Rattle.theory.specs.FlashOrder.{Past, Event, heard, failed, Stand, returned, refused, lost, pending, readEvent, carried}
+use Rattle.paper.specs.Talk.{Ask, select, demand, leave, AnswerTo, Talk, return, stop, report, ask, Outcome}
+use Rattle.theory.specs.FlashOrder.{Past, Event, heard, failed, Stand, returned, refused, lost, pending}
+use Rattle.theory.specs.FlashOrder.{readEvent, carried}
 
 -- The image lent with a request, and what happens once that is handed out.
 pub record Round : Type 0 where
@@ -54,13 +56,14 @@ telling buffer r t = tells (asking buffer r t .client) (r .event)
 abbrev pub closes : Asked → Told
 closes a = record { says = a .says; client = a .client; rest = 0 }
 
--- "the host starts an operation, asks for a request, sends it, and hands back the bytes heard, or says that the link failed": from the start's
--- answer on, while the operation goes on and requests are granted.
+-- "the host starts an operation, asks for a request, sends it, and hands back the bytes heard, or says that the link
+-- failed": from the start's answer on, while the operation goes on and requests are granted.
 unfoldable pub driven : List ℕ → List Round → Told → Told
 driven buffer [] t = t
 driven buffer (r ∷ rs) t =
     cond (goesOn (t .says))
-    (onAsked (asking buffer r t .says) (λ k. driven buffer rs (telling buffer r t)) (λ k. closes (asking buffer r t)) (closes (asking buffer r t)))
+    (onAsked (asking buffer r t .says) (λ k. driven buffer rs (telling buffer r t)) (λ k. closes (asking buffer r t))
+    (closes (asking buffer r t)))
     t
 
 -- "A granted request fills its own length of the buffer": the first bytes of it, and what happened then.
@@ -72,7 +75,8 @@ unfoldable pub sends : List ℕ → List Round → Told → List Sent
 sends buffer [] t = []
 sends buffer (r ∷ rs) t =
     cond (goesOn (t .says))
-    (onAsked (asking buffer r t .says) (λ k. sending k (asking buffer r t .buffer) (some (r .event)) ∷ sends buffer rs (telling buffer r t))
+    (onAsked (asking buffer r t .says)
+    (λ k. sending k (asking buffer r t .buffer) (some (r .event)) ∷ sends buffer rs (telling buffer r t))
     (λ k. sending k (asking buffer r t .buffer) none ∷ []) [])
     []
 
@@ -139,9 +143,11 @@ brought (stop n carries) es b = b
 brought (report x y m) es b = brought m es (record { progress = some (x, y); rest = b .rest })
 brought (ask q f) [] b = b
 brought (ask q f) (e ∷ es) b =
-    onSome (readEvent q e) (record { progress = none; rest = restAfter q e }) (λ a. brought (f a) es (record { progress = none; rest = restAfter q e }))
+    onSome (readEvent q e) (record { progress = none; rest = restAfter q e })
+    (λ a. brought (f a) es (record { progress = none; rest = restAfter q e }))
 
--- "otherwise the operation succeeds on handing out the request": a success is said with the latest record, or with the latest request.
+-- "otherwise the operation succeeds on handing out the request": a success is said with the latest record, or with the
+-- latest request.
 abbrev pub successAfter : Ask → Option (ℕ × ℕ) → Outcome → Says
 successAfter (select q) p o = over p o
 successAfter (demand d) p o = over p o
@@ -162,7 +168,7 @@ abbrev pub resting : ℕ → Option Id → Client
 resting seed id = record { seed = seed; id = id; image = none; left = idle }
 
 pub record Ready (n : Option ℕ) (seed : ℕ) (id : Option Id) (q : Ask) (c : Client) : Type 0 where
-  pub then : Answer q → Talk Outcome
+  pub then : AnswerTo q → Talk Outcome
   pub client : c ≡ record { seed = seed; id = id; image = n; left = ready q then }
 
 abbrev pub Leaves : Option ℕ → ℕ → Option Id → Stand Outcome → Client → Type 0
@@ -171,8 +177,10 @@ Leaves n seed id (refused k carries) c = c ≡ resting seed id
 Leaves n seed id (lost q) c = c ≡ resting seed id
 Leaves n seed id (pending q) c = Ready n seed id q c
 
--- A client that began with a seed and an attached id or none stands where its conversation does; images of length n are lent.
-pub record StandsAs (n : Option ℕ) (seed : ℕ) (id : Option Id) (r : Past × Stand Outcome) (b : Brought) (t : Told) : Type 0 where
+-- A client that began with a seed and an attached id or none stands where its conversation does; images of length n are
+-- lent.
+pub record StandsAs (n : Option ℕ) (seed : ℕ) (id : Option Id) (r : Past × Stand Outcome) (b : Brought)
+    (t : Told) : Type 0 where
   pub says : t .says ≡ saidAt r b
   pub rest : t .rest ≡ b .rest
   pub client : Leaves n (seedAt seed r) (idAt id r) (r .1) (t .client)

@@ -1,15 +1,17 @@
 -- The client of the operations' machine: what each call answers and leaves.
--- Assumes nothing.
 use Prim.Native.Nat.{ℕ, _*_, _≤_}
 use mathlib.Core.Bool.{Bool, true, _&&_, cond}
 use mathlib.Core.List.{List, [], _∷_, _++_}
 use mathlib.Core.Option.{Option, none, some}
 use lib.Dec.{leb, ltb}
 use lib.ListN.{length, drop}
-use Rattle.paper.specs.Client.{Says, refused, onward, over, idAfter, short, otherLength, seedAfter, bytesOf, handing, cleared, reading, place}
+use Rattle.paper.specs.Client.{Says, refused, onward, over, idAfter, withinLongest, otherLength, seedAfter, bytesOf}
+use Rattle.paper.specs.Client.{handing, cleared, reading, place}
 use Rattle.paper.specs.Hearing.{Id, bitsOf, longest, onSome}
 use Rattle.theory.specs.OperationMachine as Phases
-use Rattle.theory.specs.OperationMachine.{probing, parting, seeking, walking, Purpose, tell, clear, load, Job, informing, erasing, writing, verifying, resetting, Phase, selecting, demanding, leaving, Then, to, ends, refuses, step, starting}
+use Rattle.theory.specs.OperationMachine.{probing, parting, seeking, walking, Purpose, tell, clear, load, Job}
+use Rattle.theory.specs.OperationMachine.{informing, erasing, writing, verifying, resetting, Phase, selecting}
+use Rattle.theory.specs.OperationMachine.{demanding, leaving, Then, to, ends, refuses, step, starting}
 
 -- P holds of the id, where there is one.
 abbrev pub OfAny : (Id → Type 0) → Option Id → Type 0
@@ -67,7 +69,13 @@ pub record Told : Type 0 where
 
 unfoldable pub settle : Client → Option (ℕ × ℕ) → Then → ℕ → Told
 settle c progress (to ph) at = record { says = onward progress; client = turned c (ready ph); rest = at }
-settle c progress (ends o) at = record { says = over progress o; client = record { seed = c .seed; id = idAfter o (c .id); turn = idle }; rest = at }
+settle c progress (ends o) at =
+    record {
+      says = over progress o;
+      client = record
+          { seed = c .seed; id = idAfter o (c .id); turn = idle };
+      rest = at;
+    }
 settle c progress (refuses n carries) at = record { says = refused n carries; client = turned c idle; rest = at }
 
 -- Refused with no state changed.
@@ -75,19 +83,21 @@ abbrev pub unchanged : Client → ℕ → List ℕ → Told
 unchanged c n carries = record { says = refused n carries; client = c; rest = 0 }
 
 unfoldable pub start : Client → Bool → Phase → Told
-start c good ph = onTurn (c .turn) (cond good (settle c none (to ph) 0) (unchanged c 13 [])) (λ p. unchanged c 21 []) (λ p. unchanged c 21 [])
+start c good ph = onTurn (c .turn) (cond good (settle c none (to ph) 0) (unchanged c 13 [])) (λ p. unchanged c 21 [])
+    (λ p. unchanged c 21 [])
 
 unfoldable pub startSelect : Client → Id → ℕ → Told
-startSelect c bytes bits = start c (short bytes && (leb bits 128 && leb bits (8 * length bytes))) (selecting (probing bytes bits))
+startSelect c bytes bits = start c (withinLongest bytes && (leb bits 128 && leb bits (8 * length bytes)))
+    (selecting (probing bytes bits))
 
 unfoldable pub startDeselect : Client → Told
 startDeselect c = start c true (selecting parting)
 
 unfoldable pub startAttach : Client → Option Id → Told
-startAttach c uid = start c (onSome uid true short) (selecting (seeking uid))
+startAttach c uid = start c (onSome uid true withinLongest) (selecting (seeking uid))
 
 unfoldable pub startDiscover : Client → Id → Told
-startDiscover c bytes = start c (short bytes) (selecting (walking (starting (bitsOf bytes))))
+startDiscover c bytes = start c (withinLongest bytes) (selecting (walking (starting (bitsOf bytes))))
 
 unfoldable pub startInfo : Client → Told
 startInfo c = start c true (demanding (informing tell))
@@ -127,7 +137,12 @@ handedOut (leaving bootloader baud) = idle
 unfoldable pub grant : Client → List ℕ → ℕ → Phase → List ℕ → Asked
 grant c bytes seed ph buffer =
     cond (ltb (length buffer) (length bytes)) (withholds c 16 (length bytes ∷ []) buffer)
-    (record { says = handing (Phases.request ph) (length bytes); client = record { seed = seed; id = c .id; turn = handedOut ph }; buffer = bytes ++ drop (length bytes) buffer })
+    (record {
+      says = handing (Phases.request ph) (length bytes);
+      client = record
+          { seed = seed; id = c .id; turn = handedOut ph };
+      buffer = bytes ++ drop (length bytes) buffer;
+    })
 
 -- "Order: 21, 20, 13, 16".
 unfoldable pub request : Client → List ℕ → List ℕ → Asked
@@ -135,7 +150,8 @@ request c image buffer =
     onTurn (c .turn) (withholds c 21 [] buffer)
     (λ ph.
     cond (otherLength (lends ph) image) (withholds c 20 [] buffer)
-    (grant c (bytesOf (Phases.request ph) (seedAfter (Phases.request ph) (c .seed)) image) (seedAfter (Phases.request ph) (c .seed)) ph buffer))
+    (grant c (bytesOf (Phases.request ph) (seedAfter (Phases.request ph) (c .seed)) image)
+    (seedAfter (Phases.request ph) (c .seed)) ph buffer))
     (λ ph. withholds c 21 [] buffer)
 
 abbrev pub fails : Client → ℕ → Told
@@ -147,7 +163,8 @@ record′ c image bytes =
     (λ ph.
     cond (otherLength (lends ph) image) (unchanged c 20 [])
     (onSome (reading (Phases.request ph) image bytes) (fails c (place (Phases.request ph) bytes))
-    (λ a. settle (record { seed = c .seed; id = cleared (Phases.request ph) (c .id); turn = c .turn }) (step ph a .progress) (step ph a .then) (place (Phases.request ph) bytes))))
+    (λ a. settle (record { seed = c .seed; id = cleared (Phases.request ph) (c .id); turn = c .turn })
+    (step ph a .progress) (step ph a .then) (place (Phases.request ph) bytes))))
 
 unfoldable pub linkFailed : Client → Told
 linkFailed c = onTurn (c .turn) (unchanged c 21 []) (λ ph. unchanged c 21 []) (λ ph. fails c 0)

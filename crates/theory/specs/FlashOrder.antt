@@ -1,5 +1,4 @@
 -- The order of an operation, over any replies: what may be asked after what has been asked and answered.
--- Assumes nothing.
 use Prim.Native.Nat.{ℕ, _+_, _*_, _≤_, _<_}
 use mathlib.Core.Bool.{Bool, true, false, _&&_, cond}
 use mathlib.Core.List.{List, [], _∷_, _++_, map}
@@ -9,15 +8,17 @@ use lib.Dec.{eqb}
 use lib.ListN.{length, take}
 use Rattle.paper.specs.Frame.{field, check, Info, command-Info, command-Erase, command-Write}
 use Rattle.paper.specs.Hearing.{onSome}
-use Rattle.paper.specs.Answers.{Reply, ok, device, informed, steps, tooLarge, incompatible, spansTooFar, eraseAddresses, chunk, padded}
-use Rattle.paper.specs.Talk.{Payload, these, piece, Demand, Ask, select, demand, leave, Answered, Answer, Talk, return, stop, report, ask, Outcome, knows}
+use Rattle.paper.specs.Answers.{Reply, ok, device, informed, steps, tooLarge, incompatible, spansTooFar, eraseAddresses}
+use Rattle.paper.specs.Answers.{chunk, padded}
+use Rattle.paper.specs.Talk.{Payload, these, piece, Demand, Ask, select, demand, leave, Answered, AnswerTo, Talk}
+use Rattle.paper.specs.Talk.{return, stop, report, ask, Outcome, knows}
 use Rattle.paper.specs.Flash.{infoRequest, eraseRequest, writeRequest, verifyRequest}
 use Rattle.paper.specs.Client.{reading}
 
 -- A request and its answer.
 pub record Exchange : Type 0 where
   pub asked : Ask
-  pub answer : Answer asked
+  pub answer : AnswerTo asked
 
 abbrev pub met : Demand → Reply → List ℕ → Exchange
 met d r image = record { asked = demand d; answer = record { reply = r; image = image } }
@@ -31,7 +32,8 @@ pub data Event : Type 0 where
   heard : List ℕ → List ℕ → Event
   failed : Event
 
--- How a conversation stands after some events: it has returned, it was refused, nothing answered its latest request, or a request is next.
+-- How a conversation stands after some events: it has returned, it was refused, nothing answered its latest request, or
+-- a request is next.
 pub data Stand (A : Type 0) : Type 0 where
   returned : A → Stand A
   refused : ℕ → List ℕ → Stand A
@@ -39,12 +41,12 @@ pub data Stand (A : Type 0) : Type 0 where
   pending : Ask → Stand A
 
 -- A link that failed answers nothing; and where no answer is awaited, none is lost.
-unfoldable pub unanswered : (q : Ask) → Option (Answer q)
+unfoldable pub unanswered : (q : Ask) → Option (AnswerTo q)
 unanswered (select p) = none
 unanswered (demand d) = none
 unanswered (leave d) = some tt
 
-unfoldable pub readEvent : (q : Ask) → Event → Option (Answer q)
+unfoldable pub readEvent : (q : Ask) → Event → Option (AnswerTo q)
 readEvent q (heard image bytes) = reading q image bytes
 readEvent q failed = unanswered q
 
@@ -53,7 +55,8 @@ play (return a) es past = (past, returned a)
 play (stop c carries) es past = (past, refused c carries)
 play (report a b m) es past = play m es past
 play (ask q f) [] past = (past, pending q)
-play (ask q f) (e ∷ es) past = onSome (readEvent q e) (past, lost q) (λ a. play (f a) es (record { asked = q; answer = a } ∷ past))
+play (ask q f) (e ∷ es) past =
+    onSome (readEvent q e) (past, lost q) (λ a. play (f a) es (record { asked = q; answer = a } ∷ past))
 
 -- The requests of a past, and with the one that nothing answered or that is next, the latest first.
 abbrev pub asks : Past → List Ask
@@ -73,7 +76,7 @@ unfoldable pub toldBy : Reply → List ℕ → Option (Info × List ℕ)
 toldBy (ok payload) image = onSome (informed payload) none (λ info. some (info, image))
 toldBy (device status) image = none
 
-unfoldable pub toldIn : (q : Ask) → Answer q → Option (Info × List ℕ)
+unfoldable pub toldIn : (q : Ask) → AnswerTo q → Option (Info × List ℕ)
 toldIn (select p) h = none
 toldIn (demand d) a = cond (eqb (d .command) command-Info) (toldBy (a .reply) (a .image)) none
 toldIn (leave d) u = none
@@ -91,7 +94,7 @@ carried (these bytes) = length bytes
 carried (piece offset k) = k
 
 -- The total length of the Writes answered Ok.
-unfoldable pub wroteIn : (q : Ask) → Answer q → ℕ
+unfoldable pub wroteIn : (q : Ask) → AnswerTo q → ℕ
 wroteIn (select p) h = 0
 wroteIn (demand d) a = cond (eqb (d .command) command-Write && isOk (a .reply)) (carried (d .payload)) 0
 wroteIn (leave d) u = 0
@@ -101,7 +104,7 @@ written [] = 0
 written (x ∷ past) = wroteIn (x .asked) (x .answer) + written past
 
 -- The addresses of the Erases answered Ok, the first one first.
-unfoldable pub erasedIn : (q : Ask) → Answer q → List ℕ
+unfoldable pub erasedIn : (q : Ask) → AnswerTo q → List ℕ
 erasedIn (select p) h = []
 erasedIn (demand d) a = cond (eqb (d .command) command-Erase && isOk (a .reply)) (d .address ∷ []) []
 erasedIn (leave d) u = []
@@ -155,12 +158,13 @@ pub record MayWrite (n : ℕ) (past : Past) : Type 0 where
   pub passed : Passed n (told past) info
   pub cleared : erased past ≡ eraseAddresses info
 
--- What a flash of an image of n bytes may demand: the Info, first of all; an Erase; the Write that follows on the bytes taken, where some are left; the
--- Verify.
+-- What a flash of an image of n bytes may demand: the Info, first of all; an Erase; the Write that follows on the bytes
+-- taken, where some are left; the Verify.
 pub data InOrder (n : ℕ) (past : Past) (d : Demand) : Type 0 where
   toInform : past ≡ [] → d ≡ infoRequest → InOrder n past d
   toErase : (may : MayErase n past) → d ≡ eraseRequest (may .info) (d .address) → InOrder n past d
-  toWrite : (may : MayWrite n past) → written past < padded n → d ≡ writeRequest (may .info) n (written past) → InOrder n past d
+  toWrite : (may : MayWrite n past) → written past < padded n → d ≡ writeRequest (may .info) n (written past)
+      → InOrder n past d
   toVerify : MayWrite n past → written past ≡ padded n → d ≡ verifyRequest n → InOrder n past d
 
 abbrev pub Ordered : ℕ → Past → Ask → Type 0
@@ -202,7 +206,7 @@ pub record Checked (a : Answered) : Type 0 where
   pub long : 2 ≤ length payload
   pub right : field 0 2 payload ≡ check (a .image)
 
-abbrev pub VerifiedIn : ℕ → (q : Ask) → Answer q → Type 0
+abbrev pub VerifiedIn : ℕ → (q : Ask) → AnswerTo q → Type 0
 VerifiedIn n (select p) h = ⊥
 VerifiedIn n (demand d) a = (d ≡ verifyRequest n) × Checked a
 VerifiedIn n (leave d) u = ⊥

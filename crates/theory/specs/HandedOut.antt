@@ -1,5 +1,5 @@
--- The order of a flash, read off the bytes that are handed out: each request by document 01's reader, with what happened then.
--- Assumes nothing.
+-- The order of a flash, read off the bytes that are handed out: each request by document 01's reader, with what
+-- happened then.
 use Prim.Native.Nat.{ℕ, _+_}
 use mathlib.Core.Bool.{_&&_, cond}
 use mathlib.Core.List.{List, [], _∷_, _++_}
@@ -24,7 +24,8 @@ answeredBy (some failed) = none
 
 -- What a request and its answer say.
 unfoldable pub said : {A : Type 0} → Sent → A → (Frame → Answered → A) → A
-said s nothing f = onReading (read (s .bytes)) nothing nothing (λ k g. nothing) (λ k g. onSome (answeredBy (s .then)) nothing (f g))
+said s nothing f = onReading (read (s .bytes)) nothing nothing (λ k g. nothing)
+    (λ k g. onSome (answeredBy (s .then)) nothing (f g))
 
 -- The information told first, with the image lent with it.
 unfoldable pub toldIn : Sent → Option (Info × List ℕ)
@@ -83,6 +84,7 @@ pub record FlashOrder (n : ℕ) (handed : List Sent) (says : Says) : Type 0 wher
   -- "no Write before the last Erase is answered".
   pub writes : (before : List Sent) (f : Frame) → Hands handed before f → f .command ≡ command-Write → Cleared n before
   -- "each Write's address is the total length of Writes answered Ok so far".
-  pub addresses : (before : List Sent) (f : Frame) → Hands handed before f → f .command ≡ command-Write → f .address ≡ written before
+  pub addresses : (before : List Sent) (f : Frame) → Hands handed before f → f .command ≡ command-Write
+      → f .address ≡ written before
   -- "and on success that total is the padded length".
   pub total : (p : Option (ℕ × ℕ)) (info : Info) → says ≡ over p (knows info) → written handed ≡ padded n

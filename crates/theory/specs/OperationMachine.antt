@@ -1,22 +1,25 @@
--- The operations as a machine: a phase for each request that can be out, its request, and the step that it takes on the answer.
--- Assumes nothing.
+-- The operations as a machine: a phase for each request that can be out, its request, and the step that it takes on the
+-- answer.
 use Prim.Native.Nat.{ℕ, suc, _+_, _-_, _/_}
 use mathlib.Core.Bool.{Bool, cond}
 use mathlib.Core.List.{List, [], _∷_}
 use mathlib.Core.Option.{Option, none, some}
 use lib.Dec.{leb, ltb, eqb}
 use lib.ListN.{length, take}
-use Rattle.paper.specs.Answers.{Reply, ok, device, informed, steps, spansTooFar, eraseProgress, tooLarge, reported, incompatible, chunk, padded}
+use Rattle.paper.specs.Answers.{Reply, ok, device, informed, steps, spansTooFar, eraseProgress, tooLarge, reported}
+use Rattle.paper.specs.Answers.{incompatible, chunk, padded}
 use Rattle.paper.specs.Attach.{prefixOf}
 use Rattle.paper.specs.Flash.{infoRequest, eraseRequest, writeRequest, verifyRequest, resetRequest, keys}
 use Rattle.paper.specs.Frame.{field, check, Info, status-CrcMismatch}
 use Rattle.paper.specs.Hearing.{Id, Prefix, bitsOf, onSome, Heard, nothing, one, unaddressed, garble}
-use Rattle.paper.specs.Talk.{Demand, Ask, select, demand, leave, Answer, Outcome, quiet, heard, attached, found, knows}
+use Rattle.paper.specs.Talk.{Demand, Ask, select, demand, leave, AnswerTo, Outcome, quiet, heard, attached, found}
+use Rattle.paper.specs.Talk.{knows}
 use Rattle.paper.specs.Walk.{long, nobody, done, stopped}
 use Rattle.theory.specs.WalkMachine as Machine
 use Rattle.theory.specs.WalkMachine.{State, asked, going, ended}
 
--- A plain select of the first so many bits of some bytes; a deselect; an attach that asks, and one that deselects; a discovery.
+-- A plain select of the first so many bits of some bytes; a deselect; an attach that asks, and one that deselects; a
+-- discovery.
 pub data Search : Type 0 where
   probing : Id → ℕ → Search
   parting : Search
@@ -30,8 +33,8 @@ pub data Purpose : Type 0 where
   clear : Purpose
   load : ℕ → Purpose
 
--- What a request with one answer is for. An Erase has its address; a Write the image's length, its offset, and how often it was repeated; a
--- Reset whether it is into the bootloader, and the baud to store or none.
+-- What a request with one answer is for. An Erase has its address; a Write the image's length, its offset, and how
+-- often it was repeated; a Reset whether it is into the bootloader, and the baud to store or none.
 pub data Job : Type 0 where
   informing : Purpose → Job
   erasing : Purpose → Info → ℕ → Job
@@ -135,7 +138,8 @@ cleared (load n) info = writes n info
 unfoldable pub erased : Purpose → Info → ℕ → Next
 erased why info address = record {
   progress = some (eraseProgress info address, info .capacity);
-  then = cond (ltb (address + info .eraseSize) (info .capacity)) (working (erasing why info (address + info .eraseSize))) (cleared why info);
+  then = cond (ltb (address + info .eraseSize) (info .capacity))
+      (working (erasing why info (address + info .eraseSize))) (cleared why info);
 }
 
 unfoldable pub wrote : ℕ → Info → ℕ → Next
@@ -152,11 +156,13 @@ repeated n info offset retries = cond (ltb retries 16) (working (writing n info 
 unfoldable pub verified : Info → List ℕ → List ℕ → Then
 verified info payload image =
     cond (ltb (length payload) 2) (refuses 18 [])
-    (cond (eqb (check image) (field 0 2 payload)) (ends (knows info)) (refuses 4 (check image ∷ field 0 2 payload ∷ [])))
+    (cond (eqb (check image) (field 0 2 payload)) (ends (knows info))
+    (refuses 4 (check image ∷ field 0 2 payload ∷ [])))
 
 -- An answer of status Ok with a payload, and the image lent with it.
 unfoldable pub accepted : Job → List ℕ → List ℕ → Next
-accepted (informing why) payload image = quietly (onSome (informed payload) (refuses 5 []) (λ info. prepared why info image))
+accepted (informing why) payload image =
+    quietly (onSome (informed payload) (refuses 5 []) (λ info. prepared why info image))
 accepted (erasing why info address) payload image = erased why info address
 accepted (writing n info offset retries) payload image = wrote n info offset
 accepted (verifying n info) payload image = quietly (verified info payload image)
@@ -169,7 +175,8 @@ declines status = refuses 2 (status ∷ [])
 unfoldable pub declined : Job → ℕ → Then
 declined (informing why) status = declines status
 declined (erasing why info address) status = declines status
-declined (writing n info offset retries) status = cond (eqb status status-CrcMismatch) (repeated n info offset retries) (declines status)
+declined (writing n info offset retries) status =
+    cond (eqb status status-CrcMismatch) (repeated n info offset retries) (declines status)
 declined (verifying n info) status = declines status
 declined (resetting bootloader baud) status = declines status
 
@@ -177,7 +184,7 @@ unfoldable pub told : Job → Reply → List ℕ → Next
 told j (ok payload) image = accepted j payload image
 told j (device status) image = quietly (declined j status)
 
-unfoldable pub step : (ph : Phase) → Answer (request ph) → Next
+unfoldable pub step : (ph : Phase) → AnswerTo (request ph) → Next
 step (selecting s) h = quietly (hears s h)
 step (demanding j) a = told j (a .reply) (a .image)
 step (leaving bootloader baud) handed = quietly (ends quiet)

@@ -1,12 +1,11 @@
 -- Ids of which none begins another, each with its own length, the Selects that they take; and ids in order.
--- Assumes nothing.
 use Prim.Native.Nat.{ℕ, _+_, _-_, _*_, _≤_}
 use mathlib.Core.Bool.{true, false}
 use mathlib.Core.List.{List, [], _∷_}
 use mathlib.Core.Path.{_≡_}
 use lib.ListN.{length}
 use Rattle.paper.specs.Hearing.{Id, Prefix, bitsOf, matches, before}
-use Rattle.paper.specs.Count.{matching, All, sumOver, sumUnder, alone, forked}
+use Rattle.paper.specs.Count.{matching, All, sumOver, sumUnder, aloneUnder, forked}
 
 -- The bits of neither id begin the other's.
 abbrev pub Unlike : Id → Id → Type 0
@@ -24,12 +23,13 @@ pub record Apart (ids : List Id) : Type 0 where
 
 -- As `alone` of the paper, with the id's own number of bits.
 abbrev pub ownAlone : List Id → ℕ → Id → ℕ
-ownAlone ids p x = alone ids p (8 * length x) x
+ownAlone ids p x = aloneUnder ids p (8 * length x) x
 
 -- As `selects` of the paper, with each id's own length.
 unfoldable pub ownSelects : List Id → Prefix → ℕ
 ownSelects ids prefix =
-    2 + (sumOver (ownAlone ids (length prefix)) (matching prefix ids) + sumUnder (129 - length prefix) prefix (forked ids))
+    2 + (sumOver (ownAlone ids (length prefix)) (matching prefix ids) + sumUnder (129 - length prefix) prefix
+    (forked ids))
 
 -- Each id stands before all that follow it.
 abbrev pub Sorted : List Id → Type 0

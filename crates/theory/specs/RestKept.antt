@@ -1,5 +1,4 @@
 -- A host that keeps the unread rest of each record and puts it before the bytes that it hears next.
--- Assumes nothing.
 use Prim.Native.Nat.{ℕ}
 use mathlib.Core.List.{List, [], _∷_, _++_}
 use lib.ListN.{drop}

@@ -1,5 +1,5 @@
--- The same discovery as a machine: a state between two Selects, the prefix that it asks next, and the step that it takes on what is heard.
--- Assumes nothing.
+-- The same discovery as a machine: a state between two Selects, the prefix that it asks next, and the step that it
+-- takes on what is heard.
 use Prim.Native.Nat.{ℕ, zero, suc}
 use mathlib.Core.Bool.{Bool, true, false, _&&_, not, cond}
 use mathlib.Core.List.{List, [], _∷_, _++_}
@@ -8,7 +8,8 @@ use lib.Dec.{ltb}
 use Rattle.paper.specs.Hearing.{Id, Prefix, bitsOf, matches, Heard, nothing, one, unaddressed, garble}
 use Rattle.paper.specs.Walk.{_▹_, long, isNothing, isOne, sort, Ended, done, stopped, Wire, nobody}
 
--- A mark for each level below the given prefix, the last level first: false in the zero child, whose one child is yet to be asked; true in the one child.
+-- A mark for each level below the given prefix, the last level first: false in the zero child, whose one child is yet
+-- to be asked; true in the one child.
 abbrev pub Marks : Type 0
 Marks = List Bool
 
@@ -17,7 +18,8 @@ abbrev pub path : Prefix → Marks → Prefix
 path pre [] = pre
 path pre (b ∷ marks) = path pre marks ▹ b
 
--- What the Select that is out is for: to hear the path; to confirm an id by its own child, then by the other one, told whether the first was good; the deselect.
+-- What the Select that is out is for: to hear the path; to confirm an id by its own child, then by the other one, told
+-- whether the first was good; the deselect.
 pub data Phase : Type 0 where
   asked : Phase
   mine : Id → Phase
@@ -80,7 +82,8 @@ module _ (pre : Prefix) where
 
   unfoldable pub hears : Marks → List Id → Heard → Next
   hears marks ids nothing = silent marks ids
-  hears marks ids (one id) = cond (matches (path pre marks) id) (confirming marks ids id (drop (length (path pre marks)) (bitsOf id))) (descend marks ids)
+  hears marks ids (one id) = cond (matches (path pre marks) id)
+      (confirming marks ids id (drop (length (path pre marks)) (bitsOf id))) (descend marks ids)
   hears marks ids unaddressed = ended (stopped 23)
   hears marks ids garble = descend marks ids
 

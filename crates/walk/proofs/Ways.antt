@@ -1,5 +1,4 @@
 -- The ways through the moves of the walk and through what is asked, from the facts that the code has.
--- Assumes nothing.
 use Prim.Native.Nat.{ℕ, zero, suc, _+_, _-_, _*_, _<_, _≤_}
 use mathlib.Core.Bool.{Bool, true, false, not, cond}
 use mathlib.Core.List.{List, _∷_}
@@ -18,16 +17,19 @@ use Rattle.walk.specs.declared.Place.{Place}
 use Rattle.walk.specs.declared.Phase.{Phase}
 use Rattle.walk.specs.declared.Phase.the-variants.{Asked, Mine, Other, Leaving}
 use Rattle.walk.specs.declared.Ask.{Ask}
-use Rattle.walk.specs.Moves.{walkOf, noWalk, begin, markAt, mark, lower, raise, turn, climb, nobody, child, nextBit, asks}
+use Rattle.walk.specs.Moves.{walkOf, noWalk, begin, markAt, mark, lower, raise, turn, climb, nobody, child}
+use Rattle.walk.specs.Moves.{nextBit, asks}
 
-pub no-place-is : (x : Id) → x ≡ noId → walkOf (record { path = replicate 16 0; depth = 0; marks = replicate 128 0; candidate = x }) noTable ≡ noWalk
+pub no-place-is : (x : Id) → x ≡ noId
+    → walkOf (record { path = replicate 16 0; depth = 0; marks = replicate 128 0; candidate = x }) noTable ≡ noWalk
 unfolding noWalk
 no-place-is x f = rw f
 
 pub begin-is : (p : Place) (x : Id) (n : ℕ) → walkOf p noTable ≡ noWalk → n ≡ length (idOf x)
     → walkOf (record { path = x .bytes; depth = 8 * n; marks = p .marks; candidate = p .candidate }) noTable ≡ begin x
 unfolding begin
-begin-is p x n e f = rw f (ap (λ (w : Walk). record { path = x .bytes; depth = 8 * length (idOf x); marks = w .marks; found = w .found; candidate = w .candidate }) e)
+begin-is p x n e f = rw f (ap (λ (w : Walk). record
+    { path = x .bytes; depth = 8 * length (idOf x); marks = w .marks; found = w .found; candidate = w .candidate }) e)
 
 -- A walk under no prefix is none.
 pub begin-none : begin noId ≡ noWalk
@@ -53,14 +55,16 @@ abbrev pub at : List ℕ → ℕ → List ℕ → Id → Table → Walk
 at path d marks x t = record { path = path; depth = d; marks = marks; found = t; candidate = x }
 
 module _ (path marks : List ℕ) (d m : ℕ) (x : Id) (em : m ≡ markAt marks d) where
-  pub climb-on : (s : Place) (q : List ℕ) → ((t : Table) → climb d (at path d marks x t) ≡ climb (s .depth) (walkOf s t)) → m ≡ 2 → q ≡ cut path (d - 1)
+  pub climb-on : (s : Place) (q : List ℕ)
+      → ((t : Table) → climb d (at path d marks x t) ≡ climb (s .depth) (walkOf s t)) → m ≡ 2 → q ≡ cut path (d - 1)
       → (t : Table) → climb (d - 1) (at q (d - 1) (set marks (d - 1) 0) x t) ≡ climb (s .depth) (walkOf s t)
   unfolding climb raise mark
   climb-on s q go f e t =
       let h : 0 < d = deep marks d m 2 em f (omega arith) in
       let z : d ≡ suc (d - 1) = omega arith in
       rw e (
-      ap (λ (b : Bool). cond b (climb (d - 1) (raise (at path d marks x t))) (at path d marks x t)) (sym (eq-eqb (markAt marks d) 2 (sym em ∙ f)))
+      ap (λ (b : Bool). cond b (climb (d - 1) (raise (at path d marks x t))) (at path d marks x t))
+      (sym (eq-eqb (markAt marks d) 2 (sym em ∙ f)))
       ∙ ap (λ (n : ℕ). climb n (at path d marks x t)) (sym z)
       ∙ go t
       )
@@ -73,7 +77,8 @@ module _ (path marks : List ℕ) (d m : ℕ) (x : Id) (em : m ≡ markAt marks d
   stay zero t f = refl
   stay (suc n) t f = rw (← em, ne-eqb m 2 f)
 
-  pub climb-end : (s : Place) → ((t : Table) → climb d (at path d marks x t) ≡ climb (s .depth) (walkOf s t)) → (m ≡ 2 → ⊥) → (t : Table) → at path d marks x t ≡ climb (s .depth) (walkOf s t)
+  pub climb-end : (s : Place) → ((t : Table) → climb d (at path d marks x t) ≡ climb (s .depth) (walkOf s t))
+      → (m ≡ 2 → ⊥) → (t : Table) → at path d marks x t ≡ climb (s .depth) (walkOf s t)
   climb-end s go f t = sym (stay d t f) ∙ go t
 
 module _ (p : Place) where
@@ -81,24 +86,37 @@ module _ (p : Place) where
   unfolding mark
   mark-is m e t = e
 
-  pub lower-is : (t : Table) → walkOf (record { path = p .path; depth = p .depth + 1; marks = set (p .marks) (p .depth) 1; candidate = p .candidate }) t ≡ lower (walkOf p t)
+  pub lower-is : (t : Table) → walkOf
+      (record { path = p .path; depth = p .depth + 1; marks = set (p .marks) (p .depth) 1; candidate = p .candidate })
+      t ≡ lower (walkOf p t)
   unfolding lower
   lower-is t = refl
 
-  pub turn-is : (q : List ℕ) → q ≡ setBit (p .path) (p .depth - 1) → (t : Table) → walkOf (record { path = q; depth = p .depth; marks = set (p .marks) (p .depth - 1) 2; candidate = p .candidate }) t ≡ turn (walkOf p t)
+  pub turn-is : (q : List ℕ) → q ≡ setBit (p .path) (p .depth - 1) → (t : Table)
+      → walkOf (record {
+        path = q;
+        depth = p .depth;
+        marks = set (p .marks)
+            (p .depth - 1) 2;
+        candidate = p .candidate;
+      }) t ≡ turn (walkOf p t)
   unfolding turn
   turn-is q e t = rw e
 
   module _ (b : Bool) where
-    pub child-zero : not b ≡ true → (t : Table) → _≡_ {A = Ask} (record { bits = p .path; count = p .depth + 1 }) (child (walkOf p t) b)
+    pub child-zero : not b ≡ true → (t : Table)
+        → _≡_ {A = Ask} (record { bits = p .path; count = p .depth + 1 }) (child (walkOf p t) b)
     unfolding child
     child-zero e t = rw (not-true b e)
 
-    pub child-over : length (p .path) ≡ 16 → not b ≡ false → 128 ≤ p .depth → (t : Table) → _≡_ {A = Ask} (record { bits = p .path; count = p .depth + 1 }) (child (walkOf p t) b)
+    pub child-over : length (p .path) ≡ 16 → not b ≡ false → 128 ≤ p .depth → (t : Table)
+        → _≡_ {A = Ask} (record { bits = p .path; count = p .depth + 1 }) (child (walkOf p t) b)
     unfolding child setBit
-    child-over l e h t = rw (not-false b e) (ap (λ (q : List ℕ). record { bits = q; count = p .depth + 1 }) (sym (set-out (p .path) _ _ (omega arith))))
+    child-over l e h t = rw (not-false b e)
+        (ap (λ (q : List ℕ). record { bits = q; count = p .depth + 1 }) (sym (set-out (p .path) _ _ (omega arith))))
 
-    pub child-one : (q : List ℕ) → not b ≡ false → q ≡ setBit (p .path) (p .depth) → (t : Table) → _≡_ {A = Ask} (record { bits = q; count = p .depth + 1 }) (child (walkOf p t) b)
+    pub child-one : (q : List ℕ) → not b ≡ false → q ≡ setBit (p .path) (p .depth) → (t : Table)
+        → _≡_ {A = Ask} (record { bits = q; count = p .depth + 1 }) (child (walkOf p t) b)
     unfolding child
     child-one q e f t = rw (f, not-false b e)
 
@@ -108,15 +126,18 @@ module _ (p : Place) where
     asks-deep r h e t = e ∙ rw (lt-leb (p .depth) 128 h)
 
     module _ (d : p .depth ≤ 128) where
-      pub asks-path : s ≡ Asked → (t : Table) → _≡_ {A = Ask} (record { bits = p .path; count = p .depth }) (asks (walkOf p t) s)
+      pub asks-path : s ≡ Asked → (t : Table)
+          → _≡_ {A = Ask} (record { bits = p .path; count = p .depth }) (asks (walkOf p t) s)
       unfolding asks
       asks-path e t = rw (le-leb (p .depth) 128 d, e)
 
-      pub asks-mine : (b : Bool) (r : Ask) → s ≡ Mine → b ≡ nextBit (walkOf p noTable) → ((t : Table) → r ≡ child (walkOf p t) b) → (t : Table) → r ≡ asks (walkOf p t) s
+      pub asks-mine : (b : Bool) (r : Ask) → s ≡ Mine → b ≡ nextBit (walkOf p noTable)
+          → ((t : Table) → r ≡ child (walkOf p t) b) → (t : Table) → r ≡ asks (walkOf p t) s
       unfolding asks
       asks-mine b r ep eb e t = e t ∙ rw (le-leb (p .depth) 128 d, ep, eb)
 
-      pub asks-other : (good b : Bool) (r : Ask) → s ≡ Other good → b ≡ nextBit (walkOf p noTable) → ((t : Table) → r ≡ child (walkOf p t) (not b)) → (t : Table) → r ≡ asks (walkOf p t) s
+      pub asks-other : (good b : Bool) (r : Ask) → s ≡ Other good → b ≡ nextBit (walkOf p noTable)
+          → ((t : Table) → r ≡ child (walkOf p t) (not b)) → (t : Table) → r ≡ asks (walkOf p t) s
       unfolding asks
       asks-other good b r ep eb e t = e t ∙ rw (le-leb (p .depth) 128 d, ep, eb)
 

@@ -1,5 +1,4 @@
 -- The walk's record: the moves on it, and what the next Select asks for.
--- Assumes nothing.
 use Prim.Native.Nat.{ℕ, zero, suc, _+_, _-_, _*_}
 use mathlib.Core.Bool.{Bool, false, not, cond}
 use mathlib.Core.List.{List, _∷_}
@@ -33,7 +32,8 @@ walkOf p t = record { path = p .path; depth = p .depth; marks = p .marks; found 
 
 -- A record with some fields anew, all else as it was.
 abbrev pub standing : Walk → List ℕ → ℕ → List ℕ → Walk
-standing w path depth marks = record { path = path; depth = depth; marks = marks; found = w .found; candidate = w .candidate }
+standing w path depth marks = record
+    { path = path; depth = depth; marks = marks; found = w .found; candidate = w .candidate }
 
 abbrev pub finding : Walk → Table → Walk
 finding w t = record { path = w .path; depth = w .depth; marks = w .marks; found = t; candidate = w .candidate }

@@ -1,4 +1,5 @@
-// The walk's record on its fixed arrays, its place (all of it but the list): the moves, and what the next Select asks for.
+// The walk's record on its fixed arrays, its place (all of it but the list): the moves, and what the next Select asks
+// for.
 use ids::Id;
 use walk_table::Table;
 ghost use mathlib.Core.Path.{_≡_};
@@ -6,7 +7,8 @@ ghost use Prim.Native.Nat.{_≤_, _<_};
 ghost use lib.ListN.{length};
 ghost use Rattle.walk_table.specs.declared.Table.{Table};
 ghost use Rattle.walk_table.specs.Rows.{noTable};
-ghost use Rattle.walk.specs.Moves.{placeOf, walkOf, noWalk, begin, markAt, mark, lower, turn, climb, holding, nobody, child, asks};
+ghost use Rattle.walk.specs.Moves.{placeOf, walkOf, noWalk, begin, markAt, mark, lower, turn, climb, holding};
+ghost use Rattle.walk.specs.Moves.{nobody, child, asks};
 
 pub struct Walk {
     pub path: [u8; 16],

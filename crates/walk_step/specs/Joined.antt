@@ -1,5 +1,4 @@
 -- What a step that was decided without the list makes of a walk with a list.
--- Assumes nothing.
 use Rattle.walk_table.specs.declared.Table.{Table}
 use Rattle.walk_table.specs.Rows.{keeping, giving}
 use Rattle.walk.specs.declared.Phase.{Phase}

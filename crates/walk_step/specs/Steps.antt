@@ -1,5 +1,4 @@
 -- The walk's step on its record, named as the machine's step is.
--- Assumes nothing.
 use Prim.Native.Nat.{ℕ, _*_}
 use mathlib.Core.Bool.{Bool, true, false, _&&_, cond}
 use lib.ListN.{length, take}
@@ -18,7 +17,8 @@ use Rattle.walk.specs.Moves.{onPhase, finding, holding, noWalk, mark, lower, tu
 use Rattle.walk_step.specs.declared.End.{End}
 use Rattle.walk_step.specs.declared.End.the-variants.{DuplicateUid, LongId, TableFull, Unaddressed}
 
--- What becomes of a walk: it goes on to what its next Select is for, is done, or ends before its time; and its record then.
+-- What becomes of a walk: it goes on to what its next Select is for, is done, or ends before its time; and its record
+-- then.
 pub data Goes : Type 0 where
   On : Phase → Goes
   Done : Goes

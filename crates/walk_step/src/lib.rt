@@ -2,9 +2,9 @@
 // The list is not looked at: how many ids it holds is all that a step asks of it.
 use hearing::Heard;
 use ids::Id;
-use walk_table::Entry;
 use walk::Phase;
 use walk::Place;
+use walk_table::Entry;
 ghost use mathlib.Core.Path.{_≡_};
 ghost use mathlib.Core.Bool.{false};
 ghost use Prim.Native.Nat.{_≤_};
@@ -12,7 +12,8 @@ ghost use Rattle.hearing.specs.Heard.{onHeard};
 ghost use Rattle.walk_table.specs.declared.Table.{Table};
 ghost use Rattle.walk.specs.declared.Phase.the-variants.{Other};
 ghost use Rattle.walk.specs.Moves.{walkOf};
-ghost use Rattle.walk_step.specs.Steps.{going, stopped, descend, leave, silent, kept, confirming, hears, mine, other, long, settled, tell, step};
+ghost use Rattle.walk_step.specs.Steps.{going, stopped, descend, leave, silent, kept, confirming, hears, mine};
+ghost use Rattle.walk_step.specs.Steps.{other, long, settled, tell, step};
 ghost use Rattle.walk_step.specs.Joined.{joined};
 
 // How a walk ends before its time: document 01's 12, 14 and 15, and its outcome 23.
@@ -195,7 +196,8 @@ fn going_other(p: Place, good: bool) -> Move
     })
 }
 
-// Whether the candidate holds by what was heard in a child: by the first if nothing was, by the second if one was, else by neither.
+// Whether the candidate holds by what was heard in a child: by the first if nothing was, by the second if one was, else
+// by neither.
 fn holds(h: Heard, nothing: bool, one: bool) -> bool
     ensures { λ r. ⌜ r ≡ onHeard h nothing one false false false ⌝ }
 {

@@ -1,5 +1,7 @@
-// What both sides of the wire share: document 01's numbers, little-endian numbers in slices, bytes copied and filled, a writer's answer.
+// What both sides of the wire share: document 01's numbers, little-endian numbers in slices, bytes copied and filled, a
+// writer's answer.
 pub mod arrays;
+
 ghost use mathlib.Core.Path.{_≡_};
 ghost use mathlib.Core.List.{[], _∷_, _++_};
 ghost use Prim.Native.Nat.{_+_, _≤_, _<_};
@@ -35,7 +37,8 @@ pub const BOOTLOADER: u8 = 1;
 
 pub const BAUD: u8 = 2;
 
-// What a writer answers: the bytes written at the buffer's front; the length that the buffer lacks; that no buffer would do.
+// What a writer answers: the bytes written at the buffer's front; the length that the buffer lacks; that no buffer
+// would do.
 pub enum Written {
     Done(usize),
     Short(usize),
@@ -131,7 +134,8 @@ pub fn put64(buf: &mut [u8], at: usize, x: u64)
 // src at a place of dst.
 pub fn paste(dst: &mut [u8], at: usize, src: &[u8])
     requires { ⌜ at + length (now src) ≤ length (now dst) ⌝ }
-    ensures { λ _. ⌜ now (dst .exit) ≡ take at (now (dst .entry)) ++ now (src .entry) ++ drop (at + length (now (src .entry))) (now (dst .entry)) ⌝ }
+    ensures { λ _. ⌜ now (dst .exit)
+        ≡ take at (now (dst .entry)) ++ now (src .entry) ++ drop (at + length (now (src .entry))) (now (dst .entry)) ⌝ }
 {
     copy(&mut dst[at..], src);
 }

@@ -1,5 +1,4 @@
 -- `bench_log::main` meets its contract.
--- Assumes nothing.
 use Rattle.bench_log.proofs.Ways.{report-fits}
 use mathlib.Core.Path.{sym}
 use lib.Seq.{length-take-le}

@@ -1,5 +1,4 @@
 -- `bench_log::pump` meets its contract.
--- Assumes nothing.
 use Rattle.log_feed.proofs.Reach.{nothing-fed, one-fed}
 use borrow.Author.Needs.{needs}
 use Rattle.bench_log.proofs.pump.Statement.{statement}

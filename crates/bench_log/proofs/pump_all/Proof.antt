@@ -1,5 +1,4 @@
 -- `bench_log::pump_all` meets its contract.
--- Assumes nothing.
 use borrow.Author.Needs.{needs}
 use mathlib.Core.Path.{_≡_}
 use lib.ListN.{length}
@@ -10,7 +9,9 @@ use Rattle.bench_log.proofs.pump_all.Statement.{statement}
 use Rattle.bench_log.proofs.pump_all.Tie as tie
 
 abbrev Inv-loop : tie.InvT-loop
-Inv-loop page₀ buf₀ log₀ turns₀ page buf log turns = (length page ≡ length page₀) × (length buf ≡ length buf₀) × Reached (record { log = begun; bytes = buf₀ }) (record { log = log; bytes = buf })
+Inv-loop page₀ buf₀ log₀ turns₀ page buf log turns =
+    (length page ≡ length page₀) × (length buf ≡ length buf₀)
+    × Reached (record { log = begun; bytes = buf₀ }) (record { log = log; bytes = buf })
 
 abbrev μ-loop : tie.MeasureT-loop
 μ-loop page₀ buf₀ log₀ turns₀ page buf log turns = turns

@@ -1,5 +1,4 @@
 -- `bench_log::report` meets its contract.
--- Assumes nothing.
 use Rattle.bench_log.proofs.Ways.{reported}
 use borrow.Author.Needs.{needs}
 use Rattle.bench_log.proofs.report.Statement.{statement}

@@ -1,5 +1,4 @@
 -- `client::changes_no_state` meets its contract.
--- Assumes nothing.
 use borrow.Author.Needs.{needs}
 use Rattle.client.proofs.Ways.{changes-none, last-number}
 use Rattle.client.proofs.changes_no_state.Statement.{statement}

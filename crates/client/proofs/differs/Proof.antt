@@ -1,5 +1,4 @@
 -- `client::differs` meets its contract.
--- Assumes nothing.
 use Rattle.client.proofs.Ways.{differs-load}
 use Rattle.client.specs.Clients.{differs}
 use borrow.Author.Needs.{needs}

@@ -1,5 +1,4 @@
 -- `client::no_walk` meets its contract.
--- Assumes nothing.
 use Rattle.client.proofs.Ways.{no-walk-is}
 use borrow.Author.Needs.{needs}
 use Rattle.client.proofs.no_walk.Statement.{statement}

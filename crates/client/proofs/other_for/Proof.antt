@@ -1,5 +1,4 @@
 -- `client::other_for` meets its contract.
--- Assumes nothing.
 use Rattle.client.proofs.Ways.{other-informing, other-erasing, other-writing, other-verifying}
 use Rattle.client.specs.Clients.{otherFor}
 use borrow.Author.Needs.{needs}

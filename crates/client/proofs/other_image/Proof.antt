@@ -1,5 +1,4 @@
 -- `client::other_image` meets its contract.
--- Assumes nothing.
 use Rattle.client.proofs.Ways.{other-demand}
 use Rattle.client.specs.Clients.{otherImage}
 use borrow.Author.Needs.{needs}

@@ -1,5 +1,4 @@
 -- `client::running` meets its contract.
--- Assumes nothing.
 use Rattle.client.proofs.Ways.{not-running, ready-runs, waiting-runs}
 use borrow.Author.Needs.{needs}
 use Rattle.client.proofs.running.Statement.{statement}

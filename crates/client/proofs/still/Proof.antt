@@ -1,5 +1,4 @@
 -- `client::still` meets its contract.
--- Assumes nothing.
 use Rattle.client.proofs.Ways.{still-is}
 use borrow.Author.Needs.{needs}
 use Rattle.client.proofs.still.Statement.{statement}

@@ -1,5 +1,4 @@
 -- `client_demand::reset_flags` meets its contract.
--- Assumes nothing.
 use Rattle.client_demand.proofs.Ways.{flags-fit, flags-sum}
 use borrow.Author.Needs.{needs}
 use Rattle.client_demand.proofs.reset_flags.Statement.{statement}

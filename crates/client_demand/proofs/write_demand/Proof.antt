@@ -1,5 +1,4 @@
 -- `client_demand::write_demand` meets its contract.
--- Assumes nothing.
 use Rattle.client_demand.proofs.Ways.{demand-info, demand-erase, demand-write, demand-verify, demand-reset}
 use borrow.Author.Needs.{needs}
 use Rattle.client_demand.proofs.write_demand.Statement.{statement}

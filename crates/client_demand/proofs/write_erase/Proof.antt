@@ -1,5 +1,4 @@
 -- `client_demand::write_erase` meets its contract.
--- Assumes nothing.
 use Rattle.client_demand.proofs.Ways.{sent-erase}
 use borrow.Author.Needs.{needs}
 use Rattle.client_demand.proofs.write_erase.Statement.{statement}

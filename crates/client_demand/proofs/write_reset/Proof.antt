@@ -1,5 +1,4 @@
 -- `client_demand::write_reset` meets its contract.
--- Assumes nothing.
 use Rattle.client_demand.proofs.Ways.{sent-reset}
 use borrow.Author.Needs.{needs}
 use Rattle.client_demand.proofs.write_reset.Statement.{statement}

@@ -1,5 +1,4 @@
 -- `client_demand::write_write` meets its contract.
--- Assumes nothing.
 use Rattle.client_demand.proofs.Ways.{held-within, write-fits, sent-write}
 use borrow.Author.Needs.{needs}
 use Rattle.client_demand.proofs.write_write.Statement.{statement}

@@ -1,6 +1,6 @@
 -- `client_job::accepted` meets its contract.
--- Assumes nothing.
-use Rattle.client_job.proofs.Ways.{accepted-informing, accepted-erasing, accepted-writing, accepted-verifying, accepted-resetting}
+use Rattle.client_job.proofs.Ways.{accepted-informing, accepted-erasing, accepted-writing, accepted-verifying}
+use Rattle.client_job.proofs.Ways.{accepted-resetting}
 use borrow.Author.Needs.{needs}
 use Rattle.client_job.proofs.accepted.Statement.{statement}
 use Rattle.client_job.proofs.accepted.Tie as tie

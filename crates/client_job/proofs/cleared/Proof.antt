@@ -1,5 +1,4 @@
 -- `client_job::cleared` meets its contract.
--- Assumes nothing.
 use Rattle.client_job.proofs.Ways.{cleared-tell, cleared-clear, cleared-load}
 use borrow.Author.Needs.{needs}
 use Rattle.client_job.proofs.cleared.Statement.{statement}

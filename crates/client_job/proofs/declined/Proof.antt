@@ -1,5 +1,4 @@
 -- `client_job::declined` meets its contract.
--- Assumes nothing.
 use Rattle.client_job.proofs.Ways.{declined-other, declined-busy, declined-write}
 use borrow.Author.Needs.{needs}
 use Rattle.client_job.proofs.declined.Statement.{statement}

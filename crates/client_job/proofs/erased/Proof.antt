@@ -1,5 +1,4 @@
 -- `client_job::erased` meets its contract.
--- Assumes nothing.
 use Rattle.client_job.proofs.Ways.{erased-on, erased-last}
 use borrow.Author.Needs.{needs}
 use Rattle.client_job.proofs.erased.Statement.{statement}

@@ -1,5 +1,4 @@
 -- `client_job::erases` meets its contract.
--- Assumes nothing.
 use Rattle.client_job.proofs.Ways.{spans, first-erase}
 use borrow.Author.Needs.{needs}
 use Rattle.client_job.proofs.erases.Statement.{statement}

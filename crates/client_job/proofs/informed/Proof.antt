@@ -1,5 +1,4 @@
 -- `client_job::informed` meets its contract.
--- Assumes nothing.
 use Rattle.client_job.proofs.Ways.{informed-sound, informed-bad}
 use borrow.Author.Needs.{needs}
 use Rattle.client_job.proofs.informed.Statement.{statement}

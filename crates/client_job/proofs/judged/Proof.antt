@@ -1,5 +1,4 @@
 -- `client_job::judged` meets its contract.
--- Assumes nothing.
 use Rattle.client_job.proofs.Ways.{large, other-key, taken}
 use borrow.Author.Needs.{needs}
 use Rattle.client_job.proofs.judged.Statement.{statement}

@@ -1,5 +1,4 @@
 -- `client_job::prepared` meets its contract.
--- Assumes nothing.
 use Rattle.client_job.proofs.Ways.{prepared-tell, prepared-clear, prepared-load}
 use borrow.Author.Needs.{needs}
 use Rattle.client_job.proofs.prepared.Statement.{statement}

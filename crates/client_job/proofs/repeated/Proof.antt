@@ -1,5 +1,4 @@
 -- `client_job::repeated` meets its contract.
--- Assumes nothing.
 use Rattle.client_job.proofs.Ways.{again, spent}
 use borrow.Author.Needs.{needs}
 use Rattle.client_job.proofs.repeated.Statement.{statement}

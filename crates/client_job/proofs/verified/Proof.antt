@@ -1,5 +1,4 @@
 -- `client_job::verified` meets its contract.
--- Assumes nothing.
 use Rattle.client_job.proofs.Ways.{short-verify, same-check, other-check}
 use borrow.Author.Needs.{needs}
 use Rattle.client_job.proofs.verified.Statement.{statement}

@@ -1,5 +1,4 @@
 -- `client_job::writes` meets its contract.
--- Assumes nothing.
 use borrow.Author.Needs.{needs}
 use Rattle.client_job.proofs.Ways.{no-writes, first-write}
 use Rattle.client_job.proofs.writes.Statement.{statement}

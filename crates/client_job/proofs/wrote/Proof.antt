@@ -1,5 +1,4 @@
 -- `client_job::wrote` meets its contract.
--- Assumes nothing.
 use Rattle.client_job.proofs.Ways.{wrote-last, next-fits, wrote-on}
 use borrow.Author.Needs.{needs}
 use Rattle.client_job.proofs.wrote.Statement.{statement}

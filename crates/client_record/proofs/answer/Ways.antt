@@ -1,5 +1,4 @@
 -- The ways through what the one answer makes of the client, from the facts that the code has.
--- Assumes nothing.
 use Prim.Native.Nat.{ℕ, _+_, _-_, _^_, _<_, _≤_}
 use mathlib.Core.List.{List}
 use mathlib.Core.Path.{_≡_, refl, sym, _∙_, ap}
@@ -31,16 +30,23 @@ use Rattle.client_record.specs.Answer.{goes, tells}
 
 -- The verdict that progress is added to is named to the search by its rest's range.
 module _ (f : Front) (next : Next) (at : ℕ) (r : Verdict) where
-  module _ (v : Verdict) (l : v .rest < 2 ^ 64) (q : (w : Walk) → toldOf r w ≡ making (toldOf v w) (next .progress)) where
-    pub goes-on : (job : Job) → next .then ≡ On job → ((w : Walk) → toldOf v w ≡ onward (clientOf f w) (Demand job) w at) → (w : Walk) → toldOf r w ≡ goes (clientOf f w) next at
+  module _ (v : Verdict) (l : v .rest < 2 ^ 64)
+      (q : (w : Walk) → toldOf r w ≡ making (toldOf v w) (next .progress)) where
+    pub goes-on : (job : Job) → next .then ≡ On job
+        → ((w : Walk) → toldOf v w ≡ onward (clientOf f w) (Demand job) w at) → (w : Walk)
+        → toldOf r w ≡ goes (clientOf f w) next at
     unfolding goes
     goes-on job h e w = rw h (q w ∙ ap (λ (x : Told). making x (next .progress)) (e w))
 
-    pub goes-over : (o : Outcome) → next .then ≡ Over o → ((w : Walk) → toldOf v w ≡ stops (clientOf f w) (Says.Over o) at) → (w : Walk) → toldOf r w ≡ goes (clientOf f w) next at
+    pub goes-over : (o : Outcome) → next .then ≡ Over o
+        → ((w : Walk) → toldOf v w ≡ stops (clientOf f w) (Says.Over o) at) → (w : Walk)
+        → toldOf r w ≡ goes (clientOf f w) next at
     unfolding goes
     goes-over o h e w = rw h (q w ∙ ap (λ (x : Told). making x (next .progress)) (e w))
 
-  pub goes-refused : (x : Refusal) → next .then ≡ Refused x → ((w : Walk) → toldOf r w ≡ stops (clientOf f w) (Says.Refused x) at) → (w : Walk) → toldOf r w ≡ goes (clientOf f w) next at
+  pub goes-refused : (x : Refusal) → next .then ≡ Refused x
+      → ((w : Walk) → toldOf r w ≡ stops (clientOf f w) (Says.Refused x) at) → (w : Walk)
+      → toldOf r w ≡ goes (clientOf f w) next at
   unfolding goes
   goes-refused x h e w = rw h (e w)
 
@@ -66,7 +72,8 @@ paid lost from len end e = absurd (let z : _≡_ {A = ℕ} 0 1 = cc in omega ari
 paid (answered (ok p) m) from len end e = record { payload = p; came = cc; starts = cc; long = cc }
 paid (answered (device s) m) from len end e = absurd (let z : _≡_ {A = ℕ} 0 1 = cc in omega arith)
 
-module _ (bytes : List ℕ) (a : Answered) (ea : a ≡ shownAnswer (answer bytes)) (from len end : ℕ) (h : a ≡ Ok from len end) where
+module _ (bytes : List ℕ) (a : Answered) (ea : a ≡ shownAnswer (answer bytes)) (from len end : ℕ)
+    (h : a ≡ Ok from len end) where
   known : Paid (answer bytes) from len end
   known = paid (answer bytes) from len end (sym ea ∙ h)
 
@@ -83,19 +90,25 @@ module _ (bytes : List ℕ) (a : Answered) (ea : a ≡ shownAnswer (answer bytes
       ∙ ap (λ (k : ℕ). take (length (known .payload)) (drop k bytes)) (known .starts)
       ∙ answer-payload bytes (known .payload) end (known .came) .1
 
-module _ (f : Front) (job : Job) (image bytes : List ℕ) (a : Answered) (ea : a ≡ shownAnswer (answer bytes)) (r : Verdict) where
-  pub tells-lost : a ≡ Lost → ((w : Walk) → toldOf r w ≡ stops (clientOf f w) (Says.Refused Io) (length bytes)) → (w : Walk) → toldOf r w ≡ tells (clientOf f w) job image bytes
+module _ (f : Front) (job : Job) (image bytes : List ℕ) (a : Answered) (ea : a ≡ shownAnswer (answer bytes))
+    (r : Verdict) where
+  pub tells-lost : a ≡ Lost → ((w : Walk) → toldOf r w ≡ stops (clientOf f w) (Says.Refused Io) (length bytes))
+      → (w : Walk) → toldOf r w ≡ tells (clientOf f w) job image bytes
   unfolding tells
   tells-lost h q w = rw (was-lost (answer bytes) (sym ea ∙ h)) (q w)
 
-  pub tells-device : (s end : ℕ) (n : Next) → a ≡ Device s end → n ≡ declined job s → ((w : Walk) → toldOf r w ≡ goes (clientOf f w) n end)
+  pub tells-device : (s end : ℕ) (n : Next) → a ≡ Device s end → n ≡ declined job s
+      → ((w : Walk) → toldOf r w ≡ goes (clientOf f w) n end)
       → (w : Walk) → toldOf r w ≡ tells (clientOf f w) job image bytes
   unfolding tells
   tells-device s end n h en q w = rw (was-device (answer bytes) s end (sym ea ∙ h)) (rw en at q w)
 
-  pub tells-ok : (from len end : ℕ) (n : Next) → a ≡ Ok from len end → n ≡ accepted job (take (from + len - from) (drop from bytes)) image
-      → ((w : Walk) → toldOf r w ≡ goes (clientOf f w) n end) → (w : Walk) → toldOf r w ≡ tells (clientOf f w) job image bytes
+  pub tells-ok : (from len end : ℕ) (n : Next) → a ≡ Ok from len end
+      → n ≡ accepted job (take (from + len - from) (drop from bytes)) image
+      → ((w : Walk) → toldOf r w ≡ goes (clientOf f w) n end) → (w : Walk)
+      → toldOf r w ≡ tells (clientOf f w) job image bytes
   unfolding tells
   tells-ok from len end n h en q w =
       rw (known bytes a ea from len end h .came)
-      (q w ∙ ap (λ (m : Next). goes (clientOf f w) m end) (en ∙ ap (λ (p : List ℕ). accepted job p image) (payload-is bytes a ea from len end h)))
+      (q w ∙ ap (λ (m : Next). goes (clientOf f w) m end)
+      (en ∙ ap (λ (p : List ℕ). accepted job p image) (payload-is bytes a ea from len end h)))

@@ -1,5 +1,4 @@
 -- `client_record::answered` meets its contract.
--- Assumes nothing.
 use Rattle.client_record.proofs.Ways.{answered-select, answered-at}
 use Rattle.client_record.specs.Record.{answeredTo}
 use borrow.Author.Needs.{needs}

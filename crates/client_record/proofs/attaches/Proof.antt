@@ -1,5 +1,4 @@
 -- `client_record::attaches` meets its contract.
--- Assumes nothing.
 use Rattle.client_record.proofs.Ways.{attaches-is}
 use borrow.Author.Needs.{needs}
 use Rattle.client_record.proofs.attaches.Statement.{statement}

@@ -1,5 +1,4 @@
 -- `client_record::backed` meets its contract.
--- Assumes nothing.
 use Rattle.client_record.proofs.Ways.{backed-given, backed-none}
 use borrow.Author.Needs.{needs}
 use Rattle.client_record.proofs.backed.Statement.{statement}

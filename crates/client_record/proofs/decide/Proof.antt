@@ -1,5 +1,4 @@
 -- `client_record::decide` meets its contract.
--- Assumes nothing.
 use Rattle.client_record.proofs.Ways.{decide-other, decide-out, decide-heard}
 use borrow.Author.Needs.{needs}
 use Rattle.client_record.proofs.decide.Statement.{statement}

@@ -1,5 +1,4 @@
 -- `client_record::fails` meets its contract.
--- Assumes nothing.
 use Rattle.client_record.proofs.Ways.{fails-out, fails-not}
 use borrow.Author.Needs.{needs}
 use Rattle.client_record.proofs.fails.Statement.{statement}

@@ -1,5 +1,4 @@
 -- `client_record::hears` meets its contract.
--- Assumes nothing.
 use Rattle.client_record.proofs.Ways.{hears-at, hears-parting, hears-walking}
 use Rattle.client_record.specs.Record.{hears}
 use borrow.Author.Needs.{needs}

@@ -1,5 +1,4 @@
 -- `client_record::link_failed` meets its contract.
--- Assumes nothing.
 use Rattle.client_record.proofs.Ways.{failed-is}
 use borrow.Author.Needs.{needs}
 use Rattle.client_record.proofs.link_failed.Statement.{statement}

@@ -1,5 +1,4 @@
 -- `client_record::met` meets its contract.
--- Assumes nothing.
 use Rattle.client_record.proofs.Ways.{met-by, met-at, met-unaddressed}
 use Rattle.client_record.specs.Record.{met}
 use borrow.Author.Needs.{needs}

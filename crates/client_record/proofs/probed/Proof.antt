@@ -1,5 +1,4 @@
 -- `client_record::probed` meets its contract.
--- Assumes nothing.
 use Rattle.client_record.proofs.Ways.{probed-long, probed-heard}
 use borrow.Author.Needs.{needs}
 use Rattle.client_record.proofs.probed.Statement.{statement}

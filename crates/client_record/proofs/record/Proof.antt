@@ -1,5 +1,4 @@
 -- `client_record::record` meets its contract.
--- Assumes nothing.
 use Rattle.client_record.proofs.Ways.{record-is}
 use borrow.Author.Needs.{needs}
 use Rattle.client_record.proofs.record.Statement.{statement}

@@ -1,5 +1,4 @@
 -- `client_record::stop_of` meets its contract.
--- Assumes nothing.
 use Rattle.lore.proofs.Choice.{at-value}
 use Rattle.client_record.specs.Record.{stopOf}
 use borrow.Author.Needs.{needs}

@@ -1,5 +1,4 @@
 -- `client_record::told` meets its contract.
--- Assumes nothing.
 use Rattle.client_record.proofs.Ways.{told-is}
 use borrow.Author.Needs.{needs}
 use Rattle.client_record.proofs.told.Statement.{statement}

@@ -1,5 +1,4 @@
 -- `client_record::walk_after` meets its contract.
--- Assumes nothing.
 use Rattle.client_record.proofs.Ways.{after-at, keeps-in}
 use Rattle.client.proofs.Ways.{no-walk-is}
 use borrow.Author.Needs.{needs}

@@ -1,5 +1,4 @@
 -- `client_record::walked` meets its contract.
--- Assumes nothing.
 use Rattle.client_record.proofs.Ways.{walked-on, walked-keeps, walked-done, walked-stopped}
 use borrow.Author.Needs.{needs}
 use Rattle.client_record.proofs.walked.Statement.{statement}

@@ -1,5 +1,4 @@
 -- `client_request::ask` meets its contract.
--- Assumes nothing.
 use Rattle.client_request.proofs.Ways.{ask-other, ask-idle, ask-made, ask-out}
 use borrow.Author.Needs.{needs}
 use Rattle.client_request.proofs.ask.Statement.{statement}

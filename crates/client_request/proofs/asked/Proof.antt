@@ -1,5 +1,4 @@
 -- `client_request::asked` meets its contract.
--- Assumes nothing.
 use Rattle.walk.specs.Moves.{noWalk}
 use Rattle.client_request.proofs.Ways.{asked-made}
 use borrow.Author.Needs.{needs}

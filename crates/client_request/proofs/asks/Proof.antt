@@ -1,5 +1,4 @@
 -- `client_request::asks` meets its contract.
--- Assumes nothing.
 use Rattle.client_request.specs.Request.{asks}
 use Rattle.client_request.proofs.Ways.{asks-as, asks-seeking}
 use borrow.Author.Needs.{needs}

@@ -1,5 +1,4 @@
 -- `client_request::granted` meets its contract.
--- Assumes nothing.
 use Rattle.client_request.specs.Request.{granted}
 use Rattle.client_request.proofs.Ways.{granted-as}
 use borrow.Author.Needs.{needs}

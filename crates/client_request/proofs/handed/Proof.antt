@@ -1,5 +1,4 @@
 -- `client_request::handed` meets its contract.
--- Assumes nothing.
 use Rattle.client_request.proofs.Ways.{handed-select, handed-demand, handed-leave}
 use borrow.Author.Needs.{needs}
 use Rattle.client_request.proofs.handed.Statement.{statement}

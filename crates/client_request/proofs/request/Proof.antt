@@ -1,5 +1,4 @@
 -- `client_request::request` meets its contract.
--- Assumes nothing.
 use Rattle.client_request.proofs.Ways.{request-is}
 use borrow.Author.Needs.{needs}
 use Rattle.client_request.proofs.request.Statement.{statement}

@@ -1,5 +1,4 @@
 -- `client_request::write_request` meets its contract.
--- Assumes nothing.
 use Rattle.client_request.specs.Request.{frameOf}
 use Rattle.client_request.proofs.Ways.{request-as}
 use borrow.Author.Needs.{needs}

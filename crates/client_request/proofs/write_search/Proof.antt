@@ -1,5 +1,4 @@
 -- `client_request::write_search` meets its contract.
--- Assumes nothing.
 use Rattle.client_request.proofs.Ways.{search-written}
 use borrow.Author.Needs.{needs}
 use Rattle.client_request.proofs.write_search.Statement.{statement}

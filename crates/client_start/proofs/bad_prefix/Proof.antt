@@ -1,5 +1,4 @@
 -- `client_start::bad_prefix` meets its contract.
--- Assumes nothing.
 use Rattle.client_start.proofs.Ways.{bad-late, bad-bad}
 use borrow.Author.Needs.{needs}
 use Rattle.client_start.proofs.bad_prefix.Statement.{statement}

@@ -1,5 +1,4 @@
 -- `client_start::demands` meets its contract.
--- Assumes nothing.
 use Rattle.client_start.proofs.Ways.{demands-starts}
 use borrow.Author.Needs.{needs}
 use Rattle.client_start.proofs.demands.Statement.{statement}

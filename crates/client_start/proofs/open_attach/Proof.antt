@@ -1,5 +1,4 @@
 -- `client_start::open_attach` meets its contract.
--- Assumes nothing.
 use Rattle.client_start.proofs.Ways.{attach-any}
 use borrow.Author.Needs.{needs}
 use Rattle.client_start.proofs.open_attach.Statement.{statement}

@@ -1,5 +1,4 @@
 -- `client_start::open_attach_to` meets its contract.
--- Assumes nothing.
 use Rattle.client_start.proofs.Ways.{attach-over, attach-starts}
 use borrow.Author.Needs.{needs}
 use Rattle.client_start.proofs.open_attach_to.Statement.{statement}

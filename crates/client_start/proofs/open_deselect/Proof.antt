@@ -1,5 +1,4 @@
 -- `client_start::open_deselect` meets its contract.
--- Assumes nothing.
 use Rattle.client_start.proofs.Ways.{deselect-starts}
 use borrow.Author.Needs.{needs}
 use Rattle.client_start.proofs.open_deselect.Statement.{statement}

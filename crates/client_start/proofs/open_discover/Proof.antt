@@ -1,5 +1,4 @@
 -- `client_start::open_discover` meets its contract.
--- Assumes nothing.
 use Rattle.client_start.proofs.Ways.{discover-over, discover-starts}
 use borrow.Author.Needs.{needs}
 use Rattle.client_start.proofs.open_discover.Statement.{statement}

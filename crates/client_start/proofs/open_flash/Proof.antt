@@ -1,5 +1,4 @@
 -- `client_start::open_flash` meets its contract.
--- Assumes nothing.
 use Rattle.client_start.specs.Start.{startFlash}
 use borrow.Author.Needs.{needs}
 use Rattle.client_start.proofs.open_flash.Statement.{statement}

@@ -1,5 +1,4 @@
 -- `client_start::open_select` meets its contract.
--- Assumes nothing.
 use Rattle.client_start.proofs.Ways.{select-over, select-few, select-starts}
 use borrow.Author.Needs.{needs}
 use Rattle.client_start.proofs.open_select.Statement.{statement}

@@ -1,5 +1,4 @@
 -- `client_start::open_set_baud` meets its contract.
--- Assumes nothing.
 use Rattle.client_start.specs.Start.{startSetBaud}
 use borrow.Author.Needs.{needs}
 use Rattle.client_start.proofs.open_set_baud.Statement.{statement}

@@ -1,5 +1,4 @@
 -- `client_start::resets` meets its contract.
--- Assumes nothing.
 use Rattle.lore.proofs.Choice.{ways}
 use Rattle.client_start.specs.Start.{resets}
 use borrow.Author.Needs.{needs}

@@ -1,5 +1,4 @@
 -- `client_start::start_flash` meets its contract.
--- Assumes nothing.
 use Rattle.client_start.specs.Start.{startFlash}
 use Rattle.client_start.proofs.Ways.{by-value₁}
 use borrow.Author.Needs.{needs}

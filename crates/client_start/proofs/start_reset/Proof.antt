@@ -1,5 +1,4 @@
 -- `client_start::start_reset` meets its contract.
--- Assumes nothing.
 use Rattle.client_start.specs.Start.{startReset}
 use Rattle.client_start.proofs.Ways.{by-value₂}
 use borrow.Author.Needs.{needs}

@@ -1,5 +1,4 @@
 -- `client_start::start_set_baud` meets its contract.
--- Assumes nothing.
 use Rattle.client_start.specs.Start.{startSetBaud}
 use Rattle.client_start.proofs.Ways.{by-value₃}
 use borrow.Author.Needs.{needs}

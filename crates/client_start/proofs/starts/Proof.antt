@@ -1,5 +1,4 @@
 -- `client_start::starts` meets its contract.
--- Assumes nothing.
 use Rattle.client_start.proofs.Ways.{starts-late, starts-now}
 use borrow.Author.Needs.{needs}
 use Rattle.client_start.proofs.starts.Statement.{statement}

@@ -1,5 +1,4 @@
 -- `crc::crc16` meets its contract.
--- Assumes nothing.
 use borrow.Author.Needs.{needs}
 use Rattle.crc.proofs.Steps.{further, last, done}
 use lib.ListN.{length, drop}

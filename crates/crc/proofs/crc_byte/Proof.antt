@@ -1,5 +1,4 @@
 -- `crc::crc_byte` meets its contract.
--- Assumes nothing.
 use Rattle.crc.proofs.Linear.{closed}
 use borrow.Author.Needs.{needs}
 use Rattle.crc.proofs.crc_byte.Statement.{statement}

@@ -1,5 +1,4 @@
 -- `crc::crc_pair` meets its contract.
--- Assumes nothing.
 use Rattle.crc.proofs.Linear.{pair}
 use borrow.Author.Needs.{needs}
 use Rattle.crc.proofs.crc_pair.Statement.{statement}

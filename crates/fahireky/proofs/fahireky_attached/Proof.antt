@@ -1,5 +1,4 @@
 -- `fahireky::fahireky_attached` meets its contract.
--- Assumes nothing.
 use Rattle.fahireky.proofs.Ways.{views-short, views-is}
 use Rattle.host_buffers.proofs.Ways.{state-room, answer-room}
 use borrow.Author.Needs.{needs}

@@ -1,5 +1,4 @@
 -- `fahireky::fahireky_hear` meets its contract.
--- Assumes nothing.
 use Rattle.fahireky.proofs.Ways.{hears-short, hears-is}
 use Rattle.host_buffers.proofs.Ways.{answer-room}
 use borrow.Author.Needs.{needs}

@@ -1,5 +1,4 @@
 -- `fahireky::fahireky_image_compat` meets its contract.
--- Assumes nothing.
 use Rattle.fahireky.proofs.Ways.{key-is}
 use borrow.Author.Needs.{needs}
 use Rattle.fahireky.proofs.fahireky_image_compat.Statement.{statement}

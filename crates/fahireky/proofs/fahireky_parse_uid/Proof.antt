@@ -1,5 +1,4 @@
 -- `fahireky::fahireky_parse_uid` meets its contract.
--- Assumes nothing.
 use Rattle.fahireky.proofs.Ways.{read-is}
 use borrow.Author.Needs.{needs}
 use Rattle.fahireky.proofs.fahireky_parse_uid.Statement.{statement}

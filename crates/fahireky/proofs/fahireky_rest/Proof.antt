@@ -1,5 +1,4 @@
 -- `fahireky::fahireky_rest` meets its contract.
--- Assumes nothing.
 use Rattle.host_buffers.specs.Codes.{restFrom}
 use Rattle.lore.proofs.Choice.{ways}
 use borrow.Author.Needs.{needs}

@@ -1,5 +1,4 @@
 -- `fahireky::fahireky_uid_hex` meets its contract.
--- Assumes nothing.
 use Rattle.fahireky.proofs.Ways.{writes-is}
 use borrow.Author.Needs.{needs}
 use Rattle.fahireky.proofs.fahireky_uid_hex.Statement.{statement}

@@ -1,5 +1,4 @@
 -- `flash_example::main` meets its contract.
--- Assumes nothing.
 use Prim.Native.Nat.{_-_}
 use borrow.Author.Needs.{needs}
 use Rattle.flash_example.proofs.main.Statement.{statement}

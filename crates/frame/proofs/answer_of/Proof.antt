@@ -1,5 +1,4 @@
 -- `frame::answer_of` meets its contract.
--- Assumes nothing.
 use Rattle.frame.specs.Writing.{answerOf}
 use Rattle.lore.proofs.Choice.{at-value}
 use borrow.Author.Needs.{needs}

@@ -1,5 +1,4 @@
 -- `frame::place_frame` meets its contract.
--- Assumes nothing.
 use Rattle.frame.proofs.Writes.{no-room, wrote}
 use borrow.Author.Needs.{needs}
 use Rattle.frame.proofs.place_frame.Statement.{statement}

@@ -1,5 +1,4 @@
 -- `frame::put_head` meets its contract.
--- Assumes nothing.
 use Rattle.frame.proofs.Writes.{headed}
 use borrow.Author.Needs.{needs}
 use Rattle.frame.proofs.put_head.Statement.{statement}

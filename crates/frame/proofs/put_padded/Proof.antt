@@ -1,5 +1,4 @@
 -- `frame::put_padded` meets its contract.
--- Assumes nothing.
 use Rattle.frame.proofs.Writes.{padded}
 use borrow.Author.Needs.{needs}
 use Rattle.frame.proofs.put_padded.Statement.{statement}

@@ -1,5 +1,4 @@
 -- `frame::put_tag` meets its contract.
--- Assumes nothing.
 use lib.Seq.{sets-eq}
 use lib.ListN.{length-set}
 use native.Mathlib.Omega.{arith}

@@ -1,5 +1,4 @@
 -- `frame::seal` meets its contract.
--- Assumes nothing.
 use mathlib.Core.Path.{sym}
 use lib.Seq.{length-take-le}
 use Rattle.frame.proofs.Writes.{sealed}

@@ -1,5 +1,4 @@
 -- `frame::write_frame` meets its contract.
--- Assumes nothing.
 use Rattle.frame.proofs.Writes.{long-bytes, long-padding, not-long}
 use borrow.Author.Needs.{needs}
 use Rattle.frame.proofs.write_frame.Statement.{statement}

@@ -1,6 +1,6 @@
 -- `hearing::concluded` meets its contract.
--- Assumes nothing.
-use Rattle.hearing.proofs.Ways.{within-one, none-concluded, several-concluded, ok-concluded, unsupported-concluded, other-concluded}
+use Rattle.hearing.proofs.Ways.{within-one, none-concluded, several-concluded, ok-concluded}
+use Rattle.hearing.proofs.Ways.{unsupported-concluded, other-concluded}
 use borrow.Author.Needs.{needs}
 use Rattle.hearing.proofs.concluded.Statement.{statement}
 use Rattle.hearing.proofs.concluded.Tie as tie

@@ -1,11 +1,11 @@
 -- `hearing::hear` meets its contract.
--- Assumes nothing.
 use borrow.Author.Needs.{needs}
 use Prim.Native.Nat.{_≤_, _-_}
 use mathlib.Core.Bool.{true}
 use lib.ListN.{length}
 use Rattle.hearing.proofs.Shows.{inside, less}
-use Rattle.hearing.proofs.Hears.{Reach, begun, hears-unfit, ten-fit, hears-skipped, further, hears-within, hears-end}
+use Rattle.hearing.proofs.Hears.{Reach, begun, hears-unfit, ten-fit, hears-skipped, further, hears-within}
+use Rattle.hearing.proofs.Hears.{hears-end}
 use Rattle.hearing.proofs.hear.Statement.{statement}
 use Rattle.hearing.proofs.hear.Tie as tie
 

@@ -1,5 +1,4 @@
 -- `hearing::heard_as` meets its contract.
--- Assumes nothing.
 use Rattle.hearing.proofs.Ways.{with-no-id}
 use borrow.Author.Needs.{needs}
 use Rattle.hearing.proofs.heard_as.Statement.{statement}

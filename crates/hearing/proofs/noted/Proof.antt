@@ -1,5 +1,4 @@
 -- `hearing::noted` meets its contract.
--- Assumes nothing.
 use Rattle.hearing.proofs.Ways.{noted-first, noted-second, noted-more}
 use Rattle.lore.proofs.Choice.{ways}
 use Rattle.hearing.specs.Heard.{noted}

@@ -1,5 +1,4 @@
 -- `hearing::one_heard` meets its contract.
--- Assumes nothing.
 use Rattle.hearing.proofs.Ways.{heard-too-long, heard-one}
 use borrow.Author.Needs.{needs}
 use Rattle.hearing.proofs.one_heard.Statement.{statement}

@@ -1,5 +1,4 @@
 -- `hearing::replied` meets its contract.
--- Assumes nothing.
 use borrow.Author.Needs.{needs}
 use Rattle.lore.proofs.Choice.{ways}
 use Rattle.hearing.specs.Heard.{repliedBy}

@@ -1,5 +1,4 @@
 -- `hearing::rest` meets its contract.
--- Assumes nothing.
 use Rattle.hearing.proofs.Ways.{no-rest}
 use Rattle.lore.proofs.Parts.{part-all}
 use borrow.Author.Needs.{needs}

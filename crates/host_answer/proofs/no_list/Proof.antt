@@ -1,5 +1,4 @@
 -- `host_answer::no_list` meets its contract.
--- Assumes nothing.
 use Rattle.host_answer.proofs.Ways.{list-none}
 use borrow.Author.Needs.{needs}
 use Rattle.host_answer.proofs.no_list.Statement.{statement}

@@ -1,5 +1,4 @@
 -- An answer's numbers are read as that answer: nothing of it is lost.
--- Assumes nothing.
 use mathlib.Core.Path.{_≡_, refl, ap}
 use Rattle.hearing.specs.declared.Heard.{Heard}
 use Rattle.hearing.specs.declared.Heard.the-variants as Heard
@@ -8,13 +7,18 @@ use Rattle.image.specs.declared.Compat.the-variants.{Key, Missing}
 use Rattle.client.specs.declared.Outcome.{Outcome}
 use Rattle.client.specs.declared.Outcome.the-variants as Outcome
 use Rattle.client.specs.declared.Refusal.{Refusal}
-use Rattle.client.specs.declared.Refusal.the-variants.{Io, Device, FirmwareTooLarge, CrcMismatch, BadInfo, Incompatible, NoDevice, SeveralDevices, NoSuchUid, AmbiguousUid, NotAddressable, DuplicateUid, BadPrefix, LongId, TableFull, ShortBuffer, RetriesSpent, ShortVerify, SpansTooFar, OtherImage, OutOfTurn}
+use Rattle.client.specs.declared.Refusal.the-variants.{Io, Device, FirmwareTooLarge, CrcMismatch, BadInfo, Incompatible}
+use Rattle.client.specs.declared.Refusal.the-variants.{NoDevice, SeveralDevices, NoSuchUid, AmbiguousUid}
+use Rattle.client.specs.declared.Refusal.the-variants.{NotAddressable, DuplicateUid, BadPrefix, LongId, TableFull}
+use Rattle.client.specs.declared.Refusal.the-variants.{ShortBuffer, RetriesSpent, ShortVerify, SpansTooFar, OtherImage}
+use Rattle.client.specs.declared.Refusal.the-variants.{OutOfTurn}
 use Rattle.client.specs.declared.Progress.{Progress}
 use Rattle.client.specs.declared.Progress.the-variants.{None, Made}
 use Rattle.client.specs.declared.Says.{Says}
 use Rattle.client.specs.declared.Says.the-variants.{Granted, Closing, Onward, Over, Refused}
 use Rattle.client.specs.Numbers.{numberOf}
-use Rattle.host_answer.specs.Numbers.{going, ending, refusing, heardTag, hasKey, keyOr0, outcomeNote, refusalNote, noteOf, gainOf, heardIn, keyIn, outcomeIn, refusalIn, saysIn, progressIn}
+use Rattle.host_answer.specs.Numbers.{going, ending, refusing, heardTag, hasKey, keyOr0, outcomeNote, refusalNote}
+use Rattle.host_answer.specs.Numbers.{noteOf, gainOf, heardIn, keyIn, outcomeIn, refusalIn, saysIn, progressIn}
 
 heard-tag : (h : Heard) → heardIn (heardTag h) ≡ h
 unfolding heardIn heardTag

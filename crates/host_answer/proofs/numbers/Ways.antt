@@ -1,5 +1,4 @@
 -- The ways through an answer's numbers, from the facts that the code has.
--- Assumes nothing.
 use Prim.Native.Nat.{ℕ}
 use mathlib.Core.Bool.{Bool, false}
 use mathlib.Core.Path.{_≡_}
@@ -12,27 +11,52 @@ use Rattle.host_answer.specs.Numbers.{going, ending, refusing, refusalNo
 
 pub going-is : (says length : ℕ) (i : Info) → i ≡ noInfo
     → _≡_ {A = Note}
-    (record { number = 0; says = says; outcome = 0; heard = 0; any = false; key = false; length = length; first = 0; second = 0; info = i })
+    (record {
+      number = 0;
+      says = says;
+      outcome = 0;
+      heard = 0;
+      any = false;
+      key = false;
+      length = length;
+      first = 0;
+      second = 0;
+      info = i;
+    })
     (going says length)
 unfolding going
 going-is says length i e = rw e
 
 pub refusing-is : (number length first second : ℕ) (key : Bool) (i : Info) → i ≡ noInfo
     → _≡_ {A = Note}
-    (record { number = number; says = 3; outcome = 0; heard = 0; any = false; key = key; length = length; first = first; second = second; info = i })
+    (record {
+      number = number;
+      says = 3;
+      outcome = 0;
+      heard = 0;
+      any = false;
+      key = key;
+      length = length;
+      first = first;
+      second = second;
+      info = i;
+    })
     (refusing number key length first second)
 unfolding refusing
 refusing-is number length first second key i e = rw e
 
 -- With no information.
-pub ending-is : (number outcome heard h : ℕ) (any : Bool) (i : Info) (r : Note) → i ≡ noInfo → h ≡ heard → r ≡ ending number outcome h any i
+pub ending-is : (number outcome heard h : ℕ) (any : Bool) (i : Info) (r : Note) → i ≡ noInfo → h ≡ heard
+    → r ≡ ending number outcome h any i
     → r ≡ ending number outcome heard any noInfo
 ending-is number outcome heard h any i r ei eh e = rw (ei, eh) at e
 
-pub refusing-with : (number length first second s : ℕ) (key b : Bool) (r : Note) → b ≡ key → s ≡ second → r ≡ refusing number b length first s
+pub refusing-with : (number length first second s : ℕ) (key b : Bool) (r : Note) → b ≡ key → s ≡ second
+    → r ≡ refusing number b length first s
     → r ≡ refusing number key length first second
 refusing-with number length first second s key b r eb es e = rw (eb, es) at e
 
 -- A refusal, with its number.
-pub refused-is : (n : ℕ) (q : Refusal) (r : Note) → n ≡ numberOf q → r ≡ refusalNote n q → r ≡ refusalNote (numberOf q) q
+pub refused-is : (n : ℕ) (q : Refusal) (r : Note) → n ≡ numberOf q → r ≡ refusalNote n q
+    → r ≡ refusalNote (numberOf q) q
 refused-is n q r e h = rw e at h

@@ -1,5 +1,4 @@
 -- `host_answer::write_front` meets its contract.
--- Assumes nothing.
 use Rattle.host_answer.proofs.Ways.{put-front}
 use borrow.Author.Needs.{needs}
 use Rattle.host_answer.proofs.write_front.Statement.{statement}

@@ -1,5 +1,4 @@
 -- `host_answer::write_list` meets its contract.
--- Assumes nothing.
 use Rattle.host_answer.proofs.Ways.{list-over, list-given}
 use borrow.Author.Needs.{needs}
 use Rattle.host_answer.proofs.write_list.Statement.{statement}

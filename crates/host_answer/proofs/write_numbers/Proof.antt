@@ -1,5 +1,4 @@
 -- `host_answer::write_numbers` meets its contract.
--- Assumes nothing.
 use Rattle.host_answer.proofs.Ways.{put-numbers}
 use borrow.Author.Needs.{needs}
 use Rattle.host_answer.proofs.write_numbers.Statement.{statement}

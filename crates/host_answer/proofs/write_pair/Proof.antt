@@ -1,5 +1,4 @@
 -- `host_answer::write_pair` meets its contract.
--- Assumes nothing.
 use Rattle.host_answer.proofs.Ways.{put-pair}
 use borrow.Author.Needs.{needs}
 use Rattle.host_answer.proofs.write_pair.Statement.{statement}

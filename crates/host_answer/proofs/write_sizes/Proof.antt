@@ -1,5 +1,4 @@
 -- `host_answer::write_sizes` meets its contract.
--- Assumes nothing.
 use Rattle.host_answer.proofs.Ways.{put-sizes}
 use borrow.Author.Needs.{needs}
 use Rattle.host_answer.proofs.write_sizes.Statement.{statement}

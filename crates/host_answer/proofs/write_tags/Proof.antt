@@ -1,5 +1,4 @@
 -- `host_answer::write_tags` meets its contract.
--- Assumes nothing.
 use Rattle.host_answer.proofs.Ways.{put-tags}
 use borrow.Author.Needs.{needs}
 use Rattle.host_answer.proofs.write_tags.Statement.{statement}

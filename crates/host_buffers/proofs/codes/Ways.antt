@@ -1,5 +1,4 @@
 -- The ways through the codes and the ids behind them, from the facts that the code has.
--- Assumes nothing.
 use Prim.Native.Nat.{ℕ, _<_, _≤_}
 use mathlib.Core.List.{List, _++_}
 use mathlib.Core.Path.{_≡_, sym, _∙_, ap}
@@ -23,7 +22,8 @@ module _ (x : Id) (n r : ℕ) (out : List ℕ) (en : n ≡ length (idOf x)) wher
   pub uid-room : n ≤ length out → length (take n (x .bytes)) ≤ length out
   uid-room h = omega (arith, id-part x n en)
 
-  pub uid-put : (out′ : List ℕ) → n ≤ length out → r ≡ coded 0 n → out′ ≡ take n (x .bytes) ++ drop (length (take n (x .bytes))) out
+  pub uid-put : (out′ : List ℕ) → n ≤ length out → r ≡ coded 0 n
+      → out′ ≡ take n (x .bytes) ++ drop (length (take n (x .bytes))) out
       → record { code = r; bytes = out′ } ≡ putUid x out
   unfolding putUid
   uid-put out′ h e q = rw (e, q, held x n en, en, le-ltb (length out) (length (idOf x)) (rw en at h))

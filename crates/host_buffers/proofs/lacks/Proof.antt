@@ -1,5 +1,4 @@
 -- `host_buffers::lacks` meets its contract.
--- Assumes nothing.
 use Rattle.host_buffers.proofs.Ways.{state-lacks, answer-lacks, lacks-nothing}
 use borrow.Author.Needs.{needs}
 use Rattle.host_buffers.proofs.lacks.Statement.{statement}

@@ -1,5 +1,4 @@
 -- `host_buffers::lists` meets its contract.
--- Assumes nothing.
 use Rattle.host_buffers.proofs.Ways.{list-none, list-given}
 use borrow.Author.Needs.{needs}
 use Rattle.host_buffers.proofs.lists.Statement.{statement}

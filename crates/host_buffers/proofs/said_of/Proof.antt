@@ -1,5 +1,4 @@
 -- `host_buffers::said_of` meets its contract.
--- Assumes nothing.
 use Rattle.host_buffers.proofs.Ways.{said-long, said-heard}
 use borrow.Author.Needs.{needs}
 use Rattle.host_buffers.proofs.said_of.Statement.{statement}

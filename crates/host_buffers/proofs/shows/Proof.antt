@@ -1,5 +1,4 @@
 -- `host_buffers::shows` meets its contract.
--- Assumes nothing.
 use Rattle.host_buffers.proofs.Ways.{shows-is}
 use borrow.Author.Needs.{needs}
 use Rattle.host_buffers.proofs.shows.Statement.{statement}

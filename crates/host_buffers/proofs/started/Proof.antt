@@ -1,5 +1,4 @@
 -- `host_buffers::started` meets its contract.
--- Assumes nothing.
 use Rattle.host_buffers.proofs.Ways.{started-kept, started-saved}
 use borrow.Author.Needs.{needs}
 use Rattle.host_buffers.proofs.started.Statement.{statement}

@@ -1,5 +1,4 @@
 -- `host_buffers::told` meets its contract.
--- Assumes nothing.
 use Rattle.host_buffers.proofs.Ways.{told-kept, told-saved}
 use borrow.Author.Needs.{needs}
 use Rattle.host_buffers.proofs.told.Statement.{statement}

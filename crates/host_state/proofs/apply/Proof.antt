@@ -1,5 +1,4 @@
 -- `host_state::apply` meets its contract.
--- Assumes nothing.
 use Rattle.host_state.proofs.InPlace.{apply-same, apply-moves, apply-keeps, apply-gives, apply-clears}
 use borrow.Author.Needs.{needs}
 use Rattle.host_state.proofs.apply.Statement.{statement}

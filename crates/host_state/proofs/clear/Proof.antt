@@ -1,5 +1,4 @@
 -- `host_state::clear` meets its contract.
--- Assumes nothing.
 use Rattle.host_state.proofs.InPlace.{cleared}
 use borrow.Author.Needs.{needs}
 use Rattle.host_state.proofs.clear.Statement.{statement}

@@ -1,5 +1,4 @@
 -- `host_state::count` meets its contract.
--- Assumes nothing.
 use Rattle.host_state.proofs.Ways.{count-loaded}
 use borrow.Author.Needs.{needs}
 use Rattle.host_state.proofs.count.Statement.{statement}

@@ -1,5 +1,4 @@
 -- `host_state::keep` meets its contract.
--- Assumes nothing.
 use Rattle.host_state.proofs.InPlace.{keep-full, keep-room}
 use borrow.Author.Needs.{needs}
 use Rattle.host_state.proofs.keep.Statement.{statement}

@@ -1,5 +1,4 @@
 -- `host_state::load_front` meets its contract.
--- Assumes nothing.
 use Rattle.host_state.proofs.Ways.{front-loaded, all-bytes}
 use borrow.Author.Needs.{needs}
 use Rattle.host_state.proofs.load_front.Statement.{statement}

@@ -1,5 +1,4 @@
 -- `host_state::load_id` meets its contract.
--- Assumes nothing.
 use Rattle.host_state.proofs.Ways.{id-loaded}
 use borrow.Author.Needs.{needs}
 use Rattle.host_state.proofs.load_id.Statement.{statement}

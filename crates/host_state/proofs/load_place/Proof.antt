@@ -1,5 +1,4 @@
 -- `host_state::load_place` meets its contract.
--- Assumes nothing.
 use Rattle.host_state.proofs.Ways.{place-loaded}
 use borrow.Author.Needs.{needs}
 use Rattle.host_state.proofs.load_place.Statement.{statement}

@@ -1,5 +1,4 @@
 -- `host_state::renew` meets its contract.
--- Assumes nothing.
 use Rattle.host_state.proofs.InPlace.{renew-no, renew-yes}
 use borrow.Author.Needs.{needs}
 use Rattle.host_state.proofs.renew.Statement.{statement}

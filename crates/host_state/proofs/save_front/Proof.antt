@@ -1,5 +1,4 @@
 -- `host_state::save_front` meets its contract.
--- Assumes nothing.
 use Rattle.host_state.proofs.Ways.{put-front, front-length}
 use borrow.Author.Needs.{needs}
 use Rattle.host_state.proofs.save_front.Statement.{statement}

@@ -1,5 +1,4 @@
 -- `host_state::save_head` meets its contract.
--- Assumes nothing.
 use Rattle.host_state.proofs.Ways.{put-head, head-length}
 use borrow.Author.Needs.{needs}
 use Rattle.host_state.proofs.save_head.Statement.{statement}

@@ -1,5 +1,4 @@
 -- `host_state::save_id` meets its contract.
--- Assumes nothing.
 use Rattle.host_state.proofs.Ways.{put-id, id-length}
 use borrow.Author.Needs.{needs}
 use Rattle.host_state.proofs.save_id.Statement.{statement}

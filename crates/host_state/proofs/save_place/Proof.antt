@@ -1,5 +1,4 @@
 -- `host_state::save_place` meets its contract.
--- Assumes nothing.
 use Rattle.host_state.proofs.Ways.{put-place}
 use borrow.Author.Needs.{needs}
 use Rattle.host_state.proofs.save_place.Statement.{statement}

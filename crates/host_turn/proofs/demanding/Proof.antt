@@ -1,5 +1,4 @@
 -- `host_turn::demanding` meets its contract.
--- Assumes nothing.
 use borrow.Author.Needs.{needs}
 use Rattle.host_turn.specs.Turns.{demanding}
 use Rattle.host_turn.proofs.demanding.Statement.{statement}

@@ -1,5 +1,4 @@
 -- `host_turn::flat_of` meets its contract.
--- Assumes nothing.
 use Rattle.host_turn.proofs.Ways.{at-turn}
 use Rattle.host_turn.specs.Turns.{flatOf}
 use borrow.Author.Needs.{needs}

@@ -1,5 +1,4 @@
 -- `host_turn::job_flat` meets its contract.
--- Assumes nothing.
 use Rattle.host_turn.proofs.Ways.{at-case, demanding-neither, demanding-unreset, demanding-uninformed}
 use Rattle.host_turn.specs.Turns.{jobFlat}
 use borrow.Author.Needs.{needs}

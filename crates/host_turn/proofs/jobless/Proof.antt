@@ -1,5 +1,4 @@
 -- `host_turn::jobless` meets its contract.
--- Assumes nothing.
 use Rattle.host_turn.proofs.Ways.{jobless-is}
 use borrow.Author.Needs.{needs}
 use Rattle.host_turn.proofs.jobless.Statement.{statement}

@@ -1,5 +1,4 @@
 -- `host_turn::leaving` meets its contract.
--- Assumes nothing.
 use borrow.Author.Needs.{needs}
 use Rattle.host_turn.specs.Turns.{leaving}
 use Rattle.host_turn.proofs.leaving.Statement.{statement}

@@ -1,5 +1,4 @@
 -- `host_turn::no_info` meets its contract.
--- Assumes nothing.
 use borrow.Author.Needs.{needs}
 use Rattle.host_turn.specs.Turns.{noInfo}
 use Rattle.host_turn.proofs.no_info.Statement.{statement}

@@ -1,5 +1,4 @@
 -- `host_turn::no_reset` meets its contract.
--- Assumes nothing.
 use borrow.Author.Needs.{needs}
 use Rattle.host_turn.specs.Turns.{noReset}
 use Rattle.host_turn.proofs.no_reset.Statement.{statement}

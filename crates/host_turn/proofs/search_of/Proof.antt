@@ -1,5 +1,4 @@
 -- `host_turn::search_of` meets its contract.
--- Assumes nothing.
 use Rattle.host_turn.proofs.Ways.{other-case}
 use Rattle.host_turn.specs.Turns.{searchOf}
 use Rattle.lore.proofs.Choice.{ways}

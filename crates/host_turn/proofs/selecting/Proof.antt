@@ -1,5 +1,4 @@
 -- `host_turn::selecting` meets its contract.
--- Assumes nothing.
 use Rattle.host_turn.proofs.Ways.{selecting-is}
 use borrow.Author.Needs.{needs}
 use Rattle.host_turn.proofs.selecting.Statement.{statement}

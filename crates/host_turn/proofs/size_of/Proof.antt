@@ -1,5 +1,4 @@
 -- `host_turn::size_of` meets its contract.
--- Assumes nothing.
 use Rattle.host_turn.specs.Turns.{sizeOf}
 use borrow.Author.Needs.{needs}
 use Rattle.host_turn.proofs.size_of.Statement.{statement}

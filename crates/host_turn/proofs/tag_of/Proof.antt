@@ -1,5 +1,4 @@
 -- `host_turn::tag_of` meets its contract.
--- Assumes nothing.
 use Rattle.host_turn.specs.Turns.{tagOf}
 use borrow.Author.Needs.{needs}
 use Rattle.host_turn.proofs.tag_of.Statement.{statement}

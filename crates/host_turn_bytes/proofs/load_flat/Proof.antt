@@ -1,5 +1,4 @@
 -- `host_turn_bytes::load_flat` meets its contract.
--- Assumes nothing.
 use Rattle.host_turn_bytes.proofs.Ways.{flat-loaded}
 use borrow.Author.Needs.{needs}
 use Rattle.host_turn_bytes.proofs.load_flat.Statement.{statement}

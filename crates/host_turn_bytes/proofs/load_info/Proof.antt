@@ -1,5 +1,4 @@
 -- `host_turn_bytes::load_info` meets its contract.
--- Assumes nothing.
 use Rattle.host_turn_bytes.proofs.Ways.{info-loaded}
 use borrow.Author.Needs.{needs}
 use Rattle.host_turn_bytes.proofs.load_info.Statement.{statement}

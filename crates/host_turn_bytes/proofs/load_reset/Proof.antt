@@ -1,5 +1,4 @@
 -- `host_turn_bytes::load_reset` meets its contract.
--- Assumes nothing.
 use Rattle.host_turn_bytes.specs.TurnBytes.{loadedReset}
 use borrow.Author.Needs.{needs}
 use Rattle.host_turn_bytes.proofs.load_reset.Statement.{statement}

@@ -1,5 +1,4 @@
 -- `host_turn_bytes::save_flat` meets its contract.
--- Assumes nothing.
 use Rattle.host_turn_bytes.proofs.Ways.{put-flat}
 use borrow.Author.Needs.{needs}
 use Rattle.host_turn_bytes.proofs.save_flat.Statement.{statement}

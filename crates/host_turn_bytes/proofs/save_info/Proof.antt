@@ -1,5 +1,4 @@
 -- `host_turn_bytes::save_info` meets its contract.
--- Assumes nothing.
 use Rattle.host_turn_bytes.proofs.Ways.{put-info}
 use borrow.Author.Needs.{needs}
 use Rattle.host_turn_bytes.proofs.save_info.Statement.{statement}

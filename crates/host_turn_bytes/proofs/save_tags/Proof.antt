@@ -1,5 +1,4 @@
 -- `host_turn_bytes::save_tags` meets its contract.
--- Assumes nothing.
 use Rattle.host_turn_bytes.proofs.Ways.{put-tags}
 use borrow.Author.Needs.{needs}
 use Rattle.host_turn_bytes.proofs.save_tags.Statement.{statement}

@@ -1,5 +1,4 @@
 -- `host_turn_bytes::save_work` meets its contract.
--- Assumes nothing.
 use Rattle.host_turn_bytes.proofs.Ways.{put-work}
 use borrow.Author.Needs.{needs}
 use Rattle.host_turn_bytes.proofs.save_work.Statement.{statement}

@@ -1,5 +1,4 @@
 -- `image::device_info` meets its contract.
--- Assumes nothing.
 use Rattle.image.proofs.Ways.{short-info, sound-info, unsound-info}
 use borrow.Author.Needs.{needs}
 use Rattle.image.proofs.device_info.Statement.{statement}

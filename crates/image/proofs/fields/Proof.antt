@@ -1,5 +1,4 @@
 -- `image::fields` meets its contract.
--- Assumes nothing.
 use Rattle.image.proofs.Ways.{fields-are}
 use borrow.Author.Needs.{needs}
 use Rattle.image.proofs.fields.Statement.{statement}

@@ -1,5 +1,4 @@
 -- `image::image_compat` meets its contract.
--- Assumes nothing.
 use Rattle.image.proofs.Ways.{key-short, key-here, key-elsewhere}
 use borrow.Author.Needs.{needs}
 use Rattle.image.proofs.image_compat.Statement.{statement}

@@ -1,5 +1,4 @@
 -- `image::padding` meets its contract.
--- Assumes nothing.
 use Rattle.paper.specs.Answers.{padding}
 use mathlib.Core.Path.{refl}
 use borrow.Author.Needs.{needs}

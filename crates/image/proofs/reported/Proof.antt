@@ -1,5 +1,4 @@
 -- `image::reported` meets its contract.
--- Assumes nothing.
 use Rattle.paper.specs.Answers.{reported}
 use Rattle.lore.proofs.Choice.{ways}
 use borrow.Author.Needs.{needs}

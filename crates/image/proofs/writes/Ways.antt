@@ -1,5 +1,4 @@
 -- The ways through the rules on Writes, from the facts that the code has.
--- Assumes nothing.
 use Prim.Native.Nat.{ℕ, _+_, _-_, _/_, _^_, _<_, _≤_}
 use mathlib.Core.Bool.{Bool, true, false, cond}
 use mathlib.Core.List.{List}
@@ -83,11 +82,13 @@ module _ (o k held : ℕ) (image : List ℕ) (eh : held ≡ imageBytes (length i
   unfolding imageBytes
   take-held = rw eh (go (decLe k (length image - o)))
     where
-      go : Dec (k ≤ length image - o) → take (cond (leb k (length image - o)) k (length image - o)) (drop o image) ≡ take k (drop o image)
+      go : Dec (k ≤ length image - o)
+          → take (cond (leb k (length image - o)) k (length image - o)) (drop o image) ≡ take k (drop o image)
       go (yes l) = rw (le-leb k (length image - o) l)
       go (no l) =
           rw (lt-leb k (length image - o) (omega arith))
-          (take-all (length image - o) (drop o image) (omega (arith, length-drop o image)) ∙ sym (take-all k (drop o image) (omega (arith, length-drop o image))))
+          (take-all (length image - o) (drop o image) (omega (arith, length-drop o image))
+          ∙ sym (take-all k (drop o image) (omega (arith, length-drop o image))))
 
   pub part-none : held ≡ 0 → take 0 image ≡ part o k image
   unfolding imageBytes

@@ -1,5 +1,4 @@
 -- `log_feed::begun` meets its contract.
--- Assumes nothing.
 use Rattle.log_feed.proofs.Ways.{began}
 use borrow.Author.Needs.{needs}
 use Rattle.log_feed.proofs.begun.Statement.{statement}

@@ -1,5 +1,4 @@
 -- The ways through what the reader met, from the facts that the code has.
--- Assumes nothing.
 use Prim.Native.Nat.{ℕ}
 use mathlib.Core.Bool.{true, false, cond}
 use mathlib.Core.List.{List}
@@ -17,7 +16,8 @@ use Rattle.log_feed.specs.Events.{idle, logOf, lined, emptied, met}
 
 -- The end of a line.
 module _ (v : Replay) (r : Reader) (buf : List ℕ) (w : Log) where
-  module _ (x : Reader) (line : List ℕ) (u : Replay) (el : line ≡ take (r .len) buf) (ex : x ≡ idle) (ew : w ≡ logOf x u) where
+  module _ (x : Reader) (line : List ℕ) (u : Replay) (el : line ≡ take (r .len) buf) (ex : x ≡ idle)
+      (ew : w ≡ logOf x u) where
     pub first-line : v .stage ≡ First → u ≡ opens v line → w ≡ lined v r buf
     unfolding lined
     first-line s eu = ew ∙ rw (ex, eu, el, s)
@@ -58,7 +58,8 @@ module _ (v : Replay) (r : Reader) (buf : List ℕ) (w : Log) where
 
   pub first-empty : v .stage ≡ First → w ≡ lined v r buf → w ≡ emptied v r buf
   unfolding emptied
-  first-empty s ew = ew ∙ ap (λ (t : Stage). onStage t (lined v r buf) (cond (r .over) (logOf idle (stops v 22)) (logOf idle (takes v (take (r .len) buf)))) (λ k. logOf r v)) (sym s)
+  first-empty s ew = ew ∙ ap (λ (t : Stage). onStage t (lined v r buf)
+      (cond (r .over) (logOf idle (stops v 22)) (logOf idle (takes v (take (r .len) buf)))) (λ k. logOf r v)) (sym s)
 
   pub met-line : (e : Event) → e ≡ Line → w ≡ lined v r buf → w ≡ met v r e buf
   unfolding met

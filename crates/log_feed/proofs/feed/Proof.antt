@@ -1,5 +1,4 @@
 -- `log_feed::feed` meets its contract.
--- Assumes nothing.
 use borrow.Author.Needs.{needs}
 use mathlib.Core.Path.{_≡_}
 use lib.ListN.{length, drop}
@@ -10,7 +9,9 @@ use Rattle.log_feed.proofs.feed.Statement.{statement}
 use Rattle.log_feed.proofs.feed.Tie as tie
 
 abbrev Inv-loop : tie.InvT-loop
-Inv-loop bytes buf₀ w₀ i₀ buf w i = (i ≤ length bytes) × (length buf ≡ length buf₀) × (piece (record { log = w; bytes = buf }) (drop i bytes) ≡ piece (record { log = w₀; bytes = buf₀ }) bytes)
+Inv-loop bytes buf₀ w₀ i₀ buf w i =
+    (i ≤ length bytes) × (length buf ≡ length buf₀)
+    × (piece (record { log = w; bytes = buf }) (drop i bytes) ≡ piece (record { log = w₀; bytes = buf₀ }) bytes)
 
 abbrev μ-loop : tie.MeasureT-loop
 μ-loop bytes buf₀ w₀ i₀ buf w i = length bytes - i

@@ -1,5 +1,4 @@
 -- `log_feed::finish` meets its contract.
--- Assumes nothing.
 use Rattle.log_feed.proofs.Ways.{answered, left-bytes}
 use borrow.Author.Needs.{needs}
 use Rattle.log_feed.proofs.finish.Statement.{statement}

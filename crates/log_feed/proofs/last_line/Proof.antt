@@ -1,5 +1,4 @@
 -- `log_feed::last_line` meets its contract.
--- Assumes nothing.
 use Rattle.log_feed.proofs.Ways.{closed, no-line}
 use borrow.Author.Needs.{needs}
 use Rattle.log_feed.proofs.last_line.Statement.{statement}

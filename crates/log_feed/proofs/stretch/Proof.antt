@@ -1,5 +1,4 @@
 -- `log_feed::stretch` meets its contract.
--- Assumes nothing.
 use borrow.Author.Needs.{needs}
 use Rattle.log_feed.proofs.Ways.{no-stretch, stretched}
 use Rattle.log_feed.proofs.stretch.Statement.{statement}
@@ -30,4 +29,5 @@ returns-2 : tie.Need-returns-2
 returns-2 c = search (stretched, needs)
 
 pub stretch-spec : {M : Type 1} → statement M
-stretch-spec = tie.close (tie.spec is-ended-requires returns joins-requires feed-requires met-requires more-requires same-length returns-2)
+stretch-spec = tie.close (tie.spec is-ended-requires returns joins-requires feed-requires met-requires more-requires
+    same-length returns-2)

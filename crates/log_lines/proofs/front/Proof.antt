@@ -1,5 +1,4 @@
 -- `log_lines::front` meets its contract.
--- Assumes nothing.
 use Rattle.log_lines.proofs.Ways.{all-of}
 use mathlib.Core.Path.{sym}
 use lib.Seq.{length-take-le}

@@ -1,5 +1,4 @@
 -- `log_lines::taken` meets its contract.
--- Assumes nothing.
 use Rattle.log_lines.proofs.Ways.{lf-start, lf-even, lf-odd, half-start, half-even, whole, none}
 use borrow.Author.Needs.{needs}
 use Rattle.log_lines.proofs.taken.Statement.{statement}

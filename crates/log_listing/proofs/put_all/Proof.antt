@@ -1,5 +1,4 @@
 -- `log_listing::put_all` meets its contract.
--- Assumes nothing.
 use Rattle.log_listing.proofs.Ways.{text-wrote}
 use borrow.Author.Needs.{needs}
 use Rattle.log_listing.proofs.put_all.Statement.{statement}

@@ -1,5 +1,4 @@
 -- `log_listing::put_id` meets its contract.
--- Assumes nothing.
 use Rattle.ids.proofs.Laws.{id-fits, id-part}
 use Rattle.log_listing.proofs.Ways.{id-short, id-room, id-most, id-wrote}
 use borrow.Author.Needs.{needs}

@@ -1,5 +1,4 @@
 -- `log_listing::put_ids` meets its contract.
--- Assumes nothing.
 use borrow.Author.Needs.{needs}
 use mathlib.Core.Path.{_≡_}
 use Prim.Native.Nat.{_≤_, _-_, _*_}
@@ -11,7 +10,9 @@ use Rattle.log_listing.proofs.put_ids.Statement.{statement}
 use Rattle.log_listing.proofs.put_ids.Tie as tie
 
 abbrev Inv-loop : tie.InvT-loop
-Inv-loop found n out₀ at₀ i₀ out at i = (i ≤ n) × (at ≤ 33 * i) × (length out ≡ length out₀) × (record { len = at; bytes = out } ≡ placed (idLines (firstIds found i)) out₀)
+Inv-loop found n out₀ at₀ i₀ out at i =
+    (i ≤ n) × (at ≤ 33 * i) × (length out ≡ length out₀)
+    × (record { len = at; bytes = out } ≡ placed (idLines (firstIds found i)) out₀)
 
 abbrev μ-loop : tie.MeasureT-loop
 μ-loop found n out₀ at₀ i₀ out at i = n - i

@@ -1,5 +1,4 @@
 -- `log_listing::put_last` meets its contract.
--- Assumes nothing.
 use borrow.Author.Needs.{needs}
 use Rattle.log_listing.proofs.put_last.Statement.{statement}
 use Rattle.log_listing.proofs.put_last.Tie as tie

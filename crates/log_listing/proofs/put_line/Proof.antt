@@ -1,5 +1,4 @@
 -- `log_listing::put_line` meets its contract.
--- Assumes nothing.
 use Rattle.log_listing.proofs.Ways.{line-wrote}
 use borrow.Author.Needs.{needs}
 use Rattle.log_listing.proofs.put_line.Statement.{statement}

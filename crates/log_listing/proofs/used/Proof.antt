@@ -1,5 +1,4 @@
 -- `log_listing::used` meets its contract.
--- Assumes nothing.
 use borrow.Author.Needs.{needs}
 use Rattle.lore.proofs.Choice.{ways}
 use Rattle.log_listing.specs.Listing.{used}

@@ -1,5 +1,4 @@
 -- `log_run::asked` meets its contract.
--- Assumes nothing.
 use Rattle.log_run.proofs.Ways.{handed-out, asks-ended}
 use borrow.Author.Needs.{needs}
 use Rattle.log_run.proofs.asked.Statement.{statement}

@@ -1,5 +1,4 @@
 -- `log_run::begun` meets its contract.
--- Assumes nothing.
 use Rattle.log_run.proofs.Ways.{began}
 use borrow.Author.Needs.{needs}
 use Rattle.log_run.proofs.begun.Statement.{statement}

@@ -1,5 +1,4 @@
 -- `log_run::code` meets its contract.
--- Assumes nothing.
 use Rattle.log_run.proofs.Ways.{code-refused}
 use borrow.Author.Needs.{needs}
 use Rattle.log_run.proofs.code.Statement.{statement}

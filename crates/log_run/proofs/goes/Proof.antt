@@ -1,5 +1,4 @@
 -- `log_run::goes` meets its contract.
--- Assumes nothing.
 use Rattle.log_run.proofs.Ways.{after-onward, after-end}
 use borrow.Author.Needs.{needs}
 use Rattle.log_run.proofs.goes.Statement.{statement}

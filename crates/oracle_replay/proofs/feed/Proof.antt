@@ -1,5 +1,4 @@
 -- `oracle_replay::feed` meets its contract.
--- Assumes nothing.
 use Prim.Native.Nat.{_-_}
 use mathlib.Core.Path.{_≡_}
 use lib.ListN.{length}

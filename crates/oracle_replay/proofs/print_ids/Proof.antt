@@ -1,5 +1,4 @@
 -- `oracle_replay::print_ids` meets its contract.
--- Assumes nothing.
 use Prim.Native.Nat.{_-_}
 use borrow.Author.Needs.{needs}
 use Rattle.oracle_replay.proofs.print_ids.Statement.{statement}

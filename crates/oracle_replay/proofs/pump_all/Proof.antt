@@ -1,5 +1,4 @@
 -- `oracle_replay::pump_all` meets its contract.
--- Assumes nothing.
 use mathlib.Core.Path.{_≡_}
 use lib.ListN.{length}
 use borrow.Author.Needs.{needs}
@@ -7,7 +6,8 @@ use Rattle.oracle_replay.proofs.pump_all.Statement.{statement}
 use Rattle.oracle_replay.proofs.pump_all.Tie as tie
 
 abbrev Inv-loop : tie.InvT-loop
-Inv-loop page₀ buf₀ image₀ state₀ turns₀ page buf image state turns = (length page ≡ length page₀) × (length buf ≡ length buf₀) × (length image ≡ length image₀)
+Inv-loop page₀ buf₀ image₀ state₀ turns₀ page buf image state turns =
+    (length page ≡ length page₀) × (length buf ≡ length buf₀) × (length image ≡ length image₀)
 
 abbrev μ-loop : tie.MeasureT-loop
 μ-loop page₀ buf₀ image₀ state₀ turns₀ page buf image state turns = turns

@@ -1,5 +1,4 @@
 -- `reader::fields` meets its contract.
--- Assumes nothing.
 use Rattle.reader.proofs.Ways.{fields-read}
 use borrow.Author.Needs.{needs}
 use Rattle.reader.proofs.fields.Statement.{statement}

@@ -1,5 +1,4 @@
 -- `reader::read` meets its contract.
--- Assumes nothing.
 use Rattle.reader.proofs.Ways.{read-from, read-past}
 use borrow.Author.Needs.{needs}
 use Rattle.reader.proofs.read.Statement.{statement}

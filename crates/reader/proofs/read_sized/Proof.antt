@@ -1,5 +1,4 @@
 -- `reader::read_sized` meets its contract.
--- Assumes nothing.
 use Rattle.reader.proofs.Ways.{read-whole, read-bad}
 use Rattle.lore.proofs.Choice.{ways}
 use Rattle.paper.specs.Frame.{readSized}

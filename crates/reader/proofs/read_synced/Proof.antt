@@ -1,5 +1,4 @@
 -- `reader::read_synced` meets its contract.
--- Assumes nothing.
 use Rattle.reader.proofs.Ways.{read-sized}
 use Rattle.lore.proofs.Choice.{ways}
 use Rattle.paper.specs.Frame.{readSynced}

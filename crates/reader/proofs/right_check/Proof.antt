@@ -1,5 +1,4 @@
 -- `reader::right_check` meets its contract.
--- Assumes nothing.
 use native.Mathlib.Omega.{arith}
 use lib.ListN.{length-take}
 use Rattle.reader.proofs.Ways.{checked}

@@ -1,5 +1,4 @@
 -- The code's answers, read as document 01's, are what the machine says.
--- Assumes nothing.
 use Prim.Native.Nat.{ℕ, _≤_}
 use mathlib.Core.Bool.{Bool, true, false, cond}
 use mathlib.Core.List.{List, [], _∷_, map}
@@ -13,13 +12,15 @@ use Rattle.paper.specs.Hearing as Paper
 use Rattle.paper.specs.Flash.{keys}
 use Rattle.paper.specs.Frame.{Info}
 use Rattle.paper.specs.Hearing.{nothing, one, unaddressed, garble, onSome}
-use Rattle.paper.specs.Talk.{Answer, Outcome, quiet, heard, attached, found, knows}
+use Rattle.paper.specs.Talk.{AnswerTo, Outcome, quiet, heard, attached, found, knows}
 use Rattle.paper.specs.Walk.{long, done, stopped}
 use Rattle.theory.specs.WalkMachine as Walk
 use Rattle.theory.specs.WalkMachine.{State, asked, mine, other, leaving, going, ended}
 use Rattle.theory.specs.ClientMachine.{Brief}
 use Rattle.theory.specs.OperationMachine as Phases
-use Rattle.theory.specs.OperationMachine.{Search, probing, parting, seeking, backing, walking, Phase, selecting, demanding, leaving, Then, to, ends, refuses, unlessLong, sought, walked, hears, step}
+use Rattle.theory.specs.OperationMachine.{Search, probing, parting, seeking, backing, walking, Phase, selecting}
+use Rattle.theory.specs.OperationMachine.{demanding, leaving, Then, to, ends, refuses, unlessLong, sought, walked}
+use Rattle.theory.specs.OperationMachine.{hears, step}
 use Rattle.theory.proofs.walk.StepEnds.{Undone, Staying, step-undone}
 use Rattle.theory.proofs.walk.StatesFit.{Short, FitsNext, step-fits}
 use Rattle.theory.proofs.client.ClientsFit.{FitsSearch, FitsPhase, FitsOutcome}
@@ -165,7 +166,8 @@ unfolding saysOf endOf heardFrom progressOf
 outcome-read quiet f = quiet-read none
 outcome-read (heard nothing) f = refl
 outcome-read (heard (one x)) f =
-    ap (λ (r : Hearing). over none (heard (heardFrom (r .heard) (r .id)))) (told x f) ∙ ap (λ (y : Paper.Id). over none (heard (one y))) (id-of-from x (short-of x f))
+    ap (λ (r : Hearing). over none (heard (heardFrom (r .heard) (r .id)))) (told x f)
+    ∙ ap (λ (y : Paper.Id). over none (heard (one y))) (id-of-from x (short-of x f))
 outcome-read (heard unaddressed) f = refl
 outcome-read (heard garble) f = refl
 outcome-read (attached none) f = refl
@@ -179,14 +181,16 @@ ReadableThen p (to ph) = Unit {0}
 ReadableThen p (ends o) = Readable (over p o)
 ReadableThen p (refuses n carries) = Readable (refused n carries)
 
-refuseIf-read : (h : Paper.Heard) (t : Then) → (long h ≡ false → ReadableThen none t) → ReadableThen none (unlessLong h t)
+refuseIf-read : (h : Paper.Heard) (t : Then) → (long h ≡ false → ReadableThen none t)
+    → ReadableThen none (unlessLong h t)
 refuseIf-read h t f = go (long h) refl
   where
     go : (b : Bool) → long h ≡ b → ReadableThen none (cond b (refuses 14 []) t)
     go true e = long-read
     go false e = f e
 
-sought-read : (uid : Option Paper.Id) → Brief uid → (h : Paper.Heard) → long h ≡ false → ReadableThen none (sought uid h)
+sought-read : (uid : Option Paper.Id) → Brief uid → (h : Paper.Heard) → long h ≡ false
+    → ReadableThen none (sought uid h)
 unfolding sought
 sought-read none b nothing e = none-read
 sought-read (some x) b nothing e = missing-read x b
@@ -219,7 +223,8 @@ step-stops s h = go (s .phase)
     at p = record { pre = s .pre; marks = s .marks; ids = s .ids; phase = p }
 
     asks : (p : Walk.Phase) → Staying p → Stops (Walk.step (at p) h)
-    asks p a = undone-stops (Walk.step (at p) h) (step-undone (λ n. Readable (refused n [])) deep-read long-read full-read unaddressed-read (at p) h a)
+    asks p a = undone-stops (Walk.step (at p) h)
+        (step-undone (λ n. Readable (refused n [])) deep-read long-read full-read unaddressed-read (at p) h a)
 
     go : (p : Walk.Phase) → Stops (Walk.step (at p) h)
     go asked = asks asked tt
@@ -236,7 +241,8 @@ search-read (backing none) f h = several-read
 search-read (backing (some x)) f h = ambiguous-read x f
 search-read (walking s) f h = walked-read (Walk.step s h) (step-fits s h f) (step-stops s h)
 
--- What a job leads to: P of the phase that follows, or an end that is read as it was said, whatever progress is made with it.
+-- What a job leads to: P of the phase that follows, or an end that is read as it was said, whatever progress is made
+-- with it.
 abbrev pub Reads : (Phase → Type 0) → Then → Type 0
 Reads P (to ph) = P ph
 Reads P (ends o) = (p : Option (ℕ × ℕ)) → Readable (over p o)
@@ -257,10 +263,12 @@ job-ends P = record {
 }
 
 -- Whatever a phase that fits is answered.
-pub phase-read : (ph : Phase) → FitsPhase ph → (a : Answer (Phases.request ph)) → ReadableThen (step ph a .progress) (step ph a .then)
+pub phase-read : (ph : Phase) → FitsPhase ph → (a : AnswerTo (Phases.request ph))
+    → ReadableThen (step ph a .progress) (step ph a .then)
 unfolding step
 phase-read (selecting s) f h = search-read s f h
-phase-read (demanding j) f a = go (step (demanding j) a .then) (told-leads _ (job-ends (λ k. Unit {0})) j (λ k w. tt) (a .reply) (a .image))
+phase-read (demanding j) f a =
+    go (step (demanding j) a .then) (told-leads _ (job-ends (λ k. Unit {0})) j (λ k w. tt) (a .reply) (a .image))
   where
     go : (t : Then) → Reads (λ k. Unit {0}) t → ReadableThen (step (demanding j) a .progress) t
     go (to ph) r = tt

@@ -1,5 +1,4 @@
 -- The driven client is document 01's conversation: every answer, whatever is called and in whatever order.
--- Assumes nothing.
 use Prim.Native.Nat.{ℕ, _*_}
 use mathlib.Core.Bool.{Bool, true, false, _&&_, cond}
 use mathlib.Core.List.{List, [], _∷_, _++_}
@@ -10,19 +9,30 @@ use lib.Dec.{leb, ltb}
 use lib.ListN.{length, drop}
 use Rattle.lore.proofs.Choice.{either}
 use Rattle.paper.specs.Client as Paper
-use Rattle.paper.specs.Client.{Says, short, otherLength, bytesOf, handing, seedAfter, reading, place, cleared}
+use Rattle.paper.specs.Client.{Says, withinLongest, otherLength, bytesOf, handing, seedAfter, reading, place, cleared}
 use Rattle.paper.specs.Count.{All}
 use Rattle.paper.specs.Hearing.{Id, bitsOf, onSome}
-use Rattle.paper.specs.Talk.{Ask, select, demand, leave, Answer}
+use Rattle.paper.specs.Talk.{Ask, select, demand, leave, AnswerTo}
 use Rattle.paper.proofs.Words.{Bytes}
 use Rattle.theory.specs.OperationMachine as Phases
-use Rattle.theory.specs.OperationMachine.{probing, parting, seeking, walking, tell, clear, load, informing, Phase, selecting, demanding, Then, to, ends, refuses, step, starting}
+use Rattle.theory.specs.OperationMachine.{probing, parting, seeking, walking, tell, clear, load, informing, Phase}
+use Rattle.theory.specs.OperationMachine.{selecting, demanding, Then, to, ends, refuses, step, starting}
 use Rattle.theory.specs.ClientMachine as Machine
-use Rattle.theory.specs.ClientMachine.{Brief, Turn, idle, ready, waiting, turned, lends, settle, unchanged, fails, resets, handedOut, grant}
-use Rattle.theory.proofs.client.ClientsFit.{FitsTurn, Fits, turn-sound, fresh-fits, startSelect-fits, startDeselect-fits, startAttach-fits, startDiscover-fits, startInfo-fits, startErase-fits, startFlash-fits, startReset-fits, startSetBaud-fits, request-fits, record-fits, linkFailed-fits}
+use Rattle.theory.specs.ClientMachine.{Brief, Turn, idle, ready, waiting, turned, lends, settle, unchanged, fails}
+use Rattle.theory.specs.ClientMachine.{resets, handedOut, grant}
+use Rattle.theory.proofs.client.ClientsFit.{FitsTurn, Fits, turn-sound, fresh-fits, startSelect-fits}
+use Rattle.theory.proofs.client.ClientsFit.{startDeselect-fits, startAttach-fits, startDiscover-fits, startInfo-fits}
+use Rattle.theory.proofs.client.ClientsFit.{startErase-fits, startFlash-fits, startReset-fits, startSetBaud-fits}
+use Rattle.theory.proofs.client.ClientsFit.{request-fits, record-fits, linkFailed-fits}
 use Rattle.theory.proofs.walk.CarriedIds.{heard-bytes}
-use Rattle.theory.proofs.client.HeldIds.{Holds, fresh-holds, startSelect-holds, startDeselect-holds, startAttach-holds, startDiscover-holds, startInfo-holds, startErase-holds, startFlash-holds, startReset-holds, startSetBaud-holds, request-holds, record-holds, linkFailed-holds}
-use Rattle.theory.proofs.client.MachineIsClient.{paperOf, fresh-sim, startSelect-sim, startDeselect-sim, startAttach-sim, startDiscover-sim, startInfo-sim, startErase-sim, startFlash-sim, startReset-sim, startSetBaud-sim, request-sim, record-sim, linkFailed-sim}
+use Rattle.theory.proofs.client.HeldIds.{Holds, fresh-holds, startSelect-holds, startDeselect-holds, startAttach-holds}
+use Rattle.theory.proofs.client.HeldIds.{startDiscover-holds, startInfo-holds, startErase-holds, startFlash-holds}
+use Rattle.theory.proofs.client.HeldIds.{startReset-holds, startSetBaud-holds, request-holds, record-holds}
+use Rattle.theory.proofs.client.HeldIds.{linkFailed-holds}
+use Rattle.theory.proofs.client.MachineIsClient.{paperOf, fresh-sim, startSelect-sim, startDeselect-sim}
+use Rattle.theory.proofs.client.MachineIsClient.{startAttach-sim, startDiscover-sim, startInfo-sim, startErase-sim}
+use Rattle.theory.proofs.client.MachineIsClient.{startFlash-sim, startReset-sim, startSetBaud-sim, request-sim}
+use Rattle.theory.proofs.client.MachineIsClient.{record-sim, linkFailed-sim}
 use Rattle.ids.specs.Ids.{noId}
 use Rattle.walk_table.specs.Rows.{noTable}
 use Rattle.ids.proofs.Laws.{id-of-from}
@@ -30,15 +40,21 @@ use Rattle.walk.specs.Moves.{noWalk}
 use Rattle.client.specs.declared.Client.{Client}
 use Rattle.client.specs.declared.Progress.the-variants.{None}
 use Rattle.client.specs.declared.Turn.the-variants.{Idle}
-use Rattle.client.specs.Clients as Code₂
-use Rattle.client_request.specs.Request as Code₃
-use Rattle.client_record.specs.Record as Code₄
+use Rattle.client.specs.Clients as CodeClients
+use Rattle.client_request.specs.Request as CodeRequest
+use Rattle.client_record.specs.Record as CodeRecord
 use Rattle.client.specs.Numbers.{numberOf, carriedBy, progressOf, saysOf}
 use Rattle.refinement.specs.ClientRecord.{clientOf, refusedAs, shownSays, startedAs, toldAs, askedAs}
-use Rattle.refinement.specs.Calls.{Call, startSelect, startDeselect, startAttach, startDiscover, startInfo, startErase, startFlash, startReset, startSetBaud, request, record′, linkFailed, Good, Reply, saidBy, askedOf, paperCall, startedBy, askedBy, toldBy, codeCall, attachedTo, paperAnswer, codeAnswer, paperAnswers, codeAnswers, reached, Rests}
-use Rattle.refinement.proofs.client.AnswersRead.{Readable, ReadableThen, io-read, image-read, turn-read, onward-read, phase-read}
+use Rattle.refinement.specs.Calls.{Call, startSelect, startDeselect, startAttach, startDiscover, startInfo}
+use Rattle.refinement.specs.Calls.{startErase, startFlash, startReset, startSetBaud, request, record′, linkFailed}
+use Rattle.refinement.specs.Calls.{Good, Reply, saidBy, askedOf, paperCall, startedBy, askedBy, toldBy, codeCall}
+use Rattle.refinement.specs.Calls.{attachedTo, paperAnswer, codeAnswer, paperAnswers, codeAnswers, reached, Rests}
+use Rattle.refinement.proofs.client.AnswersRead.{Readable, ReadableThen, io-read, image-read, turn-read}
+use Rattle.refinement.proofs.client.AnswersRead.{onward-read, phase-read}
 use Rattle.refinement.proofs.client.RequestBytes.{request-asked}
-use Rattle.refinement.proofs.client.Starts.{select-started, deselect-started, attach-started, attach-to-started, discover-started, info-started, erase-started, flash-started, reset-started, baud-started}
+use Rattle.refinement.proofs.client.Starts.{select-started, deselect-started, attach-started, attach-to-started}
+use Rattle.refinement.proofs.client.Starts.{discover-started, info-started, erase-started, flash-started}
+use Rattle.refinement.proofs.client.Starts.{reset-started, baud-started}
 use Rattle.refinement.proofs.client.RecordAnswers.{record-told, failed-told}
 
 -- The machine's answer to a call, and its client after it.
@@ -84,11 +100,13 @@ paper-call c f (record′ image bytes) = ap saidBy (record-sim c (turn-sound (c 
 paper-call c f linkFailed = ap saidBy (linkFailed-sim c)
 
 -- The starts' answers, read.
-pub started-read : (c : Machine.Client) (good : Bool) (ph : Phase) → startedBy (startedAs (Machine.start c good ph)) ≡ inCode (settledBy (Machine.start c good ph))
+pub started-read : (c : Machine.Client) (good : Bool) (ph : Phase)
+    → startedBy (startedAs (Machine.start c good ph)) ≡ inCode (settledBy (Machine.start c good ph))
 unfolding Machine.start settle refusedAs saysOf numberOf carriedBy progressOf
 started-read c good ph = go (c .turn) good
   where
-    go : (t : Turn) (b : Bool) → startedBy (startedAs (Machine.start (turned c t) b ph)) ≡ inCode (settledBy (Machine.start (turned c t) b ph))
+    go : (t : Turn) (b : Bool) → startedBy (startedAs (Machine.start (turned c t) b ph))
+        ≡ inCode (settledBy (Machine.start (turned c t) b ph))
     go idle true = refl
     go idle false = refl
     go (ready p) b = refl
@@ -101,7 +119,8 @@ handing-read (select p) n = refl
 handing-read (demand d) n = refl
 handing-read (leave d) n = refl
 
-asked-read : (c : Machine.Client) (image buffer : List ℕ) → askedBy (askedAs (Machine.request c image buffer)) ≡ inCode (handedBy (Machine.request c image buffer))
+asked-read : (c : Machine.Client) (image buffer : List ℕ)
+    → askedBy (askedAs (Machine.request c image buffer)) ≡ inCode (handedBy (Machine.request c image buffer))
 unfolding Machine.request grant refusedAs saysOf numberOf carriedBy
 asked-read c image buffer = go (c .turn)
   where
@@ -110,8 +129,13 @@ asked-read c image buffer = go (c .turn)
 
     go : (t : Turn) → Read (Machine.request (turned c t) image buffer)
     go idle = refl
-    go (ready ph) = either Read (otherLength (lends ph) image) refl (either Read (ltb (length buffer) (length bytes)) refl
-        (ap (λ (s : Says). (record { says = s; rest = 0; buffer = bytes ++ drop (length bytes) buffer }, clientOf (record { seed = seedAfter (Phases.request ph) (c .seed); id = c .id; turn = handedOut ph })))
+    go (ready ph) = either Read (otherLength (lends ph) image) refl
+        (either Read (ltb (length buffer) (length bytes)) refl
+        (ap (λ (s : Says). (
+          record { says = s; rest = 0; buffer = bytes ++ drop (length bytes) buffer },
+          clientOf
+              (record { seed = seedAfter (Phases.request ph) (c .seed); id = c .id; turn = handedOut ph }),
+        ))
         (handing-read (Phases.request ph) (length bytes))))
       where
         bytes : List ℕ
@@ -122,7 +146,8 @@ asked-read c image buffer = go (c .turn)
 said : (t : Machine.Told) → Readable (t .says) → toldBy (toldAs t) ≡ inCode (settledBy t)
 said t r = ap (λ (s : Says). (record { says = s; rest = t .rest; buffer = [] }, clientOf (t .client))) r
 
-settle-read : (c : Machine.Client) (p : Option (ℕ × ℕ)) (t : Then) (at : ℕ) → ReadableThen p t → Readable (settle c p t at .says)
+settle-read : (c : Machine.Client) (p : Option (ℕ × ℕ)) (t : Then) (at : ℕ) → ReadableThen p t
+    → Readable (settle c p t at .says)
 unfolding settle
 settle-read c p (to ph) at r = onward-read p
 settle-read c p (ends o) at r = r
@@ -137,12 +162,15 @@ record-read c f image bytes = go (c .turn) (f .turn)
     go (ready ph) w = turn-read
     go (waiting ph) w = lent (otherLength (lends ph) image) (reading (Phases.request ph) image bytes)
       where
-        lent : (b : Bool) (o : Option (Answer (Phases.request ph)))
-            → Readable (cond b (unchanged (turned c (waiting ph)) 20 []) (onSome o (fails (turned c (waiting ph)) (place (Phases.request ph) bytes))
-            (λ a. settle (record { seed = c .seed; id = cleared (Phases.request ph) (c .id); turn = waiting ph }) (step ph a .progress) (step ph a .then) (place (Phases.request ph) bytes))) .says)
+        lent : (b : Bool) (o : Option (AnswerTo (Phases.request ph)))
+            → Readable (cond b (unchanged (turned c (waiting ph)) 20 [])
+            (onSome o (fails (turned c (waiting ph)) (place (Phases.request ph) bytes))
+            (λ a. settle (record { seed = c .seed; id = cleared (Phases.request ph) (c .id); turn = waiting ph })
+            (step ph a .progress) (step ph a .then) (place (Phases.request ph) bytes))) .says)
         lent true o = image-read
         lent false none = io-read
-        lent false (some a) = settle-read _ (step ph a .progress) (step ph a .then) (place (Phases.request ph) bytes) (phase-read ph w a)
+        lent false (some a) = settle-read _ (step ph a .progress) (step ph a .then) (place (Phases.request ph) bytes)
+            (phase-read ph w a)
 
 failed-read : (c : Machine.Client) → Readable (Machine.linkFailed c .says)
 unfolding Machine.linkFailed
@@ -154,27 +182,42 @@ failed-read c = go (c .turn)
     go (waiting ph) = io-read
 
 -- The calls of a round, read: of a request, a record and a failed link nothing is asked.
-pub request-call : (c : Machine.Client) → Fits c → (image buffer : List ℕ) → askedBy (Code₃.request (clientOf c) image buffer) ≡ inCode (handedBy (Machine.request c image buffer))
+pub request-call : (c : Machine.Client) → Fits c → (image buffer : List ℕ)
+    → askedBy (CodeRequest.request (clientOf c) image buffer) ≡ inCode (handedBy (Machine.request c image buffer))
 request-call c f image buffer = ap askedBy (request-asked c f image buffer) ∙ asked-read c image buffer
 
-pub record-call : (c : Machine.Client) → Fits c → (image bytes : List ℕ) → toldBy (Code₄.record′ (clientOf c) image bytes) ≡ inCode (settledBy (Machine.record′ c image bytes))
-record-call c f image bytes = ap toldBy (record-told c f image bytes) ∙ said (Machine.record′ c image bytes) (record-read c f image bytes)
+pub record-call : (c : Machine.Client) → Fits c → (image bytes : List ℕ)
+    → toldBy (CodeRecord.record′ (clientOf c) image bytes) ≡ inCode (settledBy (Machine.record′ c image bytes))
+record-call c f image bytes = ap toldBy (record-told c f image bytes)
+    ∙ said (Machine.record′ c image bytes) (record-read c f image bytes)
 
-pub failed-call : (c : Machine.Client) → toldBy (Code₄.linkFailed (clientOf c)) ≡ inCode (settledBy (Machine.linkFailed c))
+pub failed-call : (c : Machine.Client)
+    → toldBy (CodeRecord.linkFailed (clientOf c)) ≡ inCode (settledBy (Machine.linkFailed c))
 failed-call c = ap toldBy (failed-told c) ∙ said (Machine.linkFailed c) (failed-read c)
 
-code-call : (c : Machine.Client) → Fits c → (call : Call) → Good call → codeCall (clientOf c) call ≡ inCode (machineCall c call)
-unfolding codeCall machineCall Machine.startSelect Machine.startDeselect Machine.startAttach Machine.startDiscover Machine.startInfo Machine.startErase Machine.startFlash Machine.startReset Machine.startSetBaud
-code-call c f (startSelect bytes bits) g = ap startedBy (select-started c bytes bits) ∙ started-read c (short bytes && (leb bits 128 && leb bits (8 * length bytes))) (selecting (probing bytes bits))
+code-call : (c : Machine.Client) → Fits c → (call : Call) → Good call
+    → codeCall (clientOf c) call ≡ inCode (machineCall c call)
+unfolding codeCall machineCall Machine.startSelect Machine.startDeselect Machine.startAttach Machine.startDiscover
+    Machine.startInfo Machine.startErase Machine.startFlash Machine.startReset Machine.startSetBaud
+code-call c f (startSelect bytes bits) g =
+    ap startedBy (select-started c bytes bits)
+    ∙ started-read c (withinLongest bytes && (leb bits 128 && leb bits (8 * length bytes)))
+    (selecting (probing bytes bits))
 code-call c f startDeselect g = ap startedBy (deselect-started c) ∙ started-read c true (selecting parting)
 code-call c f (startAttach none) g = ap startedBy (attach-started c) ∙ started-read c true (selecting (seeking none))
-code-call c f (startAttach (some given)) g = ap startedBy (attach-to-started c given) ∙ started-read c (short given) (selecting (seeking (some given)))
-code-call c f (startDiscover given) g = ap startedBy (discover-started c given g) ∙ started-read c (short given) (selecting (walking (starting (bitsOf given))))
+code-call c f (startAttach (some given)) g =
+    ap startedBy (attach-to-started c given) ∙ started-read c (withinLongest given) (selecting (seeking (some given)))
+code-call c f (startDiscover given) g =
+    ap startedBy (discover-started c given g)
+    ∙ started-read c (withinLongest given) (selecting (walking (starting (bitsOf given))))
 code-call c f startInfo g = ap startedBy (info-started c) ∙ started-read c true (demanding (informing tell))
 code-call c f startErase g = ap startedBy (erase-started c) ∙ started-read c true (demanding (informing clear))
-code-call c f (startFlash image) g = ap startedBy (flash-started c image) ∙ started-read c true (demanding (informing (load (length image))))
-code-call c f (startReset bootloader inBoot) g = ap startedBy (reset-started c bootloader inBoot) ∙ started-read c true (resets bootloader none inBoot)
-code-call c f (startSetBaud baud bootloader inBoot) g = ap startedBy (baud-started c baud bootloader inBoot) ∙ started-read c true (resets bootloader (some baud) inBoot)
+code-call c f (startFlash image) g =
+    ap startedBy (flash-started c image) ∙ started-read c true (demanding (informing (load (length image))))
+code-call c f (startReset bootloader inBoot) g =
+    ap startedBy (reset-started c bootloader inBoot) ∙ started-read c true (resets bootloader none inBoot)
+code-call c f (startSetBaud baud bootloader inBoot) g =
+    ap startedBy (baud-started c baud bootloader inBoot) ∙ started-read c true (resets bootloader (some baud) inBoot)
 code-call c f (request image buffer) g = request-call c f image buffer
 code-call c f (record′ image bytes) g = record-call c f image bytes
 code-call c f linkFailed g = failed-call c
@@ -233,7 +276,8 @@ same-answer : (r : Reply) (c : Machine.Client) → Fits c → codeAnswer (inCode
 unfolding paperOf
 same-answer r c f = λ i. record { reply = r; seed = seed-of c i; id = attached-back c f i }
 
-agrees : (c : Machine.Client) → Fits c → (calls : List Call) → All Good calls → codeAnswers (clientOf c) calls ≡ paperAnswers (paperOf c) calls
+agrees : (c : Machine.Client) → Fits c → (calls : List Call) → All Good calls
+    → codeAnswers (clientOf c) calls ≡ paperAnswers (paperOf c) calls
 unfolding codeAnswers paperAnswers
 agrees c f [] g = refl
 agrees c f (call ∷ calls) g =
@@ -248,12 +292,13 @@ agrees c f (call ∷ calls) g =
     answer = same-answer ((machineCall c call) .0) after (call-fits c f call)
 
 -- A new client is document 01's.
-pub new-client : Code₂.fresh ≡ clientOf Machine.fresh
-unfolding Code₂.fresh Machine.fresh
+pub new-client : CodeClients.fresh ≡ clientOf Machine.fresh
+unfolding CodeClients.fresh Machine.fresh
 new-client = refl
 
 -- Every answer of the code is document 01's: link failures and calls out of turn included.
-pub calls-agree : (calls : List Call) → All Good calls → codeAnswers Code₂.fresh calls ≡ paperAnswers Paper.fresh calls
+pub calls-agree : (calls : List Call) → All Good calls
+    → codeAnswers CodeClients.fresh calls ≡ paperAnswers Paper.fresh calls
 calls-agree calls g = rw (new-client, ← fresh-sim) (agrees Machine.fresh fresh-fits calls g)
 
 -- A client that calls lead to.
@@ -263,10 +308,13 @@ record Reached (d : Client) : Type 0 where
   bytes : Holds Bytes machine
   client : d ≡ clientOf machine
 
-reaches : (c : Machine.Client) → Fits c → Holds Bytes c → (calls : List Call) → All Good calls → Reached (reached (clientOf c) calls)
+reaches : (c : Machine.Client) → Fits c → Holds Bytes c → (calls : List Call) → All Good calls
+    → Reached (reached (clientOf c) calls)
 unfolding reached
 reaches c f b [] g = record { machine = c; fits = f; bytes = b; client = refl }
-reaches c f b (call ∷ calls) g = rw (code-call c f call (g .0)) (reaches ((machineCall c call) .1) (call-fits c f call) (call-bytes c b call (g .0)) calls (g .1))
+reaches c f b (call ∷ calls) g =
+    rw (code-call c f call (g .0))
+    (reaches ((machineCall c call) .1) (call-fits c f call) (call-bytes c b call (g .0)) calls (g .1))
 
 idle-is : (c : Machine.Client) → Fits c → Holds Bytes c → clientOf c .turn ≡ Idle → Rests (clientOf c)
 idle-is c f b e = go (c .turn) e
@@ -277,23 +325,30 @@ idle-is c f b e = go (c .turn) e
     go (waiting ph) e = absurd (let z : _≡_ {A = ℕ} 0 1 = cc in omega arith)
 
 -- Whatever was called before: a client with no operation is of a seed and an attached id or none, and nothing else.
-pub idle-rests : (calls : List Call) → All Good calls → reached Code₂.fresh calls .turn ≡ Idle → Rests (reached Code₂.fresh calls)
+pub idle-rests : (calls : List Call) → All Good calls → reached CodeClients.fresh calls .turn ≡ Idle
+    → Rests (reached CodeClients.fresh calls)
 idle-rests calls g e = rw (r .client) (idle-is (r .machine) (r .fits) (r .bytes) (rw (r .client) at e))
   where
-    r : Reached (reached Code₂.fresh calls)
+    r : Reached (reached CodeClients.fresh calls)
     r = rw new-client (reaches Machine.fresh fresh-fits (fresh-holds Bytes) calls g)
 
-rests-idle : (d : Client) → Rests d → d ≡ Code₂.idle d
-unfolding Code₂.idle
+rests-idle : (d : Client) → Rests d → d ≡ CodeClients.idle d
+unfolding CodeClients.idle
 rests-idle d r = rw (r .client)
 
-same-idle : (c d : Client) → c .seed ≡ d .seed → Code₂.attached c ≡ Code₂.attached d → Code₂.idle c ≡ Code₂.idle d
-unfolding Code₂.idle Code₂.attached
-same-idle c d s a = λ i. record { seed = s i; attached = a i .any; id = a i .id; turn = Idle; prefix = noId; bits = 0; walk = noWalk }
+same-idle : (c d : Client) → c .seed ≡ d .seed → CodeClients.attached c ≡ CodeClients.attached d
+    → CodeClients.idle c ≡ CodeClients.idle d
+unfolding CodeClients.idle CodeClients.attached
+same-idle c d s a = λ i. record
+    { seed = s i; attached = a i .any; id = a i .id; turn = Idle; prefix = noId; bits = 0; walk = noWalk }
 
 -- So two such clients of one seed and attached id are equal.
-pub idle-canonical : (xs ys : List Call) → All Good xs → All Good ys → reached Code₂.fresh xs .turn ≡ Idle → reached Code₂.fresh ys .turn ≡ Idle
-    → reached Code₂.fresh xs .seed ≡ reached Code₂.fresh ys .seed → Code₂.attached (reached Code₂.fresh xs) ≡ Code₂.attached (reached Code₂.fresh ys)
-    → reached Code₂.fresh xs ≡ reached Code₂.fresh ys
+pub idle-canonical : (xs ys : List Call) → All Good xs → All Good ys → reached CodeClients.fresh xs .turn ≡ Idle
+    → reached CodeClients.fresh ys .turn ≡ Idle
+    → reached CodeClients.fresh xs .seed ≡ reached CodeClients.fresh ys .seed
+    → CodeClients.attached (reached CodeClients.fresh xs) ≡ CodeClients.attached (reached CodeClients.fresh ys)
+    → reached CodeClients.fresh xs ≡ reached CodeClients.fresh ys
 idle-canonical xs ys g h e f s a =
-    rests-idle (reached Code₂.fresh xs) (idle-rests xs g e) ∙ same-idle (reached Code₂.fresh xs) (reached Code₂.fresh ys) s a ∙ sym (rests-idle (reached Code₂.fresh ys) (idle-rests ys h f))
+    rests-idle (reached CodeClients.fresh xs) (idle-rests xs g e)
+    ∙ same-idle (reached CodeClients.fresh xs) (reached CodeClients.fresh ys) s a
+    ∙ sym (rests-idle (reached CodeClients.fresh ys) (idle-rests ys h f))

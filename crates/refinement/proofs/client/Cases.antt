@@ -1,5 +1,4 @@
 -- Cases: of a turn, and of what a call says.
--- Assumes nothing.
 use mathlib.Core.Bool.{Bool, true, false}
 use mathlib.Core.Path.{_≡_, ap}
 use Rattle.lore.proofs.Choice.{clash}
@@ -12,7 +11,8 @@ use Rattle.client.specs.declared.Turn.the-variants.{Idle, Ready, Waiting}
 use Rattle.client.specs.Clients.{onTurn}
 
 -- What holds at each turn holds at any.
-pub each-turn : {A : Type 0} (P : Turn → A → Type 0) (t : Turn) {a : A} {f g : Phase → A} → P Idle a → ((p : Phase) → P (Ready p) (f p)) → ((p : Phase) → P (Waiting p) (g p))
+pub each-turn : {A : Type 0} (P : Turn → A → Type 0) (t : Turn) {a : A} {f g : Phase → A} → P Idle a
+    → ((p : Phase) → P (Ready p) (f p)) → ((p : Phase) → P (Waiting p) (g p))
     → P t (onTurn t a f g)
 each-turn P Idle i r w = i
 each-turn P (Ready p) i r w = r p

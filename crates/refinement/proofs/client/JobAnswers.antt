@@ -1,5 +1,4 @@
 -- What the code makes of the one answer to a job's request, and of the image lent with it, is what the machine does.
--- Assumes nothing.
 use Prim.Native.Nat.{ℕ, suc, _+_, _-_}
 use mathlib.Core.Bool.{Bool, true, false, cond}
 use mathlib.Core.List.{List, [], _∷_}
@@ -10,13 +9,16 @@ use lib.Dec.{leb, ltb, eqb}
 use lib.ListN.{length}
 use borrow.Author.Tests.{ltb-true, ltb-false, eqb-true, not-false}
 use Rattle.paper.specs.Answers as Paper
-use Rattle.paper.specs.Answers.{lost, answered, ok, device, answer, sound, tooLarge, spansTooFar, incompatible, key, eraseProgress, chunk, padded}
+use Rattle.paper.specs.Answers.{lost, answered, ok, device, answer, sound, tooLarge, spansTooFar, incompatible, key}
+use Rattle.paper.specs.Answers.{eraseProgress, chunk, padded}
 use Rattle.paper.specs.Client.{idAfter, otherLength, replied, endOf}
 use Rattle.paper.specs.Frame.{check, field, Info}
 use Rattle.paper.specs.Hearing.{Id, onSome}
 use Rattle.paper.specs.Talk.{knows}
 use Rattle.theory.specs.OperationMachine as Phases
-use Rattle.theory.specs.OperationMachine.{Purpose, tell, clear, load, Job, informing, erasing, writing, verifying, resetting, Phase, selecting, demanding, leaving, Then, ends, refuses, Next, working}
+use Rattle.theory.specs.OperationMachine.{Purpose, tell, clear, load, Job, informing, erasing, writing, verifying}
+use Rattle.theory.specs.OperationMachine.{resetting, Phase, selecting, demanding, leaving, Then, ends, refuses, Next}
+use Rattle.theory.specs.OperationMachine.{working}
 use Rattle.theory.specs.ClientMachine as Machine
 use Rattle.theory.specs.ClientMachine.{waiting, lends, lentTo, settle, fails}
 use Rattle.theory.proofs.flash.DeviceInfo.{sound-sizes}
@@ -31,10 +33,10 @@ use Rattle.client.specs.declared.Refusal.the-variants as Refusal
 use Rattle.client.specs.declared.Says.the-variants as Says
 use Rattle.client.specs.Clients as Clients
 use Rattle.client.specs.Clients.{otherImage, otherFor, differs, stops, over, onward}
-use Rattle.client_job.specs.declared.Then as Code
+use Rattle.client_job.specs.declared.Then as CodeThen
 use Rattle.client_job.specs.declared.Then.the-variants.{On, Over, Refused}
-use Rattle.client_job.specs.declared.Next as Code₂
-use Rattle.client_job.specs.Job as Code₃
+use Rattle.client_job.specs.declared.Next as CodeNext
+use Rattle.client_job.specs.Job as CodeJob
 use Rattle.client_record.specs.Answer.{goes, onAnswer, tells}
 use Rattle.refinement.specs.ClientRecord.{purposeIn, jobIn, phaseIn, recordOf, refusedAs, progressIn, toldAs}
 
@@ -65,10 +67,11 @@ code seed id j = recordOf seed id (waiting (demanding j))
 
 module _ (seed : ℕ) (id : Option Id) (j : Job) (at : ℕ) where
   -- What the code goes on with is what the machine does, whatever progress is made with it.
-  abbrev Shows : Code.Then → Then → Type 0
-  Shows t u = (p : Option (ℕ × ℕ)) → goes (code seed id j) (record { progress = progressIn p; then = t }) at ≡ toldAs (settle (out seed id j) p u at)
+  abbrev Shows : CodeThen.Then → Then → Type 0
+  Shows t u = (p : Option (ℕ × ℕ))
+      → goes (code seed id j) (record { progress = progressIn p; then = t }) at ≡ toldAs (settle (out seed id j) p u at)
 
-  either : (b : Bool) (t v : Code.Then) (u w : Then) → Shows t u → Shows v w → Shows (cond b t v) (cond b u w)
+  either : (b : Bool) (t v : CodeThen.Then) (u w : Then) → Shows t u → Shows v w → Shows (cond b t v) (cond b u w)
   either true t v u w e f = e
   either false t v u w e f = f
 
@@ -80,95 +83,122 @@ module _ (seed : ℕ) (id : Option Id) (j : Job) (at : ℕ) where
   unfolding goes over Clients.idle settle idAfter
   knows-shown info p = refl
 
-  erases-shown : (why : Purpose) (info : Info) → Shows (Code₃.erases (purposeIn why) (codeInfo info)) (Phases.erases why info)
-  unfolding Code₃.erases Phases.erases goes over Clients.idle settle refusedAs
+  erases-shown : (why : Purpose) (info : Info)
+      → Shows (CodeJob.erases (purposeIn why) (codeInfo info)) (Phases.erases why info)
+  unfolding CodeJob.erases Phases.erases goes over Clients.idle settle refusedAs
   erases-shown why info = either (spansTooFar info) _ _ (refuses 19 []) _ (λ p. refl) (job-shown (erasing why info 0))
 
-  judged-shown : (n : ℕ) (info : Info) (image : List ℕ) → Shows (Code₃.judged n (codeInfo info) image) (Phases.judged n info image)
-  unfolding Code₃.judged Phases.judged goes over Clients.idle settle refusedAs
+  judged-shown : (n : ℕ) (info : Info) (image : List ℕ)
+      → Shows (CodeJob.judged n (codeInfo info) image) (Phases.judged n info image)
+  unfolding CodeJob.judged Phases.judged goes over Clients.idle settle refusedAs
   judged-shown n info image =
-      either (tooLarge info n) _ _ (refuses 3 _) _ (λ p. refl) (either (incompatible info image) _ _ (refuses 6 _) _ (keyed (key image)) (erases-shown (load n) info))
+      either (tooLarge info n) _ _ (refuses 3 _) _ (λ p. refl)
+      (either (incompatible info image) _ _ (refuses 6 _) _ (keyed (key image)) (erases-shown (load n) info))
     where
-      keyed : (o : Option ℕ) → Shows (Refused (Refusal.Incompatible (info .compat) (shownKey o))) (refuses 6 (info .compat ∷ onSome o [] (λ k. k ∷ [])))
+      keyed : (o : Option ℕ) → Shows (Refused (Refusal.Incompatible (info .compat) (shownKey o)))
+          (refuses 6 (info .compat ∷ onSome o [] (λ k. k ∷ [])))
       keyed none p = refl
       keyed (some k) p = refl
 
-  prepared-shown : (why : Purpose) (info : Info) (image : List ℕ) → Shows (Code₃.prepared (purposeIn why) (codeInfo info) image) (Phases.prepared why info image)
-  unfolding Code₃.prepared Phases.prepared
+  prepared-shown : (why : Purpose) (info : Info) (image : List ℕ)
+      → Shows (CodeJob.prepared (purposeIn why) (codeInfo info) image) (Phases.prepared why info image)
+  unfolding CodeJob.prepared Phases.prepared
   prepared-shown tell info image = knows-shown info
   prepared-shown clear info image = erases-shown clear info
   prepared-shown (load n) info image = judged-shown n info image
 
   informed-shown : (why : Purpose) (payload image : List ℕ)
-      → Shows (Code₃.informed (purposeIn why) payload image) (onSome (Paper.informed payload) (refuses 5 []) (λ info. Phases.prepared why info image))
-  unfolding Code₃.informed goes over Clients.idle settle refusedAs
+      → Shows (CodeJob.informed (purposeIn why) payload image)
+      (onSome (Paper.informed payload) (refuses 5 []) (λ info. Phases.prepared why info image))
+  unfolding CodeJob.informed goes over Clients.idle settle refusedAs
   informed-shown why payload image = go (Paper.informed payload)
     where
       go : (o : Option Info)
-          → Shows (Code₃.onInformed (shownInfo o) (λ info. Code₃.prepared (purposeIn why) info image) (Refused Refusal.BadInfo)) (onSome o (refuses 5 []) (λ info. Phases.prepared why info image))
+          → Shows (CodeJob.onInformed (shownInfo o) (λ info. CodeJob.prepared (purposeIn why) info image)
+          (Refused Refusal.BadInfo)) (onSome o (refuses 5 []) (λ info. Phases.prepared why info image))
       go none p = refl
       go (some info) p = prepared-shown why info image p
 
-  cleared-shown : (why : Purpose) (info : Info) → Shows (Code₃.cleared (purposeIn why) (codeInfo info)) (Phases.cleared why info)
-  unfolding Code₃.cleared Phases.cleared Code₃.writes Phases.writes
+  cleared-shown : (why : Purpose) (info : Info)
+      → Shows (CodeJob.cleared (purposeIn why) (codeInfo info)) (Phases.cleared why info)
+  unfolding CodeJob.cleared Phases.cleared CodeJob.writes Phases.writes
   cleared-shown tell info = knows-shown info
   cleared-shown clear info = knows-shown info
   cleared-shown (load n) info = either (eqb n 0) _ _ _ _ (job-shown (verifying n info)) (job-shown (writing n info 0 0))
 
-  verified-shown : (info : Info) (payload image : List ℕ) → Shows (Code₃.verified (codeInfo info) payload image) (Phases.verified info payload image)
-  unfolding Code₃.verified Phases.verified goes over Clients.idle settle refusedAs
+  verified-shown : (info : Info) (payload image : List ℕ)
+      → Shows (CodeJob.verified (codeInfo info) payload image) (Phases.verified info payload image)
+  unfolding CodeJob.verified Phases.verified goes over Clients.idle settle refusedAs
   verified-shown info payload image =
-      either (ltb (length payload) 2) _ _ (refuses 18 []) _ (λ p. refl) (either (eqb (check image) (field 0 2 payload)) _ _ _ (refuses 4 _) (knows-shown info) (λ p. refl))
+      either (ltb (length payload) 2) _ _ (refuses 18 []) _ (λ p. refl)
+      (either (eqb (check image) (field 0 2 payload)) _ _ _ (refuses 4 _) (knows-shown info) (λ p. refl))
 
   -- The same, with the progress that is made.
-  abbrev ShowsNext : Code₂.Next → Next → Type 0
+  abbrev ShowsNext : CodeNext.Next → Next → Type 0
   ShowsNext m n = goes (code seed id j) m at ≡ toldAs (settle (out seed id j) (n .progress) (n .then) at)
 
-  erased-shown : (why : Purpose) (info : Info) (address : ℕ) → sound info ≡ true → ShowsNext (Code₃.erased (purposeIn why) (codeInfo info) address) (Phases.erased why info address)
-  unfolding Code₃.erased Phases.erased
+  erased-shown : (why : Purpose) (info : Info) (address : ℕ) → sound info ≡ true
+      → ShowsNext (CodeJob.erased (purposeIn why) (codeInfo info) address) (Phases.erased why info address)
+  unfolding CodeJob.erased Phases.erased
   erased-shown why info address s = go (ltb (address + info .eraseSize) (info .capacity)) refl
     where
       size : info .eraseSize ≡ 0 → ⊥
       size e = omega (arith, sound-sizes info s .eraseSize)
 
       go : (b : Bool) → ltb (address + info .eraseSize) (info .capacity) ≡ b
-          → ShowsNext (Code₃.erased (purposeIn why) (codeInfo info) address)
-          (record { progress = some (eraseProgress info address, info .capacity); then = cond b (working (erasing why info (address + info .eraseSize))) (Phases.cleared why info) })
+          → ShowsNext (CodeJob.erased (purposeIn why) (codeInfo info) address)
+          (record {
+            progress = some (eraseProgress info address, info .capacity);
+            then = cond b
+                (working (erasing why info (address + info .eraseSize))) (Phases.cleared why info);
+          })
       go true e =
-          rw (← next-erase info address size (address + info .eraseSize) refl (ltb-true (address + info .eraseSize) (info .capacity) e))
+          rw (← next-erase info address size (address + info .eraseSize) refl
+          (ltb-true (address + info .eraseSize) (info .capacity) e))
           (job-shown (erasing why info (address + info .eraseSize)) (some (eraseProgress info address, info .capacity)))
       go false e =
-          rw (← last-erase info address size (ltb-false (address + info .eraseSize) (info .capacity) e)) (cleared-shown why info (some (eraseProgress info address, info .capacity)))
+          rw (← last-erase info address size (ltb-false (address + info .eraseSize) (info .capacity) e))
+          (cleared-shown why info (some (eraseProgress info address, info .capacity)))
 
-  wrote-shown : (info : Info) (offset : ℕ) (image : List ℕ) → ShowsNext (Code₃.wrote (codeInfo info) offset image) (Phases.wrote (length image) info offset)
-  unfolding Code₃.wrote Phases.wrote isLast
+  wrote-shown : (info : Info) (offset : ℕ) (image : List ℕ)
+      → ShowsNext (CodeJob.wrote (codeInfo info) offset image) (Phases.wrote (length image) info offset)
+  unfolding CodeJob.wrote Phases.wrote isLast
   wrote-shown info offset image =
-      either (leb (padded (length image) - offset) (chunk (info .maxPayload))) _ _ _ _ (job-shown (verifying (length image) info))
-      (job-shown (writing (length image) info (offset + chunk (info .maxPayload)) 0)) (Phases.wrote (length image) info offset .progress)
+      either (leb (padded (length image) - offset) (chunk (info .maxPayload))) _ _ _ _
+      (job-shown (verifying (length image) info))
+      (job-shown (writing (length image) info (offset + chunk (info .maxPayload)) 0))
+      (Phases.wrote (length image) info offset .progress)
 
 -- An answer of status Ok, and one of another status.
 module _ (seed : ℕ) (id : Option Id) (at : ℕ) where
   accepted-shown : (j : Job) → SoundJob j → (payload image : List ℕ) → otherLength (lentTo j) image ≡ false
-      → ShowsNext seed id j at (Code₃.accepted (jobIn j) payload image) (Phases.accepted j payload image)
-  unfolding Code₃.accepted Phases.accepted goes over Clients.idle settle idAfter
+      → ShowsNext seed id j at (CodeJob.accepted (jobIn j) payload image) (Phases.accepted j payload image)
+  unfolding CodeJob.accepted Phases.accepted goes over Clients.idle settle idAfter
   accepted-shown (informing why) s payload image e = informed-shown seed id (informing why) at why payload image none
-  accepted-shown (erasing why info address) s payload image e = erased-shown seed id (erasing why info address) at why info address s
+  accepted-shown (erasing why info address) s payload image e =
+      erased-shown seed id (erasing why info address) at why info address s
   accepted-shown (writing n info offset retries) s payload image e =
       wrote-shown seed id (writing n info offset retries) at info offset image
-      ∙ ap (λ (m : ℕ). toldAs (settle (out seed id (writing n info offset retries)) (Phases.wrote m info offset .progress) (Phases.wrote m info offset .then) at)) (sym (same-length n image e))
-  accepted-shown (verifying n info) s payload image e = verified-shown seed id (verifying n info) at info payload image none
+      ∙ ap (λ (m : ℕ). toldAs (settle (out seed id (writing n info offset retries))
+      (Phases.wrote m info offset .progress) (Phases.wrote m info offset .then) at)) (sym (same-length n image e))
+  accepted-shown (verifying n info) s payload image e =
+      verified-shown seed id (verifying n info) at info payload image none
   accepted-shown (resetting bootloader baud) s payload image e = refl
 
-  declined-shown : (j : Job) (status : ℕ) → ShowsNext seed id j at (Code₃.declined (jobIn j) status) (Phases.quietly (Phases.declined j status))
-  unfolding Code₃.declined Phases.declined Code₃.repeated Phases.repeated goes over Clients.idle onward settle refusedAs
+  declined-shown : (j : Job) (status : ℕ)
+      → ShowsNext seed id j at (CodeJob.declined (jobIn j) status) (Phases.quietly (Phases.declined j status))
+  unfolding CodeJob.declined Phases.declined CodeJob.repeated Phases.repeated goes over Clients.idle onward settle
+      refusedAs
   declined-shown (informing why) status = refl
   declined-shown (erasing why info address) status = refl
   declined-shown (writing n info offset retries) status = go (eqb status 3) (ltb retries 16)
     where
       go : (a b : Bool)
           → ShowsNext seed id (writing n info offset retries) at
-          (cond a (Code₃.quietly (cond b (On (Writing n (codeInfo info) offset (suc retries))) (Refused Refusal.RetriesSpent))) (Code₃.refusing (Refusal.Device status)))
-          (Phases.quietly (cond a (cond b (working (writing n info offset (suc retries))) (refuses 17 [])) (Phases.declines status)))
+          (cond a (CodeJob.quietly (cond b (On (Writing n (codeInfo info) offset (suc retries)))
+          (Refused Refusal.RetriesSpent))) (CodeJob.refusing (Refusal.Device status)))
+          (Phases.quietly (cond a (cond b (working (writing n info offset (suc retries))) (refuses 17 []))
+          (Phases.declines status)))
       go true true = refl
       go true false = refl
       go false b = refl
@@ -179,16 +209,19 @@ module _ (seed : ℕ) (id : Option Id) (at : ℕ) where
 abbrev pub answering : ℕ → Option Id → Job → List ℕ → List ℕ → Paper.Answer → Machine.Told
 answering seed id j image bytes a =
     onSome (replied a image) (fails (out seed id j) (endOf a (length bytes)))
-    (λ x. settle (out seed id j) (Phases.told j (x .reply) (x .image) .progress) (Phases.told j (x .reply) (x .image) .then) (endOf a (length bytes)))
+    (λ x. settle (out seed id j) (Phases.told j (x .reply) (x .image) .progress)
+    (Phases.told j (x .reply) (x .image) .then) (endOf a (length bytes)))
 
-pub job-told : (seed : ℕ) (id : Option Id) (j : Job) → SoundJob j → (image bytes : List ℕ) → otherLength (lentTo j) image ≡ false
+pub job-told : (seed : ℕ) (id : Option Id) (j : Job) → SoundJob j → (image bytes : List ℕ)
+    → otherLength (lentTo j) image ≡ false
     → tells (code seed id j) (jobIn j) image bytes ≡ toldAs (answering seed id j image bytes (answer bytes))
 unfolding tells Phases.told over Clients.idle refusedAs
 job-told seed id j s image bytes e = go (answer bytes)
   where
     go : (a : Paper.Answer)
-        → onAnswer a (stops (code seed id j) (Says.Refused Refusal.Io) (length bytes)) (λ payload end. goes (code seed id j) (Code₃.accepted (jobIn j) payload image) end)
-        (λ status end. goes (code seed id j) (Code₃.declined (jobIn j) status) end)
+        → onAnswer a (stops (code seed id j) (Says.Refused Refusal.Io) (length bytes))
+        (λ payload end. goes (code seed id j) (CodeJob.accepted (jobIn j) payload image) end)
+        (λ status end. goes (code seed id j) (CodeJob.declined (jobIn j) status) end)
         ≡ toldAs (answering seed id j image bytes a)
     go lost = refl
     go (answered (ok payload) end) = accepted-shown seed id end j s payload image e

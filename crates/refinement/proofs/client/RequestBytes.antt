@@ -1,5 +1,4 @@
 -- The code's request is the machine's, byte for byte, on the record of each client that fits.
--- Assumes nothing.
 use Prim.Native.Nat.{ℕ, _+_, _-_, _*_, _/_, _%_, _≤_}
 use mathlib.Core.Bool.{Bool, true, false, cond}
 use mathlib.Core.List.{List, [], _∷_, _++_, append-assoc}
@@ -20,7 +19,9 @@ use Rattle.paper.specs.Walk.{nobody}
 use Rattle.paper.proofs.Bits.{bits-length}
 use Rattle.paper.proofs.Packed.{packed-length}
 use Rattle.theory.specs.OperationMachine as Phases
-use Rattle.theory.specs.OperationMachine.{Search, probing, parting, seeking, backing, walking, Job, informing, erasing, writing, verifying, resetting, Phase, selecting, demanding, leaving, selected, demanded}
+use Rattle.theory.specs.OperationMachine.{Search, probing, parting, seeking, backing, walking, Job, informing, erasing}
+use Rattle.theory.specs.OperationMachine.{writing, verifying, resetting, Phase, selecting, demanding, leaving, selected}
+use Rattle.theory.specs.OperationMachine.{demanded}
 use Rattle.theory.specs.ClientMachine as Machine
 use Rattle.theory.specs.ClientMachine.{Turn, idle, ready, waiting, turned, lends, lentTo, withholds, handedOut, grant}
 use Rattle.theory.proofs.frames.IdBits.{bits-cons}
@@ -37,7 +38,8 @@ use Rattle.client_demand.specs.Demands.{resetOf, demandOf}
 use Rattle.client_request.specs.Request as Code
 use Rattle.client_request.specs.Request.{asks, withheld, askedFor}
 use Rattle.refinement.specs.WalkRecord.{walkOf, phaseOf}
-use Rattle.refinement.specs.ClientRecord.{searchIn, resetIn, jobIn, phaseIn, recordOf, clientOf, refusedAs, shownSays, askedAs}
+use Rattle.refinement.specs.ClientRecord.{searchIn, resetIn, jobIn, phaseIn, recordOf, clientOf, refusedAs}
+use Rattle.refinement.specs.ClientRecord.{shownSays, askedAs}
 use Rattle.refinement.proofs.walk.AskedBits.{asks-sim, asks-count, nobody-back}
 use Rattle.refinement.proofs.client.JobAnswers.{other-sim, same-length}
 
@@ -74,7 +76,8 @@ empty = refl
 
 -- The bits that the code asks for are the machine's.
 search-asks : (seed : ℕ) (id : Option Paper.Id) (s : Search) → FitsSearch s
-    → asked (asks (recordOf seed id (ready (selecting s))) (searchIn s) .bits) (asks (recordOf seed id (ready (selecting s))) (searchIn s) .count % 256) ≡ selected s
+    → asked (asks (recordOf seed id (ready (selecting s))) (searchIn s) .bits)
+    (asks (recordOf seed id (ready (selecting s))) (searchIn s) .count % 256) ≡ selected s
 unfolding asks selected Moves.nobody
 search-asks seed id (probing bytes bits) f = front bytes bits (f .0) (f .1)
 search-asks seed id parting f = nobody-back
@@ -82,7 +85,9 @@ search-asks seed id (seeking none) f = empty
 search-asks seed id (seeking (some uid)) f = whole uid f
 search-asks seed id (backing uid) f = nobody-back
 search-asks seed id (walking s) f =
-    let n : Moves.asks (walkOf s) (phaseOf (s .phase)) .count % 256 ≡ Moves.asks (walkOf s) (phaseOf (s .phase)) .count = mod-eq-of-lt (omega (arith, asks-count (walkOf s) (phaseOf (s .phase)))) in
+    let n : Moves.asks (walkOf s) (phaseOf (s .phase)) .count % 256
+    ≡ Moves.asks (walkOf s) (phaseOf (s .phase)) .count =
+    mod-eq-of-lt (omega (arith, asks-count (walkOf s) (phaseOf (s .phase)))) in
     ap (asked (Moves.asks (walkOf s) (phaseOf (s .phase)) .bits)) n ∙ asks-sim s f
 
 -- No Select is of more than 129 bits.
@@ -104,7 +109,8 @@ reset-same : (bootloader : Bool) (baud : Option ℕ) → resetOf (resetIn bootlo
 reset-same bootloader none = refl
 reset-same bootloader (some baud) = refl
 
-demand-same : (j : Job) (image : List ℕ) → otherLength (lentTo j) image ≡ false → demandOf (jobIn j) (length image) ≡ demanded j
+demand-same : (j : Job) (image : List ℕ) → otherLength (lentTo j) image ≡ false
+    → demandOf (jobIn j) (length image) ≡ demanded j
 unfolding demandOf demanded
 demand-same (informing why) image e = refl
 demand-same (erasing why info address) image e = refl
@@ -113,12 +119,14 @@ demand-same (verifying n info) image e = rw (same-length n image e)
 demand-same (resetting bootloader baud) image e = reset-same bootloader baud
 
 -- No request is too long to be written.
-pub demand-short : (j : Job) (image : List ℕ) → otherLength (lentTo j) image ≡ false → length (payloadOf (demanded j .payload) image) ≤ most
+pub demand-short : (j : Job) (image : List ℕ) → otherLength (lentTo j) image ≡ false
+    → length (payloadOf (demanded j .payload) image) ≤ most
 unfolding demanded payloadOf le
 demand-short (informing why) image e = omega arith
 demand-short (erasing why info address) image e = omega arith
 demand-short (writing n info offset retries) image e =
-    rw (same-length n image e) (omega (arith, write-carries info image offset .all, write-carries info image offset .fits))
+    rw (same-length n image e) (omega
+    (arith, write-carries info image offset .all, write-carries info image offset .fits))
 demand-short (verifying n info) image e = omega arith
 demand-short (resetting bootloader baud) image e = omega arith
 
@@ -131,7 +139,8 @@ handing-sim (leaving bootloader baud) n = refl
 
 module _ (c : Machine.Client) where
   handed-sim : (ph : Phase)
-      → Code.handed (clientOf (turned c (ready ph))) (phaseIn ph) ≡ clientOf (record { seed = seedAfter (Phases.request ph) (c .seed); id = c .id; turn = handedOut ph })
+      → Code.handed (clientOf (turned c (ready ph))) (phaseIn ph)
+      ≡ clientOf (record { seed = seedAfter (Phases.request ph) (c .seed); id = c .id; turn = handedOut ph })
   unfolding Code.handed handedOut Clients.idle
   handed-sim (selecting s) = refl
   handed-sim (demanding j) = refl
@@ -139,7 +148,8 @@ module _ (c : Machine.Client) where
 
   -- The request handed out, or a buffer too short for it.
   granting-sim : (ph : Phase) (bytes buffer : List ℕ)
-      → Code.granting (clientOf (turned c (ready ph))) (phaseIn ph) bytes buffer ≡ askedAs (grant (turned c (ready ph)) bytes (seedAfter (Phases.request ph) (c .seed)) ph buffer)
+      → Code.granting (clientOf (turned c (ready ph))) (phaseIn ph) bytes buffer
+      ≡ askedAs (grant (turned c (ready ph)) bytes (seedAfter (Phases.request ph) (c .seed)) ph buffer)
   unfolding Code.granting grant refusedAs
   granting-sim ph bytes buffer = go (ltb (length buffer) (length bytes))
     where
@@ -148,39 +158,66 @@ module _ (c : Machine.Client) where
 
       go : (b : Bool)
           → cond b (withheld (clientOf (turned c (ready ph))) (ShortBuffer (length bytes)) buffer)
-          (record { answer = record { says = Code.handing (phaseIn ph) (length bytes); client = Code.handed (clientOf (turned c (ready ph))) (phaseIn ph) }; bytes = bytes ++ drop (length bytes) buffer })
-          ≡ askedAs (cond b (withholds (turned c (ready ph)) 16 (length bytes ∷ []) buffer) (record { says = handing (Phases.request ph) (length bytes); client = next; buffer = bytes ++ drop (length bytes) buffer }))
+          (record {
+            answer = record {
+              says = Code.handing (phaseIn ph) (length bytes);
+              client = Code.handed
+                  (clientOf (turned c (ready ph))) (phaseIn ph);
+            };
+            bytes = bytes ++ drop (length bytes) buffer;
+          })
+          ≡ askedAs (cond b (withholds (turned c (ready ph)) 16 (length bytes ∷ []) buffer)
+          (record {
+            says = handing (Phases.request ph) (length bytes);
+            client = next;
+            buffer = bytes
+                ++ drop (length bytes) buffer;
+          }))
       go true = refl
-      go false = λ i. record { answer = record { says = handing-sim ph (length bytes) i; client = handed-sim ph i }; bytes = bytes ++ drop (length bytes) buffer }
+      go false = λ i. record {
+        answer = record
+            { says = handing-sim ph (length bytes) i; client = handed-sim ph i };
+        bytes =
+            bytes ++ drop (length bytes) buffer;
+      }
 
 module _ (c : Machine.Client) (image buffer : List ℕ) where
   abbrev bytes : Phase → List ℕ
   bytes ph = bytesOf (Phases.request ph) (seedAfter (Phases.request ph) (c .seed)) image
 
   -- The request's bytes are the machine's.
-  frame-sim : (ph : Phase) → FitsPhase ph → otherLength (lends ph) image ≡ false → frameBytes (Code.frameOf (clientOf (turned c (ready ph))) (phaseIn ph) image) ≡ bytes ph
+  frame-sim : (ph : Phase) → FitsPhase ph → otherLength (lends ph) image ≡ false
+      → frameBytes (Code.frameOf (clientOf (turned c (ready ph))) (phaseIn ph) image) ≡ bytes ph
   unfolding Code.frameOf Code.searchFrame bytesOf payloadOf
-  frame-sim (selecting s) f e = ap (λ (q : Prefix). frameBytes (selectFrame (Code.nextSeed (c .seed)) q)) (search-asks (c .seed) (c .id) s f)
+  frame-sim (selecting s) f e = ap (λ (q : Prefix). frameBytes (selectFrame (Code.nextSeed (c .seed)) q))
+      (search-asks (c .seed) (c .id) s f)
   frame-sim (demanding j) f e = ap (λ (d : Demand). frameBytes (demandFrame d image)) (demand-same j image e)
-  frame-sim (leaving bootloader baud) f e = ap (λ (d : Demand). frameBytes (demandFrame d [])) (reset-same bootloader baud)
+  frame-sim (leaving bootloader baud) f e =
+      ap (λ (d : Demand). frameBytes (demandFrame d [])) (reset-same bootloader baud)
 
   asked-sim : (ph : Phase) → FitsPhase ph → otherLength (lends ph) image ≡ false
-      → askedFor (clientOf (turned c (ready ph))) (phaseIn ph) image buffer ≡ askedAs (grant (turned c (ready ph)) (bytes ph) (seedAfter (Phases.request ph) (c .seed)) ph buffer)
+      → askedFor (clientOf (turned c (ready ph))) (phaseIn ph) image buffer
+      ≡ askedAs (grant (turned c (ready ph)) (bytes ph) (seedAfter (Phases.request ph) (c .seed)) ph buffer)
   unfolding askedFor
   asked-sim ph f e =
-      ap (λ (l : List ℕ). Code.granting (clientOf (turned c (ready ph))) (phaseIn ph) l buffer) (frame-sim ph f e) ∙ granting-sim c ph (bytes ph) buffer
+      ap (λ (l : List ℕ). Code.granting (clientOf (turned c (ready ph))) (phaseIn ph) l buffer) (frame-sim ph f e)
+      ∙ granting-sim c ph (bytes ph) buffer
 
-pub request-asked : (c : Machine.Client) → Fits c → (image buffer : List ℕ) → Code.request (clientOf c) image buffer ≡ askedAs (Machine.request c image buffer)
+pub request-asked : (c : Machine.Client) → Fits c → (image buffer : List ℕ)
+    → Code.request (clientOf c) image buffer ≡ askedAs (Machine.request c image buffer)
 unfolding Code.request Machine.request refusedAs
 request-asked c f image buffer = go (c .turn) (f .turn)
   where
-    go : (t : Turn) → FitsTurn t → Code.request (clientOf (turned c t)) image buffer ≡ askedAs (Machine.request (turned c t) image buffer)
+    go : (t : Turn) → FitsTurn t → Code.request (clientOf (turned c t)) image buffer
+        ≡ askedAs (Machine.request (turned c t) image buffer)
     go idle w = refl
     go (ready ph) w = rw (other-sim ph image) (lent (otherLength (lends ph) image) refl)
       where
         lent : (b : Bool) → otherLength (lends ph) image ≡ b
-            → cond b (withheld (clientOf (turned c (ready ph))) OtherImage buffer) (askedFor (clientOf (turned c (ready ph))) (phaseIn ph) image buffer)
-            ≡ askedAs (cond b (withholds (turned c (ready ph)) 20 [] buffer) (grant (turned c (ready ph)) (bytes c image buffer ph) (seedAfter (Phases.request ph) (c .seed)) ph buffer))
+            → cond b (withheld (clientOf (turned c (ready ph))) OtherImage buffer)
+            (askedFor (clientOf (turned c (ready ph))) (phaseIn ph) image buffer)
+            ≡ askedAs (cond b (withholds (turned c (ready ph)) 20 [] buffer)
+            (grant (turned c (ready ph)) (bytes c image buffer ph) (seedAfter (Phases.request ph) (c .seed)) ph buffer))
         lent true e = refl
         lent false e = asked-sim c image buffer ph w e
     go (waiting ph) w = refl

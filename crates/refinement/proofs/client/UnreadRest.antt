@@ -1,5 +1,4 @@
 -- Bytes that follow an answer: handed in with it, or kept as its unread rest, they change nothing.
--- Assumes nothing.
 use Prim.Native.Nat.{ℕ}
 use mathlib.Core.Bool.{Bool, true, false, cond}
 use mathlib.Core.List.{List, _++_}
@@ -37,7 +36,8 @@ module _ (c : Client) (j : Job) (out : c .turn ≡ Waiting (Demand j)) (image : 
   next (ok payload) = accepted j payload image
   next (device status) = declined j status
 
-  tells-answered : (bytes : List ℕ) (r : Reply) (end : ℕ) → answer bytes ≡ answered r end → tells c j image bytes ≡ goes c (next r) end
+  tells-answered : (bytes : List ℕ) (r : Reply) (end : ℕ) → answer bytes ≡ answered r end
+      → tells c j image bytes ≡ goes c (next r) end
   unfolding tells next
   tells-answered bytes (ok payload) end e = rw e
   tells-answered bytes (device status) end e = rw e
@@ -45,10 +45,13 @@ module _ (c : Client) (j : Job) (out : c .turn ≡ Waiting (Demand j)) (image : 
   abbrev judged : Reply → ℕ → Told
   judged r end = cond (otherImage (Demand j) (length image)) (refuses c OtherImage) (goes c (next r) end)
 
-  record-answered : (bytes : List ℕ) (r : Reply) (end : ℕ) → answer bytes ≡ answered r end → record′ c image bytes ≡ judged r end
+  record-answered : (bytes : List ℕ) (r : Reply) (end : ℕ) → answer bytes ≡ answered r end
+      → record′ c image bytes ≡ judged r end
   unfolding record′ answeredTo
   record-answered bytes r end e =
-      sym (at-waiting (c .turn) _ _ _ (Demand j) out) ∙ ap (λ (t : Told). cond (otherImage (Demand j) (length image)) (refuses c OtherImage) t) (tells-answered bytes r end e)
+      sym (at-waiting (c .turn) _ _ _ (Demand j) out)
+      ∙ ap (λ (t : Told). cond (otherImage (Demand j) (length image)) (refuses c OtherImage) t)
+      (tells-answered bytes r end e)
 
   module _ (a x : List ℕ) (r : Reply) (end : ℕ) (e : answer a ≡ answered r end) where
     pub record-either-way : record′ c image (a ++ x) ≡ record′ c image a
@@ -57,6 +60,7 @@ module _ (c : Client) (j : Job) (out : c .turn ≡ Waiting (Demand j)) (image : 
     pub rest-either-way : drop (record′ c image (a ++ x) .rest) (a ++ x) ≡ drop (record′ c image a .rest) a ++ x
     rest-either-way = rw (record-either-way, record-answered a r end e) (go (otherImage (Demand j) (length image)))
       where
-        go : (b : Bool) → drop (cond b (refuses c OtherImage) (goes c (next r) end) .rest) (a ++ x) ≡ drop (cond b (refuses c OtherImage) (goes c (next r) end) .rest) a ++ x
+        go : (b : Bool) → drop (cond b (refuses c OtherImage) (goes c (next r) end) .rest) (a ++ x)
+            ≡ drop (cond b (refuses c OtherImage) (goes c (next r) end) .rest) a ++ x
         go true = refl
         go false = rw (goes-rest c (next r) end) (rest-appends x a r end e)

@@ -1,5 +1,4 @@
 -- What a record and a failed link change where they are refused, of every value of the client.
--- Assumes nothing.
 use Prim.Native.Nat.{ℕ}
 use mathlib.Core.Bool.{Bool, true, false, cond}
 use mathlib.Core.List.{List}
@@ -50,9 +49,11 @@ use Rattle.client_job.specs.declared.Then.{Then}
 use Rattle.client_job.specs.declared.Then.the-variants as Then
 use Rattle.client_job.specs.declared.Next.{Next}
 use Rattle.client_job.specs.Job as Flashing
-use Rattle.client_job.specs.Job.{onInformed, onErase, onThen, erases, judged, prepared, informed, writes, erased, wrote, repeated, verified, accepted, declined}
+use Rattle.client_job.specs.Job.{onInformed, onErase, onThen, erases, judged, prepared, informed, writes, erased, wrote}
+use Rattle.client_job.specs.Job.{repeated, verified, accepted, declined}
 use Rattle.client_record.specs.Answer.{goes, onAnswer, tells}
-use Rattle.client_record.specs.Record.{attaches, met, backed, stopOf, walked, probed, hears, answeredTo, record′, linkFailed}
+use Rattle.client_record.specs.Record.{attaches, met, backed, stopOf, walked, probed, hears, answeredTo, record′}
+use Rattle.client_record.specs.Record.{linkFailed}
 use Rattle.refinement.specs.Refusals.{keeps, parts, leaves}
 use Rattle.lore.proofs.Choice.{either, clash}
 use Rattle.refinement.proofs.client.Cases.{each-turn, isRefused, unrefused, same-refusal}
@@ -73,7 +74,8 @@ erases-sober why info = either Sober (spansTooFar (paperInfo info)) (refl, (refl
 judged-sober : (n : ℕ) (info : Info) (image : List ℕ) → Sober (judged n info image)
 unfolding judged keeps parts numberOf
 judged-sober n info image =
-    either Sober (tooLarge (paperInfo info) n) (refl, (refl, refl)) (either Sober (incompatible (paperInfo info) image) (refl, (refl, refl)) (erases-sober (Load n) info))
+    either Sober (tooLarge (paperInfo info) n) (refl, (refl, refl))
+    (either Sober (incompatible (paperInfo info) image) (refl, (refl, refl)) (erases-sober (Load n) info))
 
 prepared-sober : (why : Purpose) (info : Info) (image : List ℕ) → Sober (prepared why info image)
 unfolding prepared
@@ -95,21 +97,25 @@ cleared-sober Tell info = tt
 cleared-sober Clear info = tt
 cleared-sober (Load n) info = either Sober (eqb n 0) tt tt
 
-each-erase : {A : Type 0} (P : A → Type 0) (e : Erase) {f : ℕ → A} {a : A} → ((k : ℕ) → P (f k)) → P a → P (onErase e f a)
+each-erase : {A : Type 0} (P : A → Type 0) (e : Erase) {f : ℕ → A} {a : A} → ((k : ℕ) → P (f k)) → P a
+    → P (onErase e f a)
 each-erase P (At k) h g = h k
 each-erase P Done h g = g
 
 erased-sober : (why : Purpose) (info : Info) (address : ℕ) → Sober (erased why info address .then)
 unfolding erased
-erased-sober why info address = each-erase (λ (x : Next). Sober (x .then)) (eraseAfter (paperInfo info) address) (λ k. tt) (cleared-sober why info)
+erased-sober why info address =
+    each-erase (λ (x : Next). Sober (x .then)) (eraseAfter (paperInfo info) address) (λ k. tt) (cleared-sober why info)
 
 accepted-sober : (j : Job) (payload image : List ℕ) → Sober (accepted j payload image .then)
 unfolding accepted wrote verified keeps parts numberOf
 accepted-sober (Informing why) payload image = informed-sober why payload image
 accepted-sober (Erasing why info address) payload image = erased-sober why info address
-accepted-sober (Writing n info offset retries) payload image = either Sober (isLast (paperInfo info) (length image) offset) tt tt
+accepted-sober (Writing n info offset retries) payload image =
+    either Sober (isLast (paperInfo info) (length image) offset) tt tt
 accepted-sober (Verifying n info) payload image =
-    either Sober (ltb (length payload) 2) (refl, (refl, refl)) (either Sober (eqb (check image) (field 0 2 payload)) tt (refl, (refl, refl)))
+    either Sober (ltb (length payload) 2) (refl, (refl, refl))
+    (either Sober (eqb (check image) (field 0 2 payload)) tt (refl, (refl, refl)))
 accepted-sober (Resetting reset) payload image = tt
 
 declined-sober : (j : Job) (status : ℕ) → Sober (declined j status .then)
@@ -117,7 +123,8 @@ unfolding declined repeated keeps parts numberOf
 declined-sober (Informing why) status = (refl, (refl, refl))
 declined-sober (Erasing why info address) status = (refl, (refl, refl))
 declined-sober (Writing n info offset retries) status =
-    either (λ (x : Next). Sober (x .then)) (eqb status 3) (either Sober (ltb retries 16) tt (refl, (refl, refl))) (refl, (refl, refl))
+    either (λ (x : Next). Sober (x .then)) (eqb status 3) (either Sober (ltb retries 16) tt (refl, (refl, refl)))
+    (refl, (refl, refl))
 declined-sober (Verifying n info) status = (refl, (refl, refl))
 declined-sober (Resetting reset) status = (refl, (refl, refl))
 
@@ -141,7 +148,13 @@ record Tells (c : Client) (n : ℕ) (t : Told) : Type 0 where
 
 module _ (c : Client) (n : ℕ) where
   told-leaves : (t : Told) → Tells c n t → Leaves c n t
-  told-leaves t h = record { client = h .client; lost = h .lost; whole = λ r e k. clash (keeps r) k (h .ends r e); seed = h .seed }
+  told-leaves t h = record {
+    client = h .client;
+    lost = h .lost;
+    whole = λ r e k. clash (keeps r) k
+        (h .ends r e);
+    seed = h .seed;
+  }
 
   refuses-leaves : (q : Refusal) → keeps q ≡ true → eqb (numberOf q) 1 ≡ false → Leaves c n (refuses c q)
   refuses-leaves q h m = record {
@@ -159,7 +172,8 @@ module _ (c : Client) (n : ℕ) where
     seed = e;
   }
 
-  ends : (at : ℕ) (d : Client) (q : Refusal) (x : Id) (t : Table) → idle d ≡ leaves q c → (q ≡ Io → at ≡ n) → keeps q ≡ false → Tells c n (over d (Refused q) x t at)
+  ends : (at : ℕ) (d : Client) (q : Refusal) (x : Id) (t : Table) → idle d ≡ leaves q c → (q ≡ Io → at ≡ n)
+      → keeps q ≡ false → Tells c n (over d (Refused q) x t at)
   unfolding over
   ends at d q x t ed ea k = record {
     client = λ r e. rw (← same-refusal q r e) ed;
@@ -173,7 +187,8 @@ module _ (c : Client) (n : ℕ) where
   lost-tells = ends n c Io _ _ refl (λ e. refl) refl
 
   module _ (at : ℕ) where
-    ends-tells : (b : Bool) (q : Refusal) (x : Id) (t : Table) → keeps q ≡ false → parts q ≡ b → eqb (numberOf q) 1 ≡ false → Tells c n (over (cond b (cleared c) c) (Refused q) x t at)
+    ends-tells : (b : Bool) (q : Refusal) (x : Id) (t : Table) → keeps q ≡ false → parts q ≡ b
+        → eqb (numberOf q) 1 ≡ false → Tells c n (over (cond b (cleared c) c) (Refused q) x t at)
     unfolding leaves
     ends-tells b q x t k e m = ends at (cond b (cleared c) c) q x t (rw (k, e)) (λ h. not-io q h m) k
 
@@ -207,7 +222,8 @@ module _ (c : Client) (n : ℕ) where
 
     probed-tells : (h : Heard) (x : Id) → Tells c n (probed c h x at)
     unfolding probed over idle keeps parts numberOf
-    probed-tells h x = either (Tells c n) (Steps.long h) (ends-tells false Refusal.LongId _ _ refl refl refl) (unrefused-tells _ refl refl)
+    probed-tells h x = either (Tells c n) (Steps.long h) (ends-tells false Refusal.LongId _ _ refl refl refl)
+        (unrefused-tells _ refl refl)
 
     hears-tells : (s : Search) (h : Heard) (x : Id) → Tells c n (hears c s h x at)
     unfolding hears over idle cleared
@@ -217,7 +233,8 @@ module _ (c : Client) (n : ℕ) where
     hears-tells (Backing given) h x = backed-tells given
     hears-tells (Walking q) h x = walked-tells _ _
 
-    goes-tells : (progress : Progress) (t : Then) → Sober t → Tells c n (goes c (record { progress = progress; then = t }) at)
+    goes-tells : (progress : Progress) (t : Then) → Sober t
+        → Tells c n (goes c (record { progress = progress; then = t }) at)
     unfolding goes over onward idle
     goes-tells progress (Then.On job) h = unrefused-tells _ refl refl
     goes-tells progress (Then.Over o) h = unrefused-tells _ refl refl
@@ -228,7 +245,8 @@ module _ (c : Client) (n : ℕ) where
   tells-tells j image bytes en = go (answer bytes)
     where
       go : (a : Answer)
-          → Tells c n (onAnswer a (stops c (Refused Io) (length bytes)) (λ payload end. goes c (accepted j payload image) end) (λ status end. goes c (declined j status) end))
+          → Tells c n (onAnswer a (stops c (Refused Io) (length bytes))
+          (λ payload end. goes c (accepted j payload image) end) (λ status end. goes c (declined j status) end))
       go lost = rw en lost-tells
       go (answered (ok payload) end) = goes-tells end _ _ (accepted-sober j payload image)
       go (answered (device status) end) = goes-tells end _ _ (declined-sober j status)
@@ -247,16 +265,19 @@ module _ (c : Client) (image bytes : List ℕ) where
       (refuses-leaves c (length bytes) OutOfTurn refl refl)
       (λ p. refuses-leaves c (length bytes) OutOfTurn refl refl)
       (λ p.
-      either (Leaves c (length bytes)) (otherImage p (length image)) (refuses-leaves c (length bytes) OtherImage refl refl)
+      either (Leaves c (length bytes)) (otherImage p (length image))
+      (refuses-leaves c (length bytes) OtherImage refl refl)
       (told-leaves c (length bytes) _ (answered-tells p)))
 
-  pub told-refused : (r : Refusal) → record′ c image bytes .says ≡ Refused r → record′ c image bytes .client ≡ leaves r c
+  pub told-refused : (r : Refusal) → record′ c image bytes .says ≡ Refused r
+      → record′ c image bytes .client ≡ leaves r c
   told-refused = record-leaves .client
 
   pub told-lost : record′ c image bytes .says ≡ Refused Io → record′ c image bytes .rest ≡ length bytes
   told-lost = record-leaves .lost
 
-  pub told-kept : (r : Refusal) → record′ c image bytes .says ≡ Refused r → keeps r ≡ true → record′ c image bytes .rest ≡ 0
+  pub told-kept : (r : Refusal) → record′ c image bytes .says ≡ Refused r → keeps r ≡ true
+      → record′ c image bytes .rest ≡ 0
   told-kept = record-leaves .whole
 
   pub told-seed : record′ c image bytes .client .seed ≡ c .seed
@@ -271,12 +292,14 @@ module _ (c : Client) (image bytes : List ℕ) where
   unfolding record′
   told-ready p e = sym (at-ready (c .turn) _ _ _ p e)
 
-  pub told-waiting : (p : Phase) → c .turn ≡ Waiting p → record′ c image bytes ≡ cond (otherImage p (length image)) (refuses c OtherImage) (answeredTo c p image bytes)
+  pub told-waiting : (p : Phase) → c .turn ≡ Waiting p
+      → record′ c image bytes ≡ cond (otherImage p (length image)) (refuses c OtherImage) (answeredTo c p image bytes)
   unfolding record′
   told-waiting p e = sym (at-waiting (c .turn) _ _ _ p e)
 
   -- A record that is read is refused with nothing that changes no state: 20 and 21 are given where they are due alone.
-  pub told-due : (p : Phase) → c .turn ≡ Waiting p → otherImage p (length image) ≡ false → (r : Refusal) → record′ c image bytes .says ≡ Refused r → keeps r ≡ false
+  pub told-due : (p : Phase) → c .turn ≡ Waiting p → otherImage p (length image) ≡ false → (r : Refusal)
+      → record′ c image bytes .says ≡ Refused r → keeps r ≡ false
   told-due p e h r f = answered-tells p .ends r (ap (λ (t : Told). t .says) (sym reads) ∙ f)
     where
       reads : record′ c image bytes ≡ answeredTo c p image bytes

@@ -1,5 +1,4 @@
 -- What asking for a request answers, granted and refused, of every value of the client.
--- Assumes nothing.
 use Prim.Native.Nat.{ℕ}
 use mathlib.Core.Bool.{true, cond}
 use mathlib.Core.List.{List}
@@ -25,13 +24,15 @@ use Rattle.refinement.proofs.client.Cases.{each-turn, unrefused, same-r
 
 -- Asking for a request: what it leaves where it is refused.
 record Asks (c : Client) (buffer : List ℕ) (o : Asking) : Type 0 where
-  refused : (r : Refusal) → o .answer .says ≡ Refused r → (o .answer .client ≡ c) × ((o .bytes ≡ buffer) × (keeps r ≡ true))
+  refused : (r : Refusal) → o .answer .says ≡ Refused r
+      → (o .answer .client ≡ c) × ((o .bytes ≡ buffer) × (keeps r ≡ true))
 
 module _ (c : Client) (buffer : List ℕ) where
   withheld-asks : (q : Refusal) → keeps q ≡ true → Asks c buffer (withheld c q buffer)
   withheld-asks q h = record { refused = λ r e. (refl, (refl, rw (← same-refusal q r e) h)) }
 
-  handed-asks : (p : Phase) (n : ℕ) (next : Client) (after : List ℕ) → Asks c buffer (record { answer = record { says = handing p n; client = next }; bytes = after })
+  handed-asks : (p : Phase) (n : ℕ) (next : Client) (after : List ℕ)
+      → Asks c buffer (record { answer = record { says = handing p n; client = next }; bytes = after })
   unfolding handing
   handed-asks (Select s) n next after = record { refused = λ r e. unrefused (Granted n) r refl e }
   handed-asks (Demand j) n next after = record { refused = λ r e. unrefused (Granted n) r refl e }
@@ -39,7 +40,8 @@ module _ (c : Client) (buffer : List ℕ) where
 
   granting-asks : (p : Phase) (bytes : List ℕ) → Asks c buffer (granting c p bytes buffer)
   unfolding granting keeps numberOf
-  granting-asks p bytes = either (Asks c buffer) (ltb (length buffer) (length bytes)) (withheld-asks (ShortBuffer (length bytes)) refl) (handed-asks p _ _ _)
+  granting-asks p bytes = either (Asks c buffer) (ltb (length buffer) (length bytes))
+      (withheld-asks (ShortBuffer (length bytes)) refl) (handed-asks p _ _ _)
 
 module _ (c : Client) (image buffer : List ℕ) where
   request-asks : Asks c buffer (request c image buffer)
@@ -47,7 +49,8 @@ module _ (c : Client) (image buffer : List ℕ) where
   request-asks =
       each-turn (λ (t : Turn) (o : Asking). Asks c buffer o) (c .turn)
       (withheld-asks c buffer OutOfTurn refl)
-      (λ p. either (Asks c buffer) (otherImage p (length image)) (withheld-asks c buffer OtherImage refl) (granting-asks c buffer p _))
+      (λ p. either (Asks c buffer) (otherImage p (length image)) (withheld-asks c buffer OtherImage refl)
+      (granting-asks c buffer p _))
       (λ p. withheld-asks c buffer OutOfTurn refl)
 
   pub asked-refused : (r : Refusal) → request c image buffer .answer .says ≡ Refused r
@@ -64,6 +67,7 @@ module _ (c : Client) (image buffer : List ℕ) where
   asked-waiting p e = sym (at-waiting (c .turn) _ _ _ p e)
 
   pub asked-ready : (p : Phase) → c .turn ≡ Ready p
-      → request c image buffer ≡ cond (otherImage p (length image)) (withheld c OtherImage buffer) (granting c p (frameBytes (frameOf c p image)) buffer)
+      → request c image buffer ≡ cond (otherImage p (length image)) (withheld c OtherImage buffer)
+      (granting c p (frameBytes (frameOf c p image)) buffer)
   unfolding request askedFor
   asked-ready p e = sym (at-ready (c .turn) _ _ _ p e)

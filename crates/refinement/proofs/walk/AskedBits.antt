@@ -1,5 +1,4 @@
 -- The bits that the code asks for are the machine's.
--- Assumes nothing.
 use Prim.Native.Nat.{ℕ, zero, suc, _+_, _<_, _≤_}
 use mathlib.Core.Bool.{Bool, true, false, not, cond}
 use mathlib.Core.List.{List, [], _∷_}
@@ -38,18 +37,25 @@ after (b ∷ l) (suc k) = after l k
 abbrev pub askOf : Prefix → Ask
 askOf q = record { bits = packed 16 q; count = length q }
 
-child-sim : (w : Walk) (q : Prefix) (b : Bool) → w .path ≡ packed 16 q → w .depth ≡ length q → length q < 128 → Moves.child w b ≡ askOf (q ▹ b)
+child-sim : (w : Walk) (q : Prefix) (b : Bool) → w .path ≡ packed 16 q → w .depth ≡ length q → length q < 128
+    → Moves.child w b ≡ askOf (q ▹ b)
 unfolding Moves.child
-child-sim w q true e f h = λ i. record { bits = (ap₂ setBit e f ∙ sym (pack-one 16 q h)) i; count = (ap (λ (k : ℕ). k + 1) f ∙ sym (length-append q (true ∷ []))) i }
-child-sim w q false e f h = λ i. record { bits = (e ∙ sym (packed-zero 16 q)) i; count = (ap (λ (k : ℕ). k + 1) f ∙ sym (length-append q (false ∷ []))) i }
+child-sim w q true e f h = λ i. record {
+  bits = (ap₂ setBit e f ∙ sym (pack-one 16 q h)) i;
+  count = (ap (λ (k : ℕ). k + 1) f ∙ sym (length-append q (true ∷ []))) i;
+}
+child-sim w q false e f h = λ i. record
+    { bits = (e ∙ sym (packed-zero 16 q)) i; count = (ap (λ (k : ℕ). k + 1) f ∙ sym (length-append q (false ∷ []))) i }
 
-next-is : (q : Prefix) (id : Paper.Id) → length id ≤ 16 → getD (bitsOf (idOf (idFrom id))) (length q) false ≡ nextBit q id
+next-is : (q : Prefix) (id : Paper.Id) → length id ≤ 16
+    → getD (bitsOf (idOf (idFrom id))) (length q) false ≡ nextBit q id
 unfolding nextBit
 next-is q id s = ap (λ (x : List ℕ). getD (bitsOf x) (length q) false) (id-of-from id s) ∙ after (bitsOf id) (length q)
 
 -- The request that holds a prefix asks for that prefix.
 pub asked-back : (q : Prefix) → length q ≤ 128 → bitsAsked (askOf q) ≡ q
-asked-back q h = take-append-le (length q) (bitsOf (packed 16 q)) (replicate 127 false) (rw (bits-length (packed 16 q), packed-length 16 q) h) ∙ packed-read 16 q h
+asked-back q h = take-append-le (length q) (bitsOf (packed 16 q)) (replicate 127 false)
+    (rw (bits-length (packed 16 q), packed-length 16 q) h) ∙ packed-read 16 q h
 
 pub nobody-back : bitsAsked Moves.nobody ≡ nobody
 unfolding Moves.nobody nobody bitsOf counting bit
@@ -64,15 +70,20 @@ asks-sim s t = rw (le-leb (length (path (s .pre) (s .marks))) 128 (t .depth)) (g
     q = path (s .pre) (s .marks)
 
     go : (p : Phase) → Held (path (s .pre) (s .marks)) p
-        → bitsAsked (Moves.onPhase (phaseOf p) (askOf (path (s .pre) (s .marks))) (Moves.child (standingAt (s .pre) (s .marks) (s .ids) (candidateOf p)) (Moves.nextBit (standingAt (s .pre) (s .marks) (s .ids) (candidateOf p))))
-        (λ good. Moves.child (standingAt (s .pre) (s .marks) (s .ids) (candidateOf p)) (not (Moves.nextBit (standingAt (s .pre) (s .marks) (s .ids) (candidateOf p))))) Moves.nobody)
+        → bitsAsked (Moves.onPhase (phaseOf p) (askOf (path (s .pre) (s .marks)))
+        (Moves.child (standingAt (s .pre) (s .marks) (s .ids) (candidateOf p))
+        (Moves.nextBit (standingAt (s .pre) (s .marks) (s .ids) (candidateOf p))))
+        (λ good. Moves.child (standingAt (s .pre) (s .marks) (s .ids) (candidateOf p))
+        (not (Moves.nextBit (standingAt (s .pre) (s .marks) (s .ids) (candidateOf p))))) Moves.nobody)
         ≡ request (record { pre = s .pre; marks = s .marks; ids = s .ids; phase = p })
     go asked w = asked-back q (t .depth)
     go (mine id) w =
-        ap bitsAsked (child-sim (standingAt (s .pre) (s .marks) (s .ids) (idFrom id)) q _ refl refl (omega (arith, w .0, w .1)) ∙ ap (λ (b : Bool). askOf (q ▹ b)) (next-is q id (w .0)))
+        ap bitsAsked (child-sim (standingAt (s .pre) (s .marks) (s .ids) (idFrom id)) q _ refl refl
+        (omega (arith, w .0, w .1)) ∙ ap (λ (b : Bool). askOf (q ▹ b)) (next-is q id (w .0)))
         ∙ asked-back (q ▹ nextBit q id) (omega (arith, w .0, w .1, length-append q (nextBit q id ∷ [])))
     go (other id good) w =
-        ap bitsAsked (child-sim (standingAt (s .pre) (s .marks) (s .ids) (idFrom id)) q _ refl refl (omega (arith, w .0, w .1)) ∙ ap (λ (b : Bool). askOf (q ▹ not b)) (next-is q id (w .0)))
+        ap bitsAsked (child-sim (standingAt (s .pre) (s .marks) (s .ids) (idFrom id)) q _ refl refl
+        (omega (arith, w .0, w .1)) ∙ ap (λ (b : Bool). askOf (q ▹ not b)) (next-is q id (w .0)))
         ∙ asked-back (q ▹ not (nextBit q id)) (omega (arith, w .0, w .1, length-append q (not (nextBit q id) ∷ [])))
     go leaving w = nobody-back
 
@@ -82,7 +93,8 @@ unfolding Moves.asks Moves.child Moves.nobody
 asks-count w p = go (leb (w .depth) 128) refl p
   where
     go : (b : Bool) → leb (w .depth) 128 ≡ b → (p : P.Phase)
-        → cond b (Moves.onPhase p (record { bits = w .path; count = w .depth }) (Moves.child w (Moves.nextBit w)) (λ good. Moves.child w (not (Moves.nextBit w))) Moves.nobody) Moves.nobody .count ≤ 129
+        → cond b (Moves.onPhase p (record { bits = w .path; count = w .depth }) (Moves.child w (Moves.nextBit w))
+        (λ good. Moves.child w (not (Moves.nextBit w))) Moves.nobody) Moves.nobody .count ≤ 129
     go true e Asked = omega (arith, leb-true (w .depth) 128 e)
     go true e Mine = omega (arith, leb-true (w .depth) 128 e)
     go true e (Other good) = omega (arith, leb-true (w .depth) 128 e)

@@ -1,5 +1,4 @@
 -- The path in its bytes: one bit less, and the path of whole bytes.
--- Assumes nothing.
 use Prim.Native.Nat.{ℕ, zero, suc, _+_, _-_, _*_, _/_, _%_, _^_, _<_, _≤_}
 use mathlib.Core.Bool.{Bool, cond}
 use mathlib.Core.List.{List, [], _∷_}
@@ -12,13 +11,15 @@ use Rattle.paper.specs.Count.{All}
 use Rattle.paper.specs.Hearing.{counting, bitsOf, binary, packed}
 use Rattle.paper.specs.Walk.{_▹_}
 use Rattle.paper.proofs.Bits.{bits-byte}
-use Rattle.paper.proofs.Packed.{binary-bits, binary-below, binary-more, packed-short, more-short, more-long, packed-none}
+use Rattle.paper.proofs.Packed.{binary-bits, binary-below, binary-more, packed-short, more-short, more-long}
+use Rattle.paper.proofs.Packed.{packed-none}
 use Rattle.theory.proofs.frames.IdBits.{bits-cons}
 use Rattle.ids.specs.Paths.{cut}
 use Rattle.refinement.specs.WalkRecord.{padded}
 
 binary-cut : (q : List Bool) (b : Bool) → binary (q ▹ b) % 2 ^ length q ≡ binary q
-binary-cut q b = ap (λ (n : ℕ). n % 2 ^ length q) (binary-more q b ∙ swap (binary q) (cond b 1 0 * 2 ^ length q)) ∙ low (cond b 1 0) (length q) (binary-below q)
+binary-cut q b = ap (λ (n : ℕ). n % 2 ^ length q) (binary-more q b ∙ swap (binary q) (cond b 1 0 * 2 ^ length q))
+    ∙ low (cond b 1 0) (length q) (binary-below q)
   where
     swap : (a b : ℕ) → a + b ≡ b + a
     swap a b = omega arith
@@ -39,7 +40,8 @@ unfolding packed
 pack-cut zero q b l = absurd (omega arith)
 pack-cut (suc n) q b l = go (λ h. pack-cut n (drop 8 q) b (omega (arith, length-drop 8 q))) (decLt (length q) 8)
   where
-    go : (8 ≤ length q → cut (packed n (drop 8 q ▹ b)) (length (drop 8 q)) ≡ packed n (drop 8 q)) → Dec (length q < 8) → cut (packed (suc n) (q ▹ b)) (length q) ≡ packed (suc n) q
+    go : (8 ≤ length q → cut (packed n (drop 8 q ▹ b)) (length (drop 8 q)) ≡ packed n (drop 8 q)) → Dec (length q < 8)
+        → cut (packed (suc n) (q ▹ b)) (length q) ≡ packed (suc n) q
     go ih (yes h) =
         ap (λ (l : List ℕ). cut l (length q)) (more-short n q b h)
         ∙ cut-short (binary (q ▹ b)) (packed n []) (length q) h
@@ -48,7 +50,8 @@ pack-cut (suc n) q b l = go (λ h. pack-cut n (drop 8 q) b (omega (arith, length
     go ih (no h) =
         ap (λ (l : List ℕ). cut l (length q)) (more-long n q b (omega arith))
         ∙ cut-long (binary (take 8 q)) (packed n (drop 8 q ▹ b)) (length q) (omega arith)
-        ∙ ap (λ (l : List ℕ). binary (take 8 q) ∷ l) (ap (cut (packed n (drop 8 q ▹ b))) (sym (length-drop 8 q)) ∙ ih (omega arith))
+        ∙ ap (λ (l : List ℕ). binary (take 8 q) ∷ l)
+        (ap (cut (packed n (drop 8 q ▹ b))) (sym (length-drop 8 q)) ∙ ih (omega arith))
 
 -- The bits of bytes packed are those bytes, and zeros.
 pub pack-bytes : (n : ℕ) (x : List ℕ) → length x ≤ n → All (λ b. b < 256) x → packed n (bitsOf x) ≡ padded n x

@@ -1,5 +1,4 @@
 -- What every record that the walk comes to satisfies, and that each step keeps it.
--- Assumes nothing.
 use mathlib.Core.Path.{_≡_, refl}
 use Rattle.paper.specs.Hearing as Paper
 use Rattle.paper.specs.Walk.{done, stopped}
@@ -29,4 +28,5 @@ sound-next (ended (done ids)) f = tt
 sound-next (ended (stopped c)) f = tt
 
 pub sound-step : (w : Walk) (p : Phase) (h : Paper.Heard) → Sound w p → SoundNext (told w p h)
-sound-step w p h s = rw (s .walk, s .phase, step-sim (s .state) h (s .fits)) (sound-next (step (s .state) h) (step-fits (s .state) h (s .fits)))
+sound-step w p h s = rw (s .walk, s .phase, step-sim (s .state) h (s .fits))
+    (sound-next (step (s .state) h) (step-fits (s .state) h (s .fits)))

@@ -1,5 +1,4 @@
 -- The wire of some devices lets hear what document 01's honest wire does: the premise on wires is met.
--- Assumes nothing.
 use Prim.Native.Nat.{ℕ, suc, _+_, _/_, _%_, _≤_}
 use mathlib.Core.List.{List, [], _∷_}
 use mathlib.Core.Path.{_≡_, refl, _∙_, ap}
@@ -8,7 +7,8 @@ use lib.ListN.{length, take}
 use lib.Seq.{take-append-le}
 use Rattle.paper.specs.Client.{bytesOf}
 use Rattle.paper.specs.Count.{matching, heardOf, All, Pods}
-use Rattle.paper.specs.Frame.{le, check, read, readSynced, skipped, frameHead, frameBody, frameBytes, command-Select, status-Ok}
+use Rattle.paper.specs.Frame.{le, check, read, readSynced, skipped, frameHead, frameBody, frameBytes, command-Select}
+use Rattle.paper.specs.Frame.{status-Ok}
 use Rattle.paper.specs.Hearing.{Id, Prefix, bitsOf, garble, selectPayload, packed, clean, frames, hear, selectFrame}
 use Rattle.paper.specs.Talk.{select}
 use Rattle.paper.proofs.Bits.{bits-length}
@@ -26,7 +26,8 @@ bits-in : (q : Prefix) (seed : ℕ) → bitsIn (bytesOf (select q) seed []) ≡ 
 unfolding bitsIn bytesOf frameBytes frameBody frameHead selectPayload le
 bits-in q seed =
     ap (take (length q)) (bits-append (packed n q) tail)
-    ∙ take-append-le (length q) (bitsOf (packed n q)) (bitsOf tail) (rw (bits-length (packed n q), packed-length n q) (omega arith))
+    ∙ take-append-le (length q) (bitsOf (packed n q)) (bitsOf tail)
+    (rw (bits-length (packed n q), packed-length n q) (omega arith))
     ∙ packed-read n q (omega arith)
   where
     n : ℕ
@@ -39,8 +40,16 @@ stray : hear (0 ∷ []) ≡ garble
 unfolding hear frames clean read readSynced skipped
 stray = refl
 
-reply-fits : (x : Id) → length x ≤ 16 → Bytes x → Frames.Fits (record { command = command-Select; status = status-Ok; flags = 0; address = 0; payload = x })
-reply-fits x h b = record { command = omega arith; status = omega arith; flags = omega arith; address = omega arith; payload = b; short = omega arith }
+reply-fits : (x : Id) → length x ≤ 16 → Bytes x
+    → Frames.Fits (record { command = command-Select; status = status-Ok; flags = 0; address = 0; payload = x })
+reply-fits x h b = record {
+  command = omega arith;
+  status = omega arith;
+  flags = omega arith;
+  address = omega arith;
+  payload = b;
+  short = omega arith;
+}
 
 spoken-heard : (ids : List Id) → All (λ x. (length x ≤ 16) × Bytes x) ids → hear (spoken ids) ≡ heardOf ids
 unfolding spoken heardOf
@@ -49,15 +58,17 @@ spoken-heard (x ∷ []) h = hear-ok _ (reply-fits x (h .0 .0) (h .0 .1)) refl
 spoken-heard (x ∷ y ∷ zs) h = stray
 
 -- Any ids of which those that match the given prefix are of at most 16 bytes: what the others are does not matter.
-pub devices-honest : (S : List Id) (seed : ℕ) (given : Prefix) → All (λ x. (length x ≤ 16) × Bytes x) (matching given S) → Honest (devices S) seed given S
+pub devices-honest : (S : List Id) (seed : ℕ) (given : Prefix)
+    → All (λ x. (length x ≤ 16) × Bytes x) (matching given S) → Honest (devices S) seed given S
 unfolding heardBy devices
 devices-honest S seed given small k q l e n = rw (bits-in q ((seed + suc k) % 256)) (spoken-heard (matching q S) under)
   where
     under : All (λ x. (length x ≤ 16) × Bytes x) (matching q S)
     under = rw (matching-extends given q S e) at (all-matching q _ (matching given S) small)
 
-pub pods-honest : (S : List Id) (L seed : ℕ) (given : Prefix) → Pods L (matching given S) → Honest (devices S) seed given S
+pub pods-honest : (S : List Id) (L seed : ℕ) (given : Prefix) → Pods L (matching given S)
+    → Honest (devices S) seed given S
 pods-honest S L seed given pods = devices-honest S seed given (all-both _ Bytes (matching given S) small (pods .bytes))
   where
     small : All (λ x. length x ≤ 16) (matching given S)
-    small = all-weaken _ _ (matching given S) (λ x e. omega (arith, pods .short)) (pods .sized)
+    small = all-weaken _ _ (matching given S) (λ x e. omega (arith, pods .within16)) (pods .sized)

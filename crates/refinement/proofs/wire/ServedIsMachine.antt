@@ -1,5 +1,4 @@
 -- A client that is served discovers as the machine of the walk does, Select for Select.
--- Assumes nothing.
 use Prim.Native.Nat.{ℕ, zero, suc, _+_, _%_, _≤_}
 use mathlib.Core.Bool.{false}
 use mathlib.Core.List.{List, [], _++_}
@@ -25,7 +24,7 @@ use Rattle.theory.specs.OperationMachine.{Search, walking, selecting, selected,
 use Rattle.theory.specs.ClientMachine as Machine
 use Rattle.theory.specs.ClientMachine.{Brief, Turn, idle, ready, waiting, settle, handedOut, grant}
 use Rattle.theory.proofs.walk.StepEnds.{Undone, Staying, step-undone}
-use Rattle.theory.proofs.walk.StatesFit as Walk₂
+use Rattle.theory.proofs.walk.StatesFit as StatesFit
 use Rattle.theory.proofs.walk.StatesFit.{FitsNext, step-fits}
 use Rattle.theory.proofs.client.ClientsFit.{Fits}
 use Rattle.ids.specs.declared.Id.{Id}
@@ -43,12 +42,16 @@ use Rattle.refinement.proofs.client.RequestBytes.{payload-length, reque
 use Rattle.refinement.proofs.client.RecordAnswers.{keeps, clears, asking-bits, record-told}
 
 -- What holds of each refusal as the code answers it, and of the outcome that document 01 numbers 23.
-refused-leads : (Q : Shown → Type 0) → ((r : Refusal) (x : Id) → Q (beside (Refused r) x)) → Q (plainly (Over Unaddressed)) → (n : ℕ) (carries : List ℕ) → Q (refusedAs n carries)
+refused-leads : (Q : Shown → Type 0) → ((r : Refusal) (x : Id) → Q (beside (Refused r) x))
+    → Q (plainly (Over Unaddressed)) → (n : ℕ) (carries : List ℕ) → Q (refusedAs n carries)
 unfolding refusedAs
 refused-leads Q r u n carries =
-    either Q (eqb n 1) (r _ _) (either Q (eqb n 2) (r _ _) (either Q (eqb n 3) (r _ _) (either Q (eqb n 4) (r _ _) (either Q (eqb n 5) (r _ _) (either Q (eqb n 6) (r _ _)
-    (either Q (eqb n 7) (r _ _) (either Q (eqb n 8) (r _ _) (either Q (eqb n 9) (r _ _) (either Q (eqb n 10) (r _ _) (either Q (eqb n 11) (r _ _) (either Q (eqb n 12) (r _ _)
-    (either Q (eqb n 13) (r _ _) (either Q (eqb n 14) (r _ _) (either Q (eqb n 15) (r _ _) (either Q (eqb n 16) (r _ _) (either Q (eqb n 17) (r _ _) (either Q (eqb n 18) (r _ _)
+    either Q (eqb n 1) (r _ _) (either Q (eqb n 2) (r _ _)
+    (either Q (eqb n 3) (r _ _) (either Q (eqb n 4) (r _ _) (either Q (eqb n 5) (r _ _) (either Q (eqb n 6) (r _ _)
+    (either Q (eqb n 7) (r _ _) (either Q (eqb n 8) (r _ _)
+    (either Q (eqb n 9) (r _ _) (either Q (eqb n 10) (r _ _) (either Q (eqb n 11) (r _ _) (either Q (eqb n 12) (r _ _)
+    (either Q (eqb n 13) (r _ _) (either Q (eqb n 14) (r _ _)
+    (either Q (eqb n 15) (r _ _) (either Q (eqb n 16) (r _ _) (either Q (eqb n 17) (r _ _) (either Q (eqb n 18) (r _ _)
     (either Q (eqb n 19) (r _ _) (either Q (eqb n 20) (r _ _) (either Q (eqb n 23) u (r _ _)))))))))))))))))))))
 
 -- No refusal goes on.
@@ -61,7 +64,8 @@ pub refused-table : (n : ℕ) (carries : List ℕ) → refusedAs n carries .foun
 refused-table = refused-leads (λ s. s .found ≡ noTable) (λ r x. refl) refl
 
 -- A Select takes at most 31 bytes.
-pub select-length : (q : Prefix) (seed : ℕ) (image : List ℕ) → length q ≤ 129 → length (bytesOf (select q) seed image) ≤ 31
+pub select-length : (q : Prefix) (seed : ℕ) (image : List ℕ) → length q ≤ 129
+    → length (bytesOf (select q) seed image) ≤ 31
 unfolding bytesOf
 select-length q seed image h = omega (arith, frame-length (selectFrame seed q), payload-length seed q)
 
@@ -72,7 +76,8 @@ idAt id (ended e) = endId id e
 
 -- The answer where the machine of the walk stands, after k Selects from the seed b on.
 abbrev pub stood : ℕ → Option Paper.Id → ℕ → Next → ℕ → Told
-stood b id k next at = toldAs (settle (record { seed = (b + k) % 256; id = idAt id next; turn = idle }) none (walked next) at)
+stood b id k next at = toldAs (settle (record { seed = (b + k) % 256; id = idAt id next; turn = idle }) none
+    (walked next) at)
 
 next-seed : (b k : ℕ) → nextSeed ((b + k) % 256) ≡ (b + suc k) % 256
 next-seed b k = mod-add-mod (b + k) 256 1 ∙ ap (λ (x : ℕ). x % 256) (shift b k)
@@ -81,7 +86,8 @@ next-seed b k = mod-add-mod (b + k) 256 1 ∙ ap (λ (x : ℕ). x % 256) (shift 
     shift b k = omega arith
 
 -- Whatever was heard, the id is the one that stands there.
-id-after : (s : State) → Walk₂.Fits s → (id : Option Paper.Id) (h : Paper.Heard) → cleared (select (Walk.request s)) id ≡ idAt id (Walk.step s h)
+id-after : (s : State) → StatesFit.Fits s → (id : Option Paper.Id) (h : Paper.Heard)
+    → cleared (select (Walk.request s)) id ≡ idAt id (Walk.step s h)
 unfolding Walk.request Walk.step Walk.tooLong Walk.tell
 id-after s f id h = go (s .phase) f
   where
@@ -93,16 +99,20 @@ id-after s f id h = go (s .phase) f
     same (ended (done ids)) u = absurd u
     same (ended (stopped c)) u = refl
 
-    asks : (t : State) → Walk₂.Fits t → Staying (t .phase) → cleared (select (Walk.request t)) id ≡ idAt id (Walk.step t h)
-    asks t f a = keeps (Walk.request t) id (asking-bits t f a) ∙ same (Walk.step t h) (step-undone (λ c. Unit {0}) tt tt tt tt t h a)
+    asks : (t : State) → StatesFit.Fits t → Staying (t .phase)
+        → cleared (select (Walk.request t)) id ≡ idAt id (Walk.step t h)
+    asks t f a = keeps (Walk.request t) id (asking-bits t f a)
+        ∙ same (Walk.step t h) (step-undone (λ c. Unit {0}) tt tt tt tt t h a)
 
-    go : (p : Walk.Phase) → Walk₂.Fits (at p) → cleared (select (Walk.request (at p))) id ≡ idAt id (Walk.step (at p) h)
+    go : (p : Walk.Phase) → StatesFit.Fits (at p)
+        → cleared (select (Walk.request (at p))) id ≡ idAt id (Walk.step (at p) h)
     go asked f = asks (at asked) f tt
     go (mine x) f = asks (at (mine x)) f tt
     go (other x good) f = asks (at (other x good)) f tt
     go leaving f = clears id
 
-module _ (buffer : List ℕ) (room : 31 ≤ length buffer) (wire : Wire) (b : ℕ) (id : Option Paper.Id) (brief : Brief id) where
+module _ (buffer : List ℕ) (room : 31 ≤ length buffer) (wire : Wire) (b : ℕ) (id : Option Paper.Id)
+    (brief : Brief id) where
   -- A Select that is granted, and its bytes.
   module _ (seed : ℕ) (q : Search) (bytes : List ℕ) (small : length bytes ≤ 31) (next : ℕ) where
     abbrev asking : Machine.Client
@@ -111,7 +121,8 @@ module _ (buffer : List ℕ) (room : 31 ≤ length buffer) (wire : Wire) (b : �
     abbrev out : Machine.Client
     out = record { seed = next; id = id; turn = handedOut (selecting q) }
 
-    grants : grant asking bytes next (selecting q) buffer ≡ record { says = granted (length bytes); client = out; buffer = bytes ++ drop (length bytes) buffer }
+    grants : grant asking bytes next (selecting q) buffer
+        ≡ record { says = granted (length bytes); client = out; buffer = bytes ++ drop (length bytes) buffer }
     unfolding grant
     grants = rw (le-ltb (length buffer) (length bytes) (omega arith))
 
@@ -120,9 +131,10 @@ module _ (buffer : List ℕ) (room : 31 ≤ length buffer) (wire : Wire) (b : �
 
     granted-bytes : sent (askedAs (grant asking bytes next (selecting q) buffer)) ≡ bytes
     unfolding sent
-    granted-bytes = ap (λ (a : Machine.Asked). sent (askedAs a)) grants ∙ take-append-seam bytes (drop (length bytes) buffer)
+    granted-bytes = ap (λ (a : Machine.Asked). sent (askedAs a)) grants
+        ∙ take-append-seam bytes (drop (length bytes) buffer)
 
-  module _ (k : ℕ) (s : State) (f : Walk₂.Fits s) where
+  module _ (k : ℕ) (s : State) (f : StatesFit.Fits s) where
     ready-client : Machine.Client
     ready-client = record { seed = (b + k) % 256; id = id; turn = ready (selecting (walking s)) }
 
@@ -131,9 +143,10 @@ module _ (buffer : List ℕ) (room : 31 ≤ length buffer) (wire : Wire) (b : �
 
     small : length bytes ≤ 31
     unfolding bytes
-    small = select-length (Walk.request s) (nextSeed ((b + k) % 256)) [] (Walk₂.request-fits s f)
+    small = select-length (Walk.request s) (nextSeed ((b + k) % 256)) [] (StatesFit.request-fits s f)
 
-    asks : request (clientOf ready-client) [] buffer ≡ askedAs (grant ready-client bytes (nextSeed ((b + k) % 256)) (selecting (walking s)) buffer)
+    asks : request (clientOf ready-client) [] buffer
+        ≡ askedAs (grant ready-client bytes (nextSeed ((b + k) % 256)) (selecting (walking s)) buffer)
     unfolding ready-client bytes Machine.request selected
     asks = request-asked ready-client (record { seed = omega arith; id = brief; turn = f }) [] buffer
 
@@ -145,22 +158,36 @@ module _ (buffer : List ℕ) (room : 31 ≤ length buffer) (wire : Wire) (b : �
     heard-is = ap (λ (n : ℕ). hear (wire k (bytesOf (select (Walk.request s)) n []))) (next-seed b k)
 
     -- One round.
-    rounds : round buffer wire k (clientOf ready-client) ≡ stood b id (suc k) (Walk.step s (heardBy wire b k (Walk.request s))) (length (wire k bytes))
+    rounds : round buffer wire k (clientOf ready-client)
+        ≡ stood b id (suc k) (Walk.step s (heardBy wire b k (Walk.request s))) (length (wire k bytes))
     unfolding round ready-client heard Machine.record′ selected step hears handedOut settle
     rounds =
         ap (λ (a : Asking). record′ (a .answer .client) [] (wire k (sent a))) asks
         ∙ ap₂ (λ (c : Client) (l : List ℕ). record′ c [] (wire k l))
-        (granted-client ((b + k) % 256) (walking s) bytes small (nextSeed ((b + k) % 256))) (granted-bytes ((b + k) % 256) (walking s) bytes small (nextSeed ((b + k) % 256)))
-        ∙ record-told (record { seed = nextSeed ((b + k) % 256); id = id; turn = waiting (selecting (walking s)) }) (record { seed = omega arith; id = brief; turn = f }) [] (wire k bytes)
-        ∙ ap₂ (λ (n : ℕ) (x : Option Paper.Id). toldAs (settle (record { seed = n; id = x; turn = waiting (selecting (walking s)) }) none (walked (Walk.step s heard)) (length (wire k bytes))))
+        (granted-client ((b + k) % 256) (walking s) bytes small (nextSeed ((b + k) % 256)))
+        (granted-bytes ((b + k) % 256) (walking s) bytes small (nextSeed ((b + k) % 256)))
+        ∙ record-told (record { seed = nextSeed ((b + k) % 256); id = id; turn = waiting (selecting (walking s)) })
+        (record { seed = omega arith; id = brief; turn = f }) [] (wire k bytes)
+        ∙ ap₂ (λ (n : ℕ) (x : Option Paper.Id). toldAs
+        (settle (record { seed = n; id = x; turn = waiting (selecting (walking s)) }) none (walked (Walk.step s heard))
+        (length (wire k bytes))))
         (next-seed b k) (id-after s f id heard)
-        ∙ ap (λ (h : Paper.Heard). toldAs (settle (record { seed = (b + suc k) % 256; id = idAt id (Walk.step s h); turn = waiting (selecting (walking s)) }) none (walked (Walk.step s h)) (length (wire k bytes)))) heard-is
-        ∙ ap toldAs (turn-settles ((b + suc k) % 256) (idAt id next) (waiting (selecting (walking s))) (walked next) (length (wire k bytes)))
+        ∙ ap (λ (h : Paper.Heard). toldAs
+        (settle (record {
+          seed = (b + suc k) % 256;
+          id = idAt id (Walk.step s h);
+          turn = waiting
+              (selecting (walking s));
+        }) none (walked (Walk.step s h)) (length (wire k bytes)))) heard-is
+        ∙ ap toldAs (turn-settles ((b + suc k) % 256) (idAt id next) (waiting (selecting (walking s))) (walked next)
+        (length (wire k bytes)))
       where
         next : Next
         next = Walk.step s (heardBy wire b k (Walk.request s))
 
-        turn-settles : (n : ℕ) (x : Option Paper.Id) (t : Turn) (next : Then) (at : ℕ) → settle (record { seed = n; id = x; turn = t }) none next at ≡ settle (record { seed = n; id = x; turn = idle }) none next at
+        turn-settles : (n : ℕ) (x : Option Paper.Id) (t : Turn) (next : Then) (at : ℕ)
+            → settle (record { seed = n; id = x; turn = t }) none next at
+            ≡ settle (record { seed = n; id = x; turn = idle }) none next at
         turn-settles n x t (Phases.to ph) at = refl
         turn-settles n x t (Phases.ends o) at = refl
         turn-settles n x t (Phases.refuses m carries) at = refl
@@ -171,8 +198,10 @@ module _ (buffer : List ℕ) (room : 31 ≤ length buffer) (wire : Wire) (b : �
     pub told : code .0 ≡ stood b id (machine .1) (machine .0) at
     pub count : code .1 ≡ machine .1
 
-  once : (n k : ℕ) (s : State) (f : Walk₂.Fits s) (at : ℕ)
-      → served (suc n) buffer wire k (stood b id k (going s) at) ≡ served n buffer wire (suc k) (stood b id (suc k) (Walk.step s (heardBy wire b k (Walk.request s))) (length (wire k (bytes k s f))))
+  once : (n k : ℕ) (s : State) (f : StatesFit.Fits s) (at : ℕ)
+      → served (suc n) buffer wire k (stood b id k (going s) at)
+      ≡ served n buffer wire (suc k)
+      (stood b id (suc k) (Walk.step s (heardBy wire b k (Walk.request s))) (length (wire k (bytes k s f))))
   unfolding served isOnward settle ready-client
   once n k s f at = ap (served n buffer wire (suc k)) (rounds k s f)
 
@@ -181,12 +210,18 @@ module _ (buffer : List ℕ) (room : 31 ≤ length buffer) (wire : Wire) (b : �
   ended-onward k (done ids) at = refl
   ended-onward k (stopped c) at = refused-ends c []
 
-  pub serve-walks : (n k : ℕ) (next : Next) → FitsNext next → (at : ℕ) → Stands (served n buffer wire k (stood b id k next at)) (drive n (heardBy wire b) k next)
+  pub serve-walks : (n k : ℕ) (next : Next) → FitsNext next → (at : ℕ)
+      → Stands (served n buffer wire k (stood b id k next at)) (drive n (heardBy wire b) k next)
   unfolding served drive
   serve-walks zero k next f at = record { at = at; told = refl; count = refl }
-  serve-walks (suc n) k (going s) f at = go (serve-walks n (suc k) (Walk.step s (heardBy wire b k (Walk.request s))) (step-fits s _ f) (length (wire k (bytes k s f))))
+  serve-walks (suc n) k (going s) f at =
+      go (serve-walks n (suc k) (Walk.step s (heardBy wire b k (Walk.request s))) (step-fits s _ f)
+      (length (wire k (bytes k s f))))
     where
-      go : Stands (served n buffer wire (suc k) (stood b id (suc k) (Walk.step s (heardBy wire b k (Walk.request s))) (length (wire k (bytes k s f))))) (drive n (heardBy wire b) (suc k) (Walk.step s (heardBy wire b k (Walk.request s))))
-          → Stands (served (suc n) buffer wire k (stood b id k (going s) at)) (drive n (heardBy wire b) (suc k) (Walk.step s (heardBy wire b k (Walk.request s))))
+      go : Stands (served n buffer wire (suc k)
+          (stood b id (suc k) (Walk.step s (heardBy wire b k (Walk.request s))) (length (wire k (bytes k s f)))))
+          (drive n (heardBy wire b) (suc k) (Walk.step s (heardBy wire b k (Walk.request s))))
+          → Stands (served (suc n) buffer wire k (stood b id k (going s) at))
+          (drive n (heardBy wire b) (suc k) (Walk.step s (heardBy wire b k (Walk.request s))))
       go h = rw (once n k s f at) h
   serve-walks (suc n) k (ended e) f at = rw (ended-onward k e at) (record { at = at; told = refl; count = refl })

@@ -1,5 +1,4 @@
 -- `select::put_bit` meets its contract.
--- Assumes nothing.
 use Rattle.select.proofs.Ways.{one-put, zero-put}
 use borrow.Author.Needs.{needs}
 use Rattle.select.proofs.put_bit.Statement.{statement}

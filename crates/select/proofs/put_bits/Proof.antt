@@ -1,5 +1,4 @@
 -- `select::put_bits` meets its contract.
--- Assumes nothing.
 use borrow.Author.Needs.{needs}
 use Prim.Native.Nat.{_-_}
 use mathlib.Core.List.{_++_}
@@ -13,7 +12,8 @@ use Rattle.select.proofs.put_bits.Tie as tie
 
 abbrev Inv-loop : tie.InvT-loop
 Inv-loop dst₀ count bits k₀ dst k =
-    (length dst ≡ length dst₀) × (dst ≡ packed (bytesFor count) (take k (asked bits count)) ++ drop (bytesFor count) dst₀)
+    (length dst ≡ length dst₀) × (dst
+    ≡ packed (bytesFor count) (take k (asked bits count)) ++ drop (bytesFor count) dst₀)
 
 abbrev μ-loop : tie.MeasureT-loop
 μ-loop dst₀ count bits k₀ dst k = count - k

@@ -1,5 +1,4 @@
 -- `select::put_pair` meets its contract.
--- Assumes nothing.
 use mathlib.Core.List.{[], _∷_}
 use lib.Seq.{sets-eq}
 use borrow.Author.Needs.{needs}

@@ -1,5 +1,4 @@
 -- `select::put_select` meets its contract.
--- Assumes nothing.
 use Rattle.select.proofs.Ways.{payload-put}
 use borrow.Author.Needs.{needs}
 use Rattle.select.proofs.put_select.Statement.{statement}

@@ -1,5 +1,4 @@
 -- `select::write_select` meets its contract.
--- Assumes nothing.
 use Rattle.select.proofs.Ways.{select-short, select-wrote}
 use borrow.Author.Needs.{needs}
 use Rattle.select.proofs.write_select.Statement.{statement}

@@ -1,5 +1,4 @@
 -- `show::print_hex` meets its contract.
--- Assumes nothing.
 use Prim.Native.Nat.{_-_}
 use lib.ListN.{length}
 use borrow.Author.Needs.{needs}

@@ -1,5 +1,4 @@
 -- `text::bad_text` meets its contract.
--- Assumes nothing.
 use mathlib.Core.Path.{ap}
 use Rattle.ids.specs.declared.Id.{Id}
 use Rattle.text.specs.declared.Parse.the-variants.{BadText}

@@ -1,5 +1,4 @@
 -- `text::digit` meets its contract.
--- Assumes nothing.
 use Rattle.text.proofs.Reading.{digits}
 use borrow.Author.Needs.{needs}
 use Rattle.text.proofs.digit.Statement.{statement}

@@ -1,5 +1,4 @@
 -- `text::hex_digit` meets its contract.
--- Assumes nothing.
 use Rattle.lore.proofs.Choice.{ways}
 use Rattle.paper.specs.Text.{hexDigit}
 use borrow.Author.Needs.{needs}

@@ -1,16 +1,19 @@
--- `text::parse_uid` meets its contract. The loop's invariant: the bytes read, joined to those of the rest, are those of the text.
--- Assumes nothing.
+-- `text::parse_uid` meets its contract. The loop's invariant: the bytes read, joined to those of the rest, are those of
+-- the text.
 use borrow.Author.Needs.{needs}
 use mathlib.Core.Path.{_≡_}
 use Prim.Native.Nat.{_≤_, _-_, _*_, _/_, _%_}
 use lib.ListN.{length, take, drop}
 use Rattle.paper.specs.Text.{unhex}
-use Rattle.text.proofs.Reading.{Joined, none-read, too-long, odd, bad-high, bad-low, read-more, zero-more, read-all}
+use Rattle.text.proofs.Reading.{Joined, none-read, too-long, odd, bad-high, bad-low, read-more, zero-more}
+use Rattle.text.proofs.Reading.{read-all}
 use Rattle.text.proofs.parse_uid.Statement.{statement}
 use Rattle.text.proofs.parse_uid.Tie as tie
 
 abbrev Inv-loop : tie.InvT-loop
-Inv-loop text n out₀ i₀ out i = (i ≤ n / 2) × (n ≡ length text) × (n ≤ 32) × (n % 2 ≡ 0) × (length out ≡ 16) × (drop i out ≡ drop i out₀) × (Joined (take i out) (unhex (drop (2 * i) text)) ≡ unhex text)
+Inv-loop text n out₀ i₀ out i =
+    (i ≤ n / 2) × (n ≡ length text) × (n ≤ 32) × (n % 2 ≡ 0) × (length out ≡ 16) × (drop i out ≡ drop i out₀)
+    × (Joined (take i out) (unhex (drop (2 * i) text)) ≡ unhex text)
 
 abbrev μ-loop : tie.MeasureT-loop
 μ-loop text n out₀ i₀ out i = n - i
@@ -79,7 +82,16 @@ loop-less : tie.Need-loop-less Inv-loop μ-loop
 loop-less c = search needs
 
 loop-again : tie.Need-loop-again Inv-loop μ-loop
-loop-again c = (search needs, search needs, search needs, search needs, search needs, search (zero-more, needs), search (read-more, needs))
+loop-again c = (
+  search needs,
+  search needs,
+  search needs,
+  search needs,
+  search needs,
+  search (zero-more, needs),
+  search
+      (read-more, needs),
+)
 
 cast-t20 : tie.Need-cast-t20 Inv-loop μ-loop
 cast-t20 c = search needs

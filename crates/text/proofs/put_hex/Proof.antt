@@ -1,5 +1,4 @@
 -- `text::put_hex` meets its contract. The loop's invariant: the digits of the bytes passed stand at the front.
--- Assumes nothing.
 use borrow.Author.Needs.{needs}
 use mathlib.Core.Path.{_≡_}
 use mathlib.Core.List.{_++_}
@@ -12,7 +11,8 @@ use Rattle.text.proofs.put_hex.Statement.{statement}
 use Rattle.text.proofs.put_hex.Tie as tie
 
 abbrev Inv-loop : tie.InvT-loop
-Inv-loop text₀ bytes i₀ text i = (i ≤ length bytes) × (length text ≡ length text₀) × (text ≡ hexText (take i bytes) ++ drop (2 * i) text₀)
+Inv-loop text₀ bytes i₀ text i =
+    (i ≤ length bytes) × (length text ≡ length text₀) × (text ≡ hexText (take i bytes) ++ drop (2 * i) text₀)
 
 abbrev μ-loop : tie.MeasureT-loop
 μ-loop text₀ bytes i₀ text i = length bytes - i

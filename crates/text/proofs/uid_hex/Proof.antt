@@ -1,5 +1,4 @@
 -- `text::uid_hex` meets its contract.
--- Assumes nothing.
 use Rattle.text.proofs.Writing.{refuses-long, refuses-short, writes}
 use borrow.Author.Needs.{needs}
 use Rattle.text.proofs.uid_hex.Statement.{statement}

@@ -1,5 +1,4 @@
 -- What every client of the operations' machine keeps to, for the record that holds it.
--- Assumes nothing.
 use Prim.Native.Nat.{ℕ, _*_, _≤_, _<_}
 use mathlib.Core.Bool.{Bool, true, false, _&&_, cond}
 use mathlib.Core.List.{List, []}
@@ -9,17 +8,22 @@ use native.Mathlib.Omega.{arith}
 use lib.Dec.{leb, ltb}
 use lib.ListN.{length}
 use borrow.Author.Tests.{ltb-false, leb-true}
-use Rattle.paper.specs.Client.{short, idAfter, otherLength, seedAfter, cleared, reading, place}
+use Rattle.paper.specs.Client.{withinLongest, idAfter, otherLength, seedAfter, cleared, reading, place}
 use Rattle.paper.specs.Hearing.{Id, bitsOf, onSome, Heard, nothing, one, unaddressed, garble}
-use Rattle.paper.specs.Talk.{Ask, select, demand, leave, Answer, Outcome, quiet, heard, attached, found, knows}
+use Rattle.paper.specs.Talk.{Ask, select, demand, leave, AnswerTo, Outcome, quiet, heard, attached, found, knows}
 use Rattle.paper.specs.Walk.{long, done, stopped}
 use Rattle.paper.proofs.Bits.{bits-length}
 use Rattle.lore.proofs.Choice.{by-test, either}
 use Rattle.theory.specs.WalkMachine as Machine
 use Rattle.theory.specs.WalkMachine.{going, ended}
 use Rattle.theory.specs.OperationMachine as Phases
-use Rattle.theory.specs.OperationMachine.{Search, probing, parting, seeking, backing, walking, tell, clear, load, informing, resetting, Phase, selecting, demanding, leaving, Then, to, ends, refuses, sought, walked, hears, step, starting}
-use Rattle.theory.specs.ClientMachine.{Brief, Turn, idle, ready, waiting, Client, fresh, turned, lends, settle, unchanged, fails, start, startSelect, startDeselect, startAttach, startDiscover, startInfo, startErase, startFlash, resets, startReset, startSetBaud, Asked, handedOut, grant, request, record′, linkFailed}
+use Rattle.theory.specs.OperationMachine.{Search, probing, parting, seeking, backing, walking, tell, clear, load}
+use Rattle.theory.specs.OperationMachine.{informing, resetting, Phase, selecting, demanding, leaving, Then, to}
+use Rattle.theory.specs.OperationMachine.{ends, refuses, sought, walked, hears, step, starting}
+use Rattle.theory.specs.ClientMachine.{Brief, Turn, idle, ready, waiting, Client, fresh, turned, lends, settle}
+use Rattle.theory.specs.ClientMachine.{unchanged, fails, start, startSelect, startDeselect, startAttach}
+use Rattle.theory.specs.ClientMachine.{startDiscover, startInfo, startErase, startFlash, resets, startReset}
+use Rattle.theory.specs.ClientMachine.{startSetBaud, Asked, handedOut, grant, request, record′, linkFailed}
 use Rattle.theory.proofs.walk.StatesFit as Walk
 use Rattle.theory.proofs.walk.StatesFit.{Short, FitsNext, step-fits}
 use Rattle.theory.proofs.talk.MachineIsTalk.{Sound, SoundJob}
@@ -95,13 +99,15 @@ search-fits (backing none) f h = tt
 search-fits (backing (some given)) f h = tt
 search-fits (walking s) f h = walked-fits (Machine.step s h) (step-fits s h f)
 
-pub phase-fits : (ph : Phase) → FitsPhase ph → (a : Answer (Phases.request ph)) → FitsThen (step ph a .then)
+pub phase-fits : (ph : Phase) → FitsPhase ph → (a : AnswerTo (Phases.request ph)) → FitsThen (step ph a .then)
 unfolding step
 phase-fits (selecting s) f h = search-fits s f h
-phase-fits (demanding j) f a = told-leads FitsThen (any-end _ tt (λ info. tt) (λ n carries. tt)) j (λ k w. w .0 f) (a .reply) (a .image)
+phase-fits (demanding j) f a =
+    told-leads FitsThen (any-end _ tt (λ info. tt) (λ n carries. tt)) j (λ k w. w .0 f) (a .reply) (a .image)
 phase-fits (leaving bootloader baud) f a = tt
 
-settle-fits : (c : Client) (progress : Option (ℕ × ℕ)) (t : Then) (at : ℕ) → c .seed < 256 → Brief (c .id) → FitsThen t → Fits (settle c progress t at .client)
+settle-fits : (c : Client) (progress : Option (ℕ × ℕ)) (t : Then) (at : ℕ) → c .seed < 256 → Brief (c .id) → FitsThen t
+    → Fits (settle c progress t at .client)
 unfolding settle idAfter
 settle-fits c progress (to ph) at s b f = record { seed = s; id = b; turn = f }
 settle-fits c progress (ends quiet) at s b f = record { seed = s; id = b; turn = tt }
@@ -115,7 +121,8 @@ pub fresh-fits : Fits fresh
 unfolding fresh
 fresh-fits = record { seed = omega arith; id = tt; turn = tt }
 
-start-fits : (c : Client) → Fits c → (good : Bool) (ph : Phase) → (good ≡ true → FitsPhase ph) → Fits (start c good ph .client)
+start-fits : (c : Client) → Fits c → (good : Bool) (ph : Phase) → (good ≡ true → FitsPhase ph)
+    → Fits (start c good ph .client)
 unfolding start
 start-fits c f good ph g = go (c .turn) (f .turn) good g
   where
@@ -128,9 +135,11 @@ start-fits c f good ph g = go (c .turn) (f .turn) good g
 module _ (c : Client) (f : Fits c) where
   pub startSelect-fits : (bytes : Id) (bits : ℕ) → Fits (startSelect c bytes bits .client)
   unfolding startSelect
-  startSelect-fits bytes bits = start-fits c f (short bytes && (leb bits 128 && leb bits (8 * length bytes))) (selecting (probing bytes bits)) (go (short bytes) (leb bits 128) (leb bits (8 * length bytes)) refl refl)
+  startSelect-fits bytes bits = start-fits c f (withinLongest bytes && (leb bits 128 && leb bits (8 * length bytes)))
+      (selecting (probing bytes bits)) (go (withinLongest bytes) (leb bits 128) (leb bits (8 * length bytes)) refl refl)
     where
-      go : (a b d : Bool) → short bytes ≡ a → leb bits (8 * length bytes) ≡ d → (a && (b && d)) ≡ true → FitsSearch (probing bytes bits)
+      go : (a b d : Bool) → withinLongest bytes ≡ a → leb bits (8 * length bytes) ≡ d → (a && (b && d)) ≡ true
+          → FitsSearch (probing bytes bits)
       go true true true x z e = (leb-true (length bytes) 16 x, leb-true bits (8 * length bytes) z)
       go true true false x z e = absurd (let n : _≡_ {A = ℕ} 0 1 = cc in omega arith)
       go true false d x z e = absurd (let n : _≡_ {A = ℕ} 0 1 = cc in omega arith)
@@ -143,14 +152,16 @@ module _ (c : Client) (f : Fits c) where
   pub startAttach-fits : (uid : Option Id) → Fits (startAttach c uid .client)
   unfolding startAttach
   startAttach-fits none = start-fits c f true (selecting (seeking none)) (λ e. tt)
-  startAttach-fits (some given) = start-fits c f (short given) (selecting (seeking (some given))) (λ e. leb-true (length given) 16 e)
+  startAttach-fits (some given) =
+      start-fits c f (withinLongest given) (selecting (seeking (some given))) (λ e. leb-true (length given) 16 e)
 
   pub startDiscover-fits : (given : Id) → Fits (startDiscover c given .client)
   unfolding startDiscover
-  startDiscover-fits given = start-fits c f (short given) (selecting (walking (starting (bitsOf given)))) (λ e. first (leb-true (length given) 16 e))
+  startDiscover-fits given = start-fits c f (withinLongest given) (selecting (walking (starting (bitsOf given))))
+      (λ e. first (leb-true (length given) 16 e))
     where
       first : Short given → Walk.Fits (starting (bitsOf given))
-      first s = record { depth = omega (arith, bits-length given); few = omega arith; short = tt; held = tt }
+      first s = record { depth = omega (arith, bits-length given); few = omega arith; withinLongest = tt; held = tt }
 
   pub startInfo-fits : Fits (startInfo c .client)
   unfolding startInfo
@@ -164,7 +175,8 @@ module _ (c : Client) (f : Fits c) where
   unfolding startFlash
   startFlash-fits image = start-fits c f true (demanding (informing (load (length image)))) (λ e. tt)
 
-  resets-fits : (bootloader : Bool) (baud : Option ℕ) (inBoot : Bool) → Fits (start c true (resets bootloader baud inBoot) .client)
+  resets-fits : (bootloader : Bool) (baud : Option ℕ) (inBoot : Bool)
+      → Fits (start c true (resets bootloader baud inBoot) .client)
   resets-fits bootloader baud true = start-fits c f true (demanding (resetting bootloader baud)) (λ e. tt)
   resets-fits bootloader baud false = start-fits c f true (leaving bootloader baud) (λ e. tt)
 
@@ -187,7 +199,8 @@ module _ (c : Client) (f : Fits c) where
   handed-fits (demanding j) w = w
   handed-fits (leaving bootloader baud) w = tt
 
-  grant-fits : (ph : Phase) → FitsPhase ph → (bytes : List ℕ) (seed : ℕ) → seed < 256 → (buffer : List ℕ) → Fits (grant (turned c (ready ph)) bytes seed ph buffer .client)
+  grant-fits : (ph : Phase) → FitsPhase ph → (bytes : List ℕ) (seed : ℕ) → seed < 256 → (buffer : List ℕ)
+      → Fits (grant (turned c (ready ph)) bytes seed ph buffer .client)
   unfolding grant
   grant-fits ph w bytes seed small buffer =
       either (λ (a : Asked). Fits (a .client)) (ltb (length buffer) (length bytes))
@@ -200,7 +213,8 @@ module _ (c : Client) (f : Fits c) where
       go : (t : Turn) → FitsTurn t → Fits (request (turned c t) image buffer .client)
       go idle w = record { seed = f .seed; id = f .id; turn = w }
       go (ready ph) w =
-          either (λ (a : Asked). Fits (a .client)) (otherLength (lends ph) image) (record { seed = f .seed; id = f .id; turn = w })
+          either (λ (a : Asked). Fits (a .client)) (otherLength (lends ph) image)
+          (record { seed = f .seed; id = f .id; turn = w })
           (grant-fits ph w _ _ (seed-fits (Phases.request ph)) buffer)
       go (waiting ph) w = record { seed = f .seed; id = f .id; turn = w }
 
@@ -224,11 +238,14 @@ module _ (c : Client) (f : Fits c) where
           after : Client
           after = record { seed = c .seed; id = cleared (Phases.request ph) (c .id); turn = waiting ph }
 
-          lent : (b : Bool) (o : Option (Answer (Phases.request ph)))
-              → Fits (cond b (unchanged before 20 []) (onSome o (fails before (place (Phases.request ph) bytes)) (λ a. settle after (step ph a .progress) (step ph a .then) (place (Phases.request ph) bytes))) .client)
+          lent : (b : Bool) (o : Option (AnswerTo (Phases.request ph)))
+              → Fits (cond b (unchanged before 20 [])
+              (onSome o (fails before (place (Phases.request ph) bytes))
+              (λ a. settle after (step ph a .progress) (step ph a .then) (place (Phases.request ph) bytes))) .client)
           lent true o = record { seed = f .seed; id = f .id; turn = w }
           lent false none = record { seed = f .seed; id = f .id; turn = tt }
-          lent false (some a) = settle-fits after (step ph a .progress) (step ph a .then) (place (Phases.request ph) bytes) (f .seed) (brief-cleared (Phases.request ph)) (phase-fits ph w a)
+          lent false (some a) = settle-fits after (step ph a .progress) (step ph a .then)
+              (place (Phases.request ph) bytes) (f .seed) (brief-cleared (Phases.request ph)) (phase-fits ph w a)
 
   pub linkFailed-fits : Fits (linkFailed c .client)
   unfolding linkFailed

@@ -1,21 +1,25 @@
 -- What holds of every id that a client is given or hears holds of every id that it holds.
--- Assumes nothing.
 use Prim.Native.Nat.{ℕ, _*_}
 use mathlib.Core.Bool.{Bool, true, false, _&&_, cond}
 use mathlib.Core.List.{List, []}
 use mathlib.Core.Option.{Option, none, some}
 use lib.Dec.{leb, ltb}
 use lib.ListN.{length}
-use Rattle.paper.specs.Client.{short, idAfter, otherLength, cleared, reading, place}
+use Rattle.paper.specs.Client.{withinLongest, idAfter, otherLength, cleared, reading, place}
 use Rattle.paper.specs.Hearing.{Id, bitsOf, hear, onSome, Heard, nothing, one, unaddressed, garble}
-use Rattle.paper.specs.Talk.{Ask, select, demand, leave, Answer, quiet, heard, attached, found, knows}
+use Rattle.paper.specs.Talk.{Ask, select, demand, leave, AnswerTo, quiet, heard, attached, found, knows}
 use Rattle.paper.specs.Walk.{long, done, stopped}
 use Rattle.lore.proofs.Choice.{either}
 use Rattle.theory.specs.WalkMachine as Machine
 use Rattle.theory.specs.WalkMachine.{going, ended}
 use Rattle.theory.specs.OperationMachine as Phases
-use Rattle.theory.specs.OperationMachine.{Search, probing, parting, seeking, backing, walking, tell, clear, load, informing, resetting, Phase, selecting, demanding, leaving, Then, to, ends, refuses, sought, walked, hears, step, starting}
-use Rattle.theory.specs.ClientMachine.{OfAny, Turn, idle, ready, waiting, Client, fresh, turned, lends, settle, unchanged, fails, start, startSelect, startDeselect, startAttach, startDiscover, startInfo, startErase, startFlash, resets, startReset, startSetBaud, Asked, handedOut, grant, request, record′, linkFailed}
+use Rattle.theory.specs.OperationMachine.{Search, probing, parting, seeking, backing, walking, tell, clear, load}
+use Rattle.theory.specs.OperationMachine.{informing, resetting, Phase, selecting, demanding, leaving, Then, to}
+use Rattle.theory.specs.OperationMachine.{ends, refuses, sought, walked, hears, step, starting}
+use Rattle.theory.specs.ClientMachine.{OfAny, Turn, idle, ready, waiting, Client, fresh, turned, lends, settle}
+use Rattle.theory.specs.ClientMachine.{unchanged, fails, start, startSelect, startDeselect, startAttach}
+use Rattle.theory.specs.ClientMachine.{startDiscover, startInfo, startErase, startFlash, resets, startReset}
+use Rattle.theory.specs.ClientMachine.{startSetBaud, Asked, handedOut, grant, request, record′, linkFailed}
 use Rattle.theory.proofs.walk.CarriedIds.{Telling, Carries, CarriesNext, step-carries}
 use Rattle.theory.proofs.talk.JobSteps.{any-end, told-leads}
 
@@ -73,7 +77,8 @@ module _ (P : Id → Type 0) where
   search-holds (backing (some given)) k h t = tt
   search-holds (walking s) k h t = walked-holds (Machine.step s h) (step-carries P s k h t)
 
-  settle-holds : (c : Client) (progress : Option (ℕ × ℕ)) (t : Then) (at : ℕ) → OfAny P (c .id) → HoldsThen P t → Holds P (settle c progress t at .client)
+  settle-holds : (c : Client) (progress : Option (ℕ × ℕ)) (t : Then) (at : ℕ) → OfAny P (c .id) → HoldsThen P t
+      → Holds P (settle c progress t at .client)
   unfolding settle idAfter
   settle-holds c progress (to ph) at b k = record { id = b; turn = k }
   settle-holds c progress (ends quiet) at b k = record { id = b; turn = tt }
@@ -87,7 +92,8 @@ module _ (P : Id → Type 0) where
   unfolding fresh
   fresh-holds = record { id = tt; turn = tt }
 
-  start-holds : (c : Client) → Holds P c → (good : Bool) (ph : Phase) → HoldsPhase P ph → Holds P (start c good ph .client)
+  start-holds : (c : Client) → Holds P c → (good : Bool) (ph : Phase) → HoldsPhase P ph
+      → Holds P (start c good ph .client)
   unfolding start
   start-holds c k good ph p = go (c .turn) (k .turn) good
     where
@@ -100,7 +106,9 @@ module _ (P : Id → Type 0) where
   module _ (c : Client) (k : Holds P c) where
     pub startSelect-holds : (bytes : Id) (bits : ℕ) → P bytes → Holds P (startSelect c bytes bits .client)
     unfolding startSelect
-    startSelect-holds bytes bits p = start-holds c k (short bytes && (leb bits 128 && leb bits (8 * length bytes))) (selecting (probing bytes bits)) p
+    startSelect-holds bytes bits p =
+        start-holds c k (withinLongest bytes && (leb bits 128 && leb bits (8 * length bytes)))
+        (selecting (probing bytes bits)) p
 
     pub startDeselect-holds : Holds P (startDeselect c .client)
     unfolding startDeselect
@@ -108,11 +116,12 @@ module _ (P : Id → Type 0) where
 
     pub startAttach-holds : (uid : Option Id) → OfAny P uid → Holds P (startAttach c uid .client)
     unfolding startAttach
-    startAttach-holds uid p = start-holds c k (onSome uid true short) (selecting (seeking uid)) p
+    startAttach-holds uid p = start-holds c k (onSome uid true withinLongest) (selecting (seeking uid)) p
 
     pub startDiscover-holds : (given : Id) → Holds P (startDiscover c given .client)
     unfolding startDiscover
-    startDiscover-holds given = start-holds c k (short given) (selecting (walking (starting (bitsOf given)))) (record { ids = tt; candidate = tt })
+    startDiscover-holds given = start-holds c k (withinLongest given) (selecting (walking (starting (bitsOf given))))
+        (record { ids = tt; candidate = tt })
 
     pub startInfo-holds : Holds P (startInfo c .client)
     unfolding startInfo
@@ -126,7 +135,8 @@ module _ (P : Id → Type 0) where
     unfolding startFlash
     startFlash-holds image = start-holds c k true (demanding (informing (load (length image)))) tt
 
-    resets-holds : (bootloader : Bool) (baud : Option ℕ) (inBoot : Bool) → Holds P (start c true (resets bootloader baud inBoot) .client)
+    resets-holds : (bootloader : Bool) (baud : Option ℕ) (inBoot : Bool)
+        → Holds P (start c true (resets bootloader baud inBoot) .client)
     resets-holds bootloader baud true = start-holds c k true (demanding (resetting bootloader baud)) tt
     resets-holds bootloader baud false = start-holds c k true (leaving bootloader baud) tt
 
@@ -134,7 +144,8 @@ module _ (P : Id → Type 0) where
     unfolding startReset
     startReset-holds bootloader inBoot = resets-holds bootloader none inBoot
 
-    pub startSetBaud-holds : (baud : ℕ) (bootloader inBoot : Bool) → Holds P (startSetBaud c baud bootloader inBoot .client)
+    pub startSetBaud-holds : (baud : ℕ) (bootloader inBoot : Bool)
+        → Holds P (startSetBaud c baud bootloader inBoot .client)
     unfolding startSetBaud
     startSetBaud-holds baud bootloader inBoot = resets-holds bootloader (some baud) inBoot
 
@@ -144,10 +155,12 @@ module _ (P : Id → Type 0) where
     handed-holds (demanding j) w = w
     handed-holds (leaving bootloader baud) w = tt
 
-    grant-holds : (ph : Phase) → HoldsPhase P ph → (bytes : List ℕ) (seed : ℕ) (buffer : List ℕ) → Holds P (grant (turned c (ready ph)) bytes seed ph buffer .client)
+    grant-holds : (ph : Phase) → HoldsPhase P ph → (bytes : List ℕ) (seed : ℕ) (buffer : List ℕ)
+        → Holds P (grant (turned c (ready ph)) bytes seed ph buffer .client)
     unfolding grant
     grant-holds ph w bytes seed buffer =
-        either (λ (a : Asked). Holds P (a .client)) (ltb (length buffer) (length bytes)) (record { id = k .id; turn = w }) (record { id = k .id; turn = handed-holds ph w })
+        either (λ (a : Asked). Holds P (a .client)) (ltb (length buffer) (length bytes))
+        (record { id = k .id; turn = w }) (record { id = k .id; turn = handed-holds ph w })
 
     pub request-holds : (image buffer : List ℕ) → Holds P (request c image buffer .client)
     unfolding request
@@ -155,7 +168,8 @@ module _ (P : Id → Type 0) where
       where
         go : (t : Turn) → HoldsTurn P t → Holds P (request (turned c t) image buffer .client)
         go idle w = record { id = k .id; turn = w }
-        go (ready ph) w = either (λ (a : Asked). Holds P (a .client)) (otherLength (lends ph) image) (record { id = k .id; turn = w }) (grant-holds ph w _ _ buffer)
+        go (ready ph) w = either (λ (a : Asked). Holds P (a .client)) (otherLength (lends ph) image)
+            (record { id = k .id; turn = w }) (grant-holds ph w _ _ buffer)
         go (waiting ph) w = record { id = k .id; turn = w }
 
     any-cleared : (q : Ask) → OfAny P (cleared q (c .id))
@@ -170,8 +184,11 @@ module _ (P : Id → Type 0) where
         go : (t : Turn) → HoldsTurn P t → Holds P (record′ (turned c t) image bytes .client)
         go idle w = record { id = k .id; turn = w }
         go (ready ph) w = record { id = k .id; turn = w }
-        go (waiting (selecting s)) w = settle-holds _ none (hears s (hear bytes)) (length bytes) (any-cleared (Phases.request (selecting s))) (search-holds s w (hear bytes) h)
-        go (waiting (demanding j)) w = lent (otherLength (lends (demanding j)) image) (reading (Phases.request (demanding j)) image bytes)
+        go (waiting (selecting s)) w =
+            settle-holds _ none (hears s (hear bytes)) (length bytes) (any-cleared (Phases.request (selecting s)))
+            (search-holds s w (hear bytes) h)
+        go (waiting (demanding j)) w =
+            lent (otherLength (lends (demanding j)) image) (reading (Phases.request (demanding j)) image bytes)
           where
             before : Client
             before = turned c (waiting (demanding j))
@@ -179,13 +196,16 @@ module _ (P : Id → Type 0) where
             at : ℕ
             at = place (Phases.request (demanding j)) bytes
 
-            lent : (b : Bool) (o : Option (Answer (Phases.request (demanding j))))
-                → Holds P (cond b (unchanged before 20 []) (onSome o (fails before at) (λ a. settle before (step (demanding j) a .progress) (step (demanding j) a .then) at)) .client)
+            lent : (b : Bool) (o : Option (AnswerTo (Phases.request (demanding j))))
+                → Holds P (cond b (unchanged before 20 [])
+                (onSome o (fails before at) (λ a. settle before (step (demanding j) a .progress)
+                (step (demanding j) a .then) at)) .client)
             lent true o = record { id = k .id; turn = w }
             lent false none = record { id = k .id; turn = tt }
             lent false (some a) =
                 settle-holds before (step (demanding j) a .progress) (step (demanding j) a .then) at (k .id)
-                (told-leads (HoldsThen P) (any-end _ tt (λ info. tt) (λ n carries. tt)) j (λ i after. tt) (a .reply) (a .image))
+                (told-leads (HoldsThen P) (any-end _ tt (λ info. tt) (λ n carries. tt)) j (λ i after. tt) (a .reply)
+                (a .image))
         go (waiting (leaving bootloader baud)) w = settle-holds _ none (ends quiet) (length bytes) (k .id) tt
 
     pub linkFailed-holds : Holds P (linkFailed c .client)

@@ -1,5 +1,4 @@
 -- The machine's client is document 01's: each call is answered alike, and leaves the same conversation.
--- Assumes nothing.
 use Prim.Native.Nat.{ℕ, _*_}
 use mathlib.Core.Bool.{Bool, true, false, _&&_, cond}
 use mathlib.Core.List.{List, [], _∷_, _++_}
@@ -8,19 +7,27 @@ use mathlib.Core.Path.{_≡_, refl, sym, _∙_, ap}
 use lib.Dec.{leb, ltb}
 use lib.ListN.{length, drop, take}
 use Rattle.paper.specs.Client as Paper
-use Rattle.paper.specs.Client.{Left, proceed, short, otherLength, bytesOf, seedAfter, cleared, reading, place, handing, idAfter}
+use Rattle.paper.specs.Client.{Left, proceed, withinLongest, otherLength, bytesOf, seedAfter, cleared, reading, place}
+use Rattle.paper.specs.Client.{handing, idAfter}
 use Rattle.paper.specs.Hearing.{Id, Heard, nothing, one, unaddressed, garble, bitsOf, onSome}
 use Rattle.paper.specs.Attach.{selectOnly, deselect, attach, discover}
 use Rattle.paper.specs.Flash.{informOnly, erase, flash, reset}
-use Rattle.paper.specs.Talk.{Answer, Talk, Outcome}
+use Rattle.paper.specs.Talk.{AnswerTo, Talk, Outcome}
 use Rattle.paper.specs.Walk.{long, done, stopped}
 use Rattle.lore.proofs.Choice.{either}
 use Rattle.theory.specs.WalkMachine as Machine
 use Rattle.theory.specs.WalkMachine.{going, ended}
 use Rattle.theory.specs.OperationMachine as Phases
-use Rattle.theory.specs.OperationMachine.{Search, probing, parting, seeking, backing, walking, tell, clear, load, informing, resetting, Phase, selecting, demanding, leaving, Then, to, ends, refuses, Next, sought, walked, hears, step, starting}
-use Rattle.theory.specs.ClientMachine.{Turn, idle, ready, waiting, Client, fresh, turned, lends, Told, settle, unchanged, fails, start, startSelect, startDeselect, startAttach, startDiscover, startInfo, startErase, startFlash, resets, startReset, startSetBaud, Asked, withholds, handedOut, grant, request, record′, linkFailed}
-use Rattle.theory.proofs.talk.MachineIsTalk.{Sound, resume, resumeJob, resumeSearch, whole, thereafter, reporting, resumed, resume-step, resume-discover}
+use Rattle.theory.specs.OperationMachine.{Search, probing, parting, seeking, backing, walking, tell, clear, load}
+use Rattle.theory.specs.OperationMachine.{informing, resetting, Phase, selecting, demanding, leaving, Then, to}
+use Rattle.theory.specs.OperationMachine.{ends, refuses, Next, sought, walked, hears, step, starting}
+use Rattle.theory.specs.ClientMachine.{Turn, idle, ready, waiting, Client, fresh, turned, lends, Told, settle}
+use Rattle.theory.specs.ClientMachine.{unchanged, fails, start, startSelect, startDeselect, startAttach}
+use Rattle.theory.specs.ClientMachine.{startDiscover, startInfo, startErase, startFlash, resets, startReset}
+use Rattle.theory.specs.ClientMachine.{startSetBaud, Asked, withholds, handedOut, grant, request, record′}
+use Rattle.theory.specs.ClientMachine.{linkFailed}
+use Rattle.theory.proofs.talk.MachineIsTalk.{Sound, resume, resumeJob, resumeSearch, whole, thereafter}
+use Rattle.theory.proofs.talk.MachineIsTalk.{reporting, resumed, resume-step, resume-discover}
 use Rattle.theory.proofs.talk.JobSteps.{any-end, told-leads}
 
 -- P holds of the phase that follows, if one does.
@@ -60,18 +67,22 @@ search-after (backing none) h = tt
 search-after (backing (some given)) h = tt
 search-after (walking s) h = walked-after (Machine.step s h)
 
-step-after : (ph : Phase) → Sound ph → (a : Answer (Phases.request ph)) → Onward (After (lends ph)) (step ph a .then)
+step-after : (ph : Phase) → Sound ph → (a : AnswerTo (Phases.request ph)) → Onward (After (lends ph)) (step ph a .then)
 unfolding step
 step-after (selecting s) k h = search-after s h
-step-after (demanding j) k a = told-leads (Onward (After (lends (demanding j)))) (any-end _ tt (λ info. tt) (λ n carries. tt)) j (λ i w. (w .0 k, w .1)) (a .reply) (a .image)
+step-after (demanding j) k a =
+    told-leads (Onward (After (lends (demanding j)))) (any-end _ tt (λ info. tt) (λ n carries. tt)) j
+    (λ i w. (w .0 k, w .1)) (a .reply) (a .image)
 step-after (leaving bootloader baud) k a = tt
 
 -- The device information of a phase that follows keeps the Info rule, and the image lent is as long as before.
-pub step-sound : (ph : Phase) → Sound ph → (a : Answer (Phases.request ph)) → Onward Sound (step ph a .then)
+pub step-sound : (ph : Phase) → Sound ph → (a : AnswerTo (Phases.request ph)) → Onward Sound (step ph a .then)
 step-sound ph k a = onward-weaken (After (lends ph)) Sound (λ q w. w .0) (step ph a .then) (step-after ph k a)
 
-pub step-lends : (ph : Phase) → Sound ph → (a : Answer (Phases.request ph)) → Onward (λ q. lends q ≡ lends ph) (step ph a .then)
-step-lends ph k a = onward-weaken (After (lends ph)) (λ q. lends q ≡ lends ph) (λ q w. w .1) (step ph a .then) (step-after ph k a)
+pub step-lends : (ph : Phase) → Sound ph → (a : AnswerTo (Phases.request ph))
+    → Onward (λ q. lends q ≡ lends ph) (step ph a .then)
+step-lends ph k a = onward-weaken (After (lends ph)) (λ q. lends q ≡ lends ph) (λ q w. w .1) (step ph a .then)
+    (step-after ph k a)
 
 -- What is left of the conversation, and the image's length.
 unfoldable pub leftOf : Turn → Left
@@ -102,25 +113,36 @@ pub fresh-sim : paperOf fresh ≡ Paper.fresh
 unfolding paperOf leftOf fresh Paper.fresh
 fresh-sim = refl
 
-settle-sim : (c : Client) (lent : Option ℕ) (l : Left) (progress : Option (ℕ × ℕ)) (t : Then) (at : ℕ) → Onward Sound t → Onward (λ q. lends q ≡ lent) t
-    → proceed (record { seed = c .seed; id = c .id; image = lent; left = l }) progress (thereafter t) at ≡ toldOf (settle c progress t at)
+settle-sim : (c : Client) (lent : Option ℕ) (l : Left) (progress : Option (ℕ × ℕ)) (t : Then) (at : ℕ) → Onward Sound t
+    → Onward (λ q. lends q ≡ lent) t
+    → proceed (record { seed = c .seed; id = c .id; image = lent; left = l }) progress (thereafter t) at
+    ≡ toldOf (settle c progress t at)
 unfolding settle proceed thereafter paperOf leftOf
 settle-sim c lent l progress (to ph) at s e =
     ap (λ m. proceed (record { seed = c .seed; id = c .id; image = lent; left = l }) progress m at) (resume-step ph s)
     ∙ (λ i. record {
       says = Paper.onward progress;
-      client = record { seed = c .seed; id = c .id; image = sym e i; left = Paper.ready (Phases.request ph) (λ a. resumed (step ph a)) };
+      client = record {
+        seed = c .seed;
+        id = c .id;
+        image = sym e i;
+        left = Paper.ready (Phases.request ph)
+            (λ a. resumed (step ph a));
+      };
       rest = at;
     })
 settle-sim c lent l progress (ends o) at s e = refl
 settle-sim c lent l progress (refuses n carries) at s e = refl
 
-next-sim : (c : Client) (lent : Option ℕ) (l : Left) (n : Next) (at : ℕ) → Onward Sound (n .then) → Onward (λ q. lends q ≡ lent) (n .then)
-    → proceed (record { seed = c .seed; id = c .id; image = lent; left = l }) none (resumed n) at ≡ toldOf (settle c (n .progress) (n .then) at)
+next-sim : (c : Client) (lent : Option ℕ) (l : Left) (n : Next) (at : ℕ) → Onward Sound (n .then)
+    → Onward (λ q. lends q ≡ lent) (n .then)
+    → proceed (record { seed = c .seed; id = c .id; image = lent; left = l }) none (resumed n) at
+    ≡ toldOf (settle c (n .progress) (n .then) at)
 unfolding resumed reporting proceed
 next-sim c lent l n at s e = go (n .progress)
   where
-    go : (p : Option (ℕ × ℕ)) → proceed (record { seed = c .seed; id = c .id; image = lent; left = l }) none (reporting p (thereafter (n .then))) at ≡ toldOf (settle c p (n .then) at)
+    go : (p : Option (ℕ × ℕ)) → proceed (record { seed = c .seed; id = c .id; image = lent; left = l }) none
+        (reporting p (thereafter (n .then))) at ≡ toldOf (settle c p (n .then) at)
     go none = settle-sim c lent l none (n .then) at s e
     go (some p) = settle-sim c lent l (some p) (n .then) at s e
 
@@ -130,7 +152,8 @@ start-sim : (c : Client) (good : Bool) (talk : Talk Outcome) (ph : Phase) → So
 unfolding start Paper.startWith paperOf leftOf thereafter
 start-sim c good talk ph s e = go (c .turn) good
   where
-    go : (t : Turn) (b : Bool) → Paper.startWith (lends ph) (paperOf (turned c t)) b talk ≡ toldOf (start (turned c t) b ph)
+    go : (t : Turn) (b : Bool) → Paper.startWith (lends ph) (paperOf (turned c t)) b talk
+        ≡ toldOf (start (turned c t) b ph)
     go idle true =
         ap (λ m. proceed (record { seed = c .seed; id = c .id; image = lends ph; left = Paper.idle }) none m 0) e
         ∙ settle-sim (turned c idle) (lends ph) Paper.idle none (to ph) 0 s refl
@@ -138,9 +161,12 @@ start-sim c good talk ph s e = go (c .turn) good
     go (ready p) b = refl
     go (waiting p) b = refl
 
-pub startSelect-sim : (c : Client) (bytes : Id) (bits : ℕ) → Paper.startSelect (paperOf c) bytes bits ≡ toldOf (startSelect c bytes bits)
+pub startSelect-sim : (c : Client) (bytes : Id) (bits : ℕ)
+    → Paper.startSelect (paperOf c) bytes bits ≡ toldOf (startSelect c bytes bits)
 unfolding Paper.startSelect startSelect resume resumeSearch
-startSelect-sim c bytes bits = start-sim c (short bytes && (leb bits 128 && leb bits (8 * length bytes))) (selectOnly (take bits (bitsOf bytes))) (selecting (probing bytes bits)) tt refl
+startSelect-sim c bytes bits =
+    start-sim c (withinLongest bytes && (leb bits 128 && leb bits (8 * length bytes)))
+    (selectOnly (take bits (bitsOf bytes))) (selecting (probing bytes bits)) tt refl
 
 pub startDeselect-sim : (c : Client) → Paper.startDeselect (paperOf c) ≡ toldOf (startDeselect c)
 unfolding Paper.startDeselect startDeselect resume resumeSearch
@@ -148,11 +174,13 @@ startDeselect-sim c = start-sim c true deselect (selecting parting) tt refl
 
 pub startAttach-sim : (c : Client) (uid : Option Id) → Paper.startAttach (paperOf c) uid ≡ toldOf (startAttach c uid)
 unfolding Paper.startAttach startAttach resume resumeSearch
-startAttach-sim c uid = start-sim c (onSome uid true short) (attach uid) (selecting (seeking uid)) tt refl
+startAttach-sim c uid = start-sim c (onSome uid true withinLongest) (attach uid) (selecting (seeking uid)) tt refl
 
-pub startDiscover-sim : (c : Client) (given : Id) → Paper.startDiscover (paperOf c) given ≡ toldOf (startDiscover c given)
+pub startDiscover-sim : (c : Client) (given : Id)
+    → Paper.startDiscover (paperOf c) given ≡ toldOf (startDiscover c given)
 unfolding Paper.startDiscover startDiscover
-startDiscover-sim c given = start-sim c (short given) (discover given) (selecting (walking (starting (bitsOf given)))) tt (resume-discover given)
+startDiscover-sim c given = start-sim c (withinLongest given) (discover given)
+    (selecting (walking (starting (bitsOf given)))) tt (resume-discover given)
 
 pub startInfo-sim : (c : Client) → Paper.startInfo (paperOf c) ≡ toldOf (startInfo c)
 unfolding Paper.startInfo startInfo resume resumeJob whole
@@ -167,28 +195,34 @@ unfolding Paper.startFlash startFlash resume resumeJob whole
 startFlash-sim c image = start-sim c true (flash (length image)) (demanding (informing (load (length image)))) tt refl
 
 resets-sim : (c : Client) (bootloader : Bool) (baud : Option ℕ) (inBoot : Bool)
-    → Paper.start (paperOf c) true (reset bootloader baud inBoot) ≡ toldOf (start c true (resets bootloader baud inBoot))
+    → Paper.start (paperOf c) true (reset bootloader baud inBoot)
+    ≡ toldOf (start c true (resets bootloader baud inBoot))
 unfolding resume resumeJob
-resets-sim c bootloader baud true = start-sim c true (reset bootloader baud true) (demanding (resetting bootloader baud)) tt refl
+resets-sim c bootloader baud true =
+    start-sim c true (reset bootloader baud true) (demanding (resetting bootloader baud)) tt refl
 resets-sim c bootloader baud false = start-sim c true (reset bootloader baud false) (leaving bootloader baud) tt refl
 
-pub startReset-sim : (c : Client) (bootloader inBoot : Bool) → Paper.startReset (paperOf c) bootloader inBoot ≡ toldOf (startReset c bootloader inBoot)
+pub startReset-sim : (c : Client) (bootloader inBoot : Bool)
+    → Paper.startReset (paperOf c) bootloader inBoot ≡ toldOf (startReset c bootloader inBoot)
 unfolding Paper.startReset startReset
 startReset-sim c bootloader inBoot = resets-sim c bootloader none inBoot
 
-pub startSetBaud-sim : (c : Client) (baud : ℕ) (bootloader inBoot : Bool) → Paper.startSetBaud (paperOf c) baud bootloader inBoot ≡ toldOf (startSetBaud c baud bootloader inBoot)
+pub startSetBaud-sim : (c : Client) (baud : ℕ) (bootloader inBoot : Bool)
+    → Paper.startSetBaud (paperOf c) baud bootloader inBoot ≡ toldOf (startSetBaud c baud bootloader inBoot)
 unfolding Paper.startSetBaud startSetBaud
 startSetBaud-sim c baud bootloader inBoot = resets-sim c bootloader (some baud) inBoot
 
 handed-sim : (c : Client) (seed : ℕ) (ph : Phase)
-    → Paper.handedOut (paperOf (turned c (ready ph))) seed (Phases.request ph) (λ a. resumed (step ph a)) ≡ paperOf (record { seed = seed; id = c .id; turn = handedOut ph })
+    → Paper.handedOut (paperOf (turned c (ready ph))) seed (Phases.request ph) (λ a. resumed (step ph a))
+    ≡ paperOf (record { seed = seed; id = c .id; turn = handedOut ph })
 unfolding Paper.handedOut handedOut paperOf leftOf resumed reporting thereafter step proceed idAfter
 handed-sim c seed (selecting s) = refl
 handed-sim c seed (demanding j) = refl
 handed-sim c seed (leaving bootloader baud) = refl
 
 grant-sim : (c : Client) (ph : Phase) (bytes : List ℕ) (seed : ℕ) (buffer : List ℕ)
-    → Paper.grant (paperOf (turned c (ready ph))) bytes seed (Phases.request ph) (λ a. resumed (step ph a)) buffer ≡ askedOf (grant (turned c (ready ph)) bytes seed ph buffer)
+    → Paper.grant (paperOf (turned c (ready ph))) bytes seed (Phases.request ph) (λ a. resumed (step ph a)) buffer
+    ≡ askedOf (grant (turned c (ready ph)) bytes seed ph buffer)
 unfolding Paper.grant grant
 grant-sim c ph bytes seed buffer = go (ltb (length buffer) (length bytes))
   where
@@ -197,12 +231,30 @@ grant-sim c ph bytes seed buffer = go (ltb (length buffer) (length bytes))
 
     go : (b : Bool)
         → _≡_ {A = Paper.Asked} (cond b (Paper.withholds (paperOf (turned c (ready ph))) 16 (length bytes ∷ []) buffer)
-        (record { says = handing (Phases.request ph) (length bytes); client = Paper.handedOut (paperOf (turned c (ready ph))) seed (Phases.request ph) (λ a. resumed (step ph a)); buffer = bytes ++ drop (length bytes) buffer }))
-        (askedOf (cond b (withholds (turned c (ready ph)) 16 (length bytes ∷ []) buffer) (record { says = handing (Phases.request ph) (length bytes); client = out; buffer = bytes ++ drop (length bytes) buffer })))
+        (record {
+          says = handing (Phases.request ph) (length bytes);
+          client = Paper.handedOut
+              (paperOf (turned c (ready ph))) seed (Phases.request ph) (λ a. resumed (step ph a));
+          buffer =
+              bytes ++ drop (length bytes) buffer;
+        }))
+        (askedOf (cond b (withholds (turned c (ready ph)) 16 (length bytes ∷ []) buffer)
+        (record {
+          says = handing (Phases.request ph) (length bytes);
+          client = out;
+          buffer = bytes
+              ++ drop (length bytes) buffer;
+        })))
     go true = refl
-    go false = λ i. record { says = handing (Phases.request ph) (length bytes); client = handed-sim c seed ph i; buffer = bytes ++ drop (length bytes) buffer }
+    go false = λ i. record {
+      says = handing (Phases.request ph)
+          (length bytes);
+      client = handed-sim c seed ph i;
+      buffer = bytes ++ drop (length bytes) buffer;
+    }
 
-pub request-sim : (c : Client) (image buffer : List ℕ) → Paper.request (paperOf c) image buffer ≡ askedOf (request c image buffer)
+pub request-sim : (c : Client) (image buffer : List ℕ)
+    → Paper.request (paperOf c) image buffer ≡ askedOf (request c image buffer)
 unfolding Paper.request request paperOf leftOf
 request-sim c image buffer = go (c .turn)
   where
@@ -217,17 +269,22 @@ request-sim c image buffer = go (c .turn)
         bytes = bytesOf (Phases.request ph) seed image
 
         lent : (b : Bool)
-            → cond b (Paper.withholds (paperOf (turned c (ready ph))) 20 [] buffer) (Paper.grant (paperOf (turned c (ready ph))) bytes seed (Phases.request ph) (λ a. resumed (step ph a)) buffer)
-            ≡ askedOf (cond b (withholds (turned c (ready ph)) 20 [] buffer) (grant (turned c (ready ph)) bytes seed ph buffer))
+            → cond b (Paper.withholds (paperOf (turned c (ready ph))) 20 [] buffer)
+            (Paper.grant (paperOf (turned c (ready ph))) bytes seed (Phases.request ph)
+            (λ a. resumed (step ph a)) buffer)
+            ≡ askedOf (cond b (withholds (turned c (ready ph)) 20 [] buffer)
+            (grant (turned c (ready ph)) bytes seed ph buffer))
         lent true = refl
         lent false = grant-sim c ph bytes seed buffer
     go (waiting ph) = refl
 
-pub record-sim : (c : Client) → SoundTurn (c .turn) → (image bytes : List ℕ) → Paper.record′ (paperOf c) image bytes ≡ toldOf (record′ c image bytes)
+pub record-sim : (c : Client) → SoundTurn (c .turn) → (image bytes : List ℕ)
+    → Paper.record′ (paperOf c) image bytes ≡ toldOf (record′ c image bytes)
 unfolding Paper.record′ record′ paperOf leftOf
 record-sim c s image bytes = go (c .turn) s
   where
-    go : (t : Turn) → SoundTurn t → Paper.record′ (paperOf (turned c t)) image bytes ≡ toldOf (record′ (turned c t) image bytes)
+    go : (t : Turn) → SoundTurn t → Paper.record′ (paperOf (turned c t)) image bytes
+        ≡ toldOf (record′ (turned c t) image bytes)
     go idle s = refl
     go (ready ph) s = refl
     go (waiting ph) s = lent (otherLength (lends ph) image)
@@ -241,15 +298,20 @@ record-sim c s image bytes = go (c .turn) s
         after : Client
         after = record { seed = c .seed; id = cleared (Phases.request ph) (c .id); turn = waiting ph }
 
-        answers : (o : Option (Answer (Phases.request ph)))
+        answers : (o : Option (AnswerTo (Phases.request ph)))
             → onSome o (Paper.fails (paperOf before) at) (λ a. proceed (paperOf after) none (resumed (step ph a)) at)
             ≡ toldOf (onSome o (fails before at) (λ a. settle after (step ph a .progress) (step ph a .then) at))
         answers none = refl
-        answers (some a) = next-sim after (lends ph) (leftOf (waiting ph)) (step ph a) at (step-sound ph s a) (step-lends ph s a)
+        answers (some a) = next-sim after (lends ph) (leftOf (waiting ph)) (step ph a) at (step-sound ph s a)
+            (step-lends ph s a)
 
         lent : (b : Bool)
-            → cond b (Paper.refuses (paperOf before) 20 []) (onSome (reading (Phases.request ph) image bytes) (Paper.fails (paperOf before) at) (λ a. proceed (paperOf after) none (resumed (step ph a)) at))
-            ≡ toldOf (cond b (unchanged before 20 []) (onSome (reading (Phases.request ph) image bytes) (fails before at) (λ a. settle after (step ph a .progress) (step ph a .then) at)))
+            → cond b (Paper.refuses (paperOf before) 20 [])
+            (onSome (reading (Phases.request ph) image bytes) (Paper.fails (paperOf before) at)
+            (λ a. proceed (paperOf after) none (resumed (step ph a)) at))
+            ≡ toldOf (cond b (unchanged before 20 [])
+            (onSome (reading (Phases.request ph) image bytes) (fails before at)
+            (λ a. settle after (step ph a .progress) (step ph a .then) at)))
         lent true = refl
         lent false = answers (reading (Phases.request ph) image bytes)
 

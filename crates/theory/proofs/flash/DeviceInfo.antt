@@ -1,5 +1,4 @@
 -- What the Info rule gives of a device's information.
--- Assumes nothing.
 use Prim.Native.Nat.{ℕ, _<_, _≤_}
 use mathlib.Core.Bool.{Bool, true, false, _&&_, cond}
 use mathlib.Core.List.{List}
@@ -23,8 +22,14 @@ pub sound-sizes : (info : Info) → sound info ≡ true → Sizes info
 unfolding sound
 sound-sizes info s = go (ltb 0 (info .eraseSize)) refl (ltb 0 (info .capacity)) refl (leb 4 (info .maxPayload)) refl s
   where
-    go : (a : Bool) → ltb 0 (info .eraseSize) ≡ a → (b : Bool) → ltb 0 (info .capacity) ≡ b → (d : Bool) → leb 4 (info .maxPayload) ≡ d → (a && (b && d)) ≡ true → Sizes info
-    go true e true f true g s = record { eraseSize = ltb-true 0 (info .eraseSize) e; capacity = ltb-true 0 (info .capacity) f; maxPayload = leb-true 4 (info .maxPayload) g }
+    go : (a : Bool) → ltb 0 (info .eraseSize) ≡ a → (b : Bool) → ltb 0 (info .capacity) ≡ b → (d : Bool)
+        → leb 4 (info .maxPayload) ≡ d → (a && (b && d)) ≡ true → Sizes info
+    go true e true f true g s = record {
+      eraseSize = ltb-true 0 (info .eraseSize) e;
+      capacity = ltb-true 0 (info .capacity) f;
+      maxPayload = leb-true 4
+          (info .maxPayload) g;
+    }
     go true e true f false g s = absurd (let n : _≡_ {A = ℕ} 0 1 = cc in omega arith)
     go true e false f d g s = absurd (let n : _≡_ {A = ℕ} 0 1 = cc in omega arith)
     go false e b f d g s = absurd (let n : _≡_ {A = ℕ} 0 1 = cc in omega arith)
@@ -36,7 +41,8 @@ pub informed-sound : (payload : List ℕ) (info : Info) → informed payload ≡
 unfolding informed
 informed-sound payload info e = go (leb 18 (length payload)) (sound (infoOf payload)) refl e
   where
-    go : (a b : Bool) → sound (infoOf payload) ≡ b → cond (a && b) (some (infoOf payload)) none ≡ some info → sound info ≡ true
+    go : (a b : Bool) → sound (infoOf payload) ≡ b → cond (a && b) (some (infoOf payload)) none ≡ some info
+        → sound info ≡ true
     go true true q e = let same : infoOf payload ≡ info = cc in rw same at q
     go true false q e = absurd (let z : _≡_ {A = ℕ} 0 1 = cc in omega arith)
     go false b q e = absurd (let z : _≡_ {A = ℕ} 0 1 = cc in omega arith)

@@ -1,5 +1,4 @@
 -- What the rules on erase addresses come to: none passes the capacity or 32 bits.
--- Assumes nothing.
 use Prim.Native.Nat.{ℕ, zero, suc, _+_, _-_, _*_, _/_, _<_, _≤_}
 use mathlib.Core.Bool.{false}
 use mathlib.Core.Path.{_≡_}
@@ -22,14 +21,18 @@ pub addresses-span : (info : Info) → 0 < info .eraseSize
 unfolding eraseAddresses below
 addresses-span info h =
     let none : info .capacity - 0 ≡ info .capacity = omega arith in
-    rw none (apart-below (info .eraseSize) (steps (info .eraseSize) (info .capacity)) 0 (steps (info .eraseSize) (info .capacity) * info .eraseSize) h (omega arith))
+    rw none (apart-below (info .eraseSize) (steps (info .eraseSize) (info .capacity)) 0
+    (steps (info .eraseSize) (info .capacity) * info .eraseSize) h (omega arith))
 
 -- No address wraps, nor the number reported after it, unless 19 was given.
-pub addresses-fit : (info : Info) → 0 < info .eraseSize → spansTooFar info ≡ false → All (λ x. x + info .eraseSize ≤ 0xFFFFFFFF) (eraseAddresses info)
+pub addresses-fit : (info : Info)
+    → 0 < info .eraseSize → spansTooFar info ≡ false → All (λ x. x + info .eraseSize ≤ 0xFFFFFFFF) (eraseAddresses info)
 unfolding spansTooFar
 addresses-fit info h e =
-    let top : steps (info .eraseSize) (info .capacity) * info .eraseSize ≤ 0xFFFFFFFF = ltb-false 0xFFFFFFFF (steps (info .eraseSize) (info .capacity) * info .eraseSize) e in
-    all-weaken (λ x. x + info .eraseSize ≤ steps (info .eraseSize) (info .capacity) * info .eraseSize) (λ x. x + info .eraseSize ≤ 0xFFFFFFFF)
+    let top : steps (info .eraseSize) (info .capacity) * info .eraseSize ≤ 0xFFFFFFFF =
+    ltb-false 0xFFFFFFFF (steps (info .eraseSize) (info .capacity) * info .eraseSize) e in
+    all-weaken (λ x. x + info .eraseSize ≤ steps (info .eraseSize) (info .capacity) * info .eraseSize)
+    (λ x. x + info .eraseSize ≤ 0xFFFFFFFF)
     (eraseAddresses info) (λ x l. omega arith) (addresses-span info h)
 
 rounded-up : (e c : ℕ) → 0 < e → steps e c * e < c + e
@@ -38,8 +41,10 @@ rounded-up e c h = omega (arith, div-mul-le-self (c + (e - 1)) e)
 
 pub addresses-below : (info : Info) → 0 < info .eraseSize → All (λ x. x < info .capacity) (eraseAddresses info)
 addresses-below info h =
-    all-weaken (λ x. x + info .eraseSize ≤ steps (info .eraseSize) (info .capacity) * info .eraseSize) (λ x. x < info .capacity)
-    (eraseAddresses info) (λ x l. omega (arith, rounded-up (info .eraseSize) (info .capacity) h)) (addresses-span info h)
+    all-weaken (λ x. x + info .eraseSize ≤ steps (info .eraseSize) (info .capacity) * info .eraseSize)
+    (λ x. x < info .capacity)
+    (eraseAddresses info) (λ x l. omega (arith, rounded-up (info .eraseSize) (info .capacity) h))
+    (addresses-span info h)
 
 -- Nor is the capacity then over 32 bits.
 pub capacity-fits : (info : Info) → 0 < info .eraseSize → spansTooFar info ≡ false → info .capacity ≤ 0xFFFFFFFF
@@ -47,4 +52,9 @@ unfolding spansTooFar steps
 capacity-fits info h e =
     let top : (info .capacity + (info .eraseSize - 1)) / info .eraseSize * info .eraseSize ≤ 0xFFFFFFFF =
     ltb-false 0xFFFFFFFF ((info .capacity + (info .eraseSize - 1)) / info .eraseSize * info .eraseSize) e in
-    omega (arith, top, div-lt-iff-lt-mul {k = info .eraseSize} {x = info .capacity + (info .eraseSize - 1)} {y = (info .capacity + (info .eraseSize - 1)) / info .eraseSize + 1} h .0 (omega arith))
+    omega (
+      arith,
+      top,
+      div-lt-iff-lt-mul {k = info .eraseSize} {x = info .capacity + (info .eraseSize - 1)}
+          {y = (info .capacity + (info .eraseSize - 1)) / info .eraseSize + 1} h .0 (omega arith),
+    )

@@ -1,5 +1,5 @@
--- A flash keeps its order over any replies, erases what it is told to from the front on, and writes at most 17 times at one offset.
--- Assumes nothing.
+-- A flash keeps its order over any replies, erases what it is told to from the front on, and writes at most 17 times at
+-- one offset.
 use Prim.Native.Nat.{ℕ, zero, suc, _+_, _-_, _≤_, _<_, min}
 use mathlib.Core.Bool.{Bool, true, false, not, cond}
 use mathlib.Core.List.{List, [], _∷_, _++_, append-assoc, append-nil}
@@ -12,11 +12,18 @@ use lib.Seq.{take-append-seam, take-nil}
 use borrow.Author.Tests.{ltb-false, eqb-true, not-false}
 use Rattle.paper.specs.Frame.{field, check, Info, status-CrcMismatch}
 use Rattle.paper.specs.Hearing.{onSome}
-use Rattle.paper.specs.Answers.{Reply, ok, device, sound, informed, spansTooFar, eraseAddresses, tooLarge, incompatible, chunk, padded, below}
+use Rattle.paper.specs.Answers.{Reply, ok, device, sound, informed, spansTooFar, eraseAddresses, tooLarge, incompatible}
+use Rattle.paper.specs.Answers.{chunk, padded, below}
 use Rattle.paper.specs.Talk.{Demand, Ask, demand, return, stop, Outcome, knows}
-use Rattle.paper.specs.Flash.{infoRequest, eraseRequest, writeRequest, verifyRequest, inform, eraseOne, eraseAll, prepare, repeated, persist, writeWithin, writeOne, offsets, writeAll, verify, erase, flash, known}
-use Rattle.theory.specs.FlashOrder.{Exchange, met, Past, Event, play, asks, everything, toldBy, toldIn, told, isOk, carried, wroteIn, written, erasedIn, erased, eraseIn, erases, writeIn, writesAt, planned, FrontOf, Passed, MayWrite, toInform, toErase, toWrite, toVerify, Fronts, Front, Allowed, Kept, Stands, Flashed}
-use Rattle.theory.proofs.talk.TalkRules.{Always, always-bind, always-each, always-refuseIf, always-test, always-transact, play-kept, all-asked}
+use Rattle.paper.specs.Flash.{infoRequest, eraseRequest, writeRequest, verifyRequest, inform, eraseOne, eraseAll}
+use Rattle.paper.specs.Flash.{prepare, repeated, persist, writeWithin, writeOne, offsets, writeAll, verify, erase}
+use Rattle.paper.specs.Flash.{flash, known}
+use Rattle.theory.specs.FlashOrder.{Exchange, met, Past, Event, play, asks, everything, toldBy, toldIn, told}
+use Rattle.theory.specs.FlashOrder.{isOk, carried, wroteIn, written, erasedIn, erased, eraseIn, erases, writeIn}
+use Rattle.theory.specs.FlashOrder.{writesAt, planned, FrontOf, Passed, MayWrite, toInform, toErase, toWrite}
+use Rattle.theory.specs.FlashOrder.{toVerify, Fronts, Front, Allowed, Kept, Stands, Flashed}
+use Rattle.theory.proofs.talk.TalkRules.{Always, always-bind, always-each, always-refuseIf, always-test}
+use Rattle.theory.proofs.talk.TalkRules.{always-transact, play-kept, all-asked}
 use Rattle.theory.proofs.flash.DeviceInfo.{sound-chunk, informed-sound}
 use Rattle.theory.proofs.flash.WriteOffsets.{First, first, last, at-most, counted, uncounted}
 use Rattle.paper.proofs.Chunks.{write-size}
@@ -40,7 +47,8 @@ record Erasing (info : Info) (image left : List ℕ) (past : Past) : Type 0 wher
   unwritten : written past ≡ 0
   none : (a : ℕ) → writesAt a (asks past) ≡ 0
 
-begun : (payload image : List ℕ) (info : Info) → informed payload ≡ some info → Erasing info image (eraseAddresses info) (met infoRequest (ok payload) image ∷ [])
+begun : (payload image : List ℕ) (info : Info) → informed payload ≡ some info
+    → Erasing info image (eraseAddresses info) (met infoRequest (ok payload) image ∷ [])
 unfolding told toldIn toldBy erased erasedIn erases eraseIn written wroteIn writesAt writeIn isOk
 begun payload image info e = record { tells = rw e; so-far = refl; same = refl; unwritten = refl; none = λ a. refl }
 
@@ -48,7 +56,8 @@ begun payload image info e = record { tells = rw e; so-far = refl; same = refl; 
 Begun : Past → Info × List ℕ → Type 0
 Begun p r = Erasing (r .0) (r .1) (eraseAddresses (r .0)) p × (sound (r .0) ≡ true)
 
-erasing-front : (info : Info) (image : List ℕ) (x : ℕ) (xs : List ℕ) (past : Past) → Erasing info image (x ∷ xs) past → Front past (demand (eraseRequest info x))
+erasing-front : (info : Info) (image : List ℕ) (x : ℕ) (xs : List ℕ) (past : Past) → Erasing info image (x ∷ xs) past
+    → Front past (demand (eraseRequest info x))
 unfolding erases eraseIn
 erasing-front info image x xs past h =
     front-part (planned past) (erases (asks past) ++ (x ∷ [])) xs
@@ -60,19 +69,23 @@ erasing-front info image x xs past h =
 module _ (R : Past → Ask → Type 0) where
   inform-always : R [] (demand infoRequest) → Always R Begun [] inform
   unfolding inform Begun
-  inform-always r = always-transact R Begun [] infoRequest _ r (λ payload image. go payload image (informed payload) refl)
+  inform-always r = always-transact R Begun [] infoRequest _ r
+      (λ payload image. go payload image (informed payload) refl)
     where
       go : (payload image : List ℕ) (i : Option Info) → informed payload ≡ i
-          → Always R Begun (met infoRequest (ok payload) image ∷ []) (onSome i (stop 5 []) (λ info. return (info, image)))
+          → Always R Begun (met infoRequest (ok payload) image ∷ [])
+          (onSome i (stop 5 []) (λ info. return (info, image)))
       go payload image none e = tt
       go payload image (some info) e = (begun payload image info e, informed-sound payload info e)
 
   module _ (info : Info) (image : List ℕ)
-      (may : spansTooFar info ≡ false → (x : ℕ) (xs : List ℕ) (past : Past) → Erasing info image (x ∷ xs) past → R past (demand (eraseRequest info x))) where
+      (may : spansTooFar info ≡ false → (x : ℕ) (xs : List ℕ) (past : Past) → Erasing info image (x ∷ xs) past
+      → R past (demand (eraseRequest info x))) where
     abbrev Left : List ℕ → Past → Type 0
     Left xs p = Erasing info image xs p × (spansTooFar info ≡ false)
 
-    erase-one : (x : ℕ) (xs : List ℕ) (past : Past) → Left (x ∷ xs) past → Always R (λ p _. Left xs p) past (eraseOne info x)
+    erase-one : (x : ℕ) (xs : List ℕ) (past : Past) → Left (x ∷ xs) past
+        → Always R (λ p _. Left xs p) past (eraseOne info x)
     unfolding eraseOne erased erasedIn erases eraseIn written wroteIn writesAt writeIn isOk
     erase-one x xs past (h, s) =
         always-transact R (λ p _. Left xs p) past (eraseRequest info x) _ (may s x xs past h)
@@ -87,15 +100,25 @@ module _ (R : Past → Ask → Type 0) where
           s,
         ))
 
-    erase-all : (past : Past) → Erasing info image (eraseAddresses info) past → Always R (λ p _. Left [] p) past (eraseAll info)
+    erase-all : (past : Past) → Erasing info image (eraseAddresses info) past
+        → Always R (λ p _. Left [] p) past (eraseAll info)
     unfolding eraseAll
     erase-all past h =
-        always-refuseIf R (λ p _. Left [] p) past (spansTooFar info) 19 [] _ (λ s. always-each R Left (eraseOne info) erase-one (eraseAddresses info) past (h, s))
+        always-refuseIf R (λ p _. Left [] p) past (spansTooFar info) 19 [] _
+        (λ s. always-each R Left (eraseOne info) erase-one (eraseAddresses info) past (h, s))
 
 module _ (n : ℕ) where
-  passed-still : (x : Exchange) (past : Past) (info : Info) → Passed n (told past) info → Passed n (told (x ∷ past)) info
+  passed-still : (x : Exchange) (past : Past) (info : Info) → Passed n (told past) info
+      → Passed n (told (x ∷ past)) info
   passed-still x past info h =
-      record { image = h .image; tells = told-still x past (info, h .image) (h .tells); fits = h .fits; suits = h .suits; spans = h .spans }
+      record {
+        image = h .image;
+        tells = told-still x past (info, h .image)
+            (h .tells);
+        fits = h .fits;
+        suits = h .suits;
+        spans = h .spans;
+      }
 
   -- With these Writes left, the first of which may be asked so many times yet.
   record Writing (info : Info) (left : List ℕ) (times : ℕ) (past : Past) : Type 0 where
@@ -111,23 +134,28 @@ module _ (n : ℕ) where
     none : (a : ℕ) → offset < a → writesAt a (asks past) ≡ 0
 
   -- All Erases stand in front of what is asked from then on.
-  cleared-front : (past : Past) (info : Info) → Passed n (told past) info → erased past ≡ eraseAddresses info → erases (asks past) ≡ erased past
+  cleared-front : (past : Past) (info : Info) → Passed n (told past) info → erased past ≡ eraseAddresses info
+      → erases (asks past) ≡ erased past
       → FrontOf (planned past) (erases (asks past) ++ [])
   cleared-front past info p c s =
-      rw append-nil (front-part (planned past) (erases (asks past)) [] (append-nil (erases (asks past)) ∙ s ∙ c ∙ sym (planned-is past (info, p .image) (p .tells))))
+      rw append-nil (front-part (planned past) (erases (asks past)) []
+      (append-nil (erases (asks past)) ∙ s ∙ c ∙ sym (planned-is past (info, p .image) (p .tells))))
 
   module _ (info : Info) (x : ℕ) (xs : List ℕ) where
     abbrev req : Demand
     req = writeRequest info n x
 
-    at-first : (t : ℕ) (past : Past) (h : Writing info (x ∷ xs) t past) → First (chunk (info .maxPayload)) (padded n) (h .offset) x xs
+    at-first : (t : ℕ) (past : Past) (h : Writing info (x ∷ xs) t past)
+        → First (chunk (info .maxPayload)) (padded n) (h .offset) x xs
     at-first t past h = first (chunk (info .maxPayload)) (padded n) (h .offset) x xs (h .positive) (h .rest)
 
-    here-few : (t : ℕ) (past : Past) → Writing info (x ∷ xs) (suc t) past → (a : ℕ) → writesAt a (demand req ∷ asks past) ≤ 17
+    here-few : (t : ℕ) (past : Past) → Writing info (x ∷ xs) (suc t) past → (a : ℕ)
+        → writesAt a (demand req ∷ asks past) ≤ 17
     unfolding writesAt writeIn
     here-few t past h a =
         let f = at-first (suc t) past h in
-        counted x a (writesAt a (asks past)) (λ e. omega (arith, h .here, ap (λ (b : ℕ). writesAt b (asks past)) (sym e ∙ f .same))) (h .few a)
+        counted x a (writesAt a (asks past))
+        (λ e. omega (arith, h .here, ap (λ (b : ℕ). writesAt b (asks past)) (sym e ∙ f .same))) (h .few a)
 
     may-write : (t : ℕ) (past : Past) → Writing info (x ∷ xs) (suc t) past → Allowed n past (demand req)
     unfolding erases eraseIn
@@ -135,12 +163,14 @@ module _ (n : ℕ) where
         let f = at-first (suc t) past h in
         let at : x ≡ written past = omega (arith, f .same, f .inside, h .total) in
         record {
-          ordered = toWrite (record { info = info; passed = h .passed; cleared = h .cleared }) (omega (arith, at, f .same, f .inside)) (ap (writeRequest info n) at);
+          ordered = toWrite (record { info = info; passed = h .passed; cleared = h .cleared })
+              (omega (arith, at, f .same, f .inside)) (ap (writeRequest info n) at);
           front = cleared-front past info (h .passed) (h .cleared) (h .same);
           few = here-few t past h;
         }
 
-    wrote-ok : (t : ℕ) (past : Past) (payload image : List ℕ) → Writing info (x ∷ xs) (suc t) past → Writing info xs 17 (met req (ok payload) image ∷ past)
+    wrote-ok : (t : ℕ) (past : Past) (payload image : List ℕ) → Writing info (x ∷ xs) (suc t) past
+        → Writing info xs 17 (met req (ok payload) image ∷ past)
     unfolding erased erasedIn erases eraseIn written wroteIn writesAt writeIn isOk carried
     wrote-ok t past payload image h =
         let f = at-first (suc t) past h in
@@ -156,7 +186,8 @@ module _ (n : ℕ) where
           here =
               omega (
                 arith,
-                uncounted x (h .offset + chunk (info .maxPayload)) (writesAt (h .offset + chunk (info .maxPayload)) (asks past)) (omega (arith, f .same, h .positive)),
+                uncounted x (h .offset + chunk (info .maxPayload))
+                    (writesAt (h .offset + chunk (info .maxPayload)) (asks past)) (omega (arith, f .same, h .positive)),
                 h .none (h .offset + chunk (info .maxPayload)) (omega (arith, h .positive)),
               );
           none = λ a l. uncounted x a (writesAt a (asks past)) (omega (arith, f .same)) ∙ h .none a (omega arith);
@@ -180,7 +211,8 @@ module _ (n : ℕ) where
           none = λ a l. uncounted x a (writesAt a (asks past)) (omega (arith, f .same)) ∙ h .none a l;
         }
 
-    persist-always : (t : ℕ) (past : Past) → Writing info (x ∷ xs) t past → Always (Allowed n) (λ p _. Writing info xs 17 p) past (persist t req)
+    persist-always : (t : ℕ) (past : Past) → Writing info (x ∷ xs) t past
+        → Always (Allowed n) (λ p _. Writing info xs 17 p) past (persist t req)
     unfolding persist repeated
     persist-always zero past h = tt
     persist-always (suc t) past h = (may-write t past h, λ a. go (a .reply) (a .image) (persist-always t))
@@ -188,21 +220,27 @@ module _ (n : ℕ) where
         Done : Past → Unit {0} → Type 0
         Done p _ = Writing info xs 17 p
 
-        again : (b : Bool) (status : ℕ) (image : List ℕ) → ((p : Past) → Writing info (x ∷ xs) t p → Always (Allowed n) Done p (persist t req))
-            → Always (Allowed n) Done (met req (device status) image ∷ past) (cond b (persist t req) (stop 2 (status ∷ [])))
+        again : (b : Bool) (status : ℕ) (image : List ℕ)
+            → ((p : Past) → Writing info (x ∷ xs) t p → Always (Allowed n) Done p (persist t req))
+            → Always (Allowed n) Done (met req (device status) image ∷ past)
+            (cond b (persist t req) (stop 2 (status ∷ [])))
         again true status image more = more _ (wrote-bad t past status image h)
         again false status image more = tt
 
-        go : (r : Reply) (image : List ℕ) → ((p : Past) → Writing info (x ∷ xs) t p → Always (Allowed n) Done p (persist t req))
+        go : (r : Reply) (image : List ℕ)
+            → ((p : Past) → Writing info (x ∷ xs) t p → Always (Allowed n) Done p (persist t req))
             → Always (Allowed n) Done (met req r image ∷ past) (repeated r (persist t req))
         go (ok payload) image more = wrote-ok t past payload image h
         go (device status) image more = again (eqb status status-CrcMismatch) status image more
 
-    write-one : (past : Past) → Writing info (x ∷ xs) 17 past → Always (Allowed n) (λ p _. Writing info xs 17 p) past (writeOne info n x)
+    write-one : (past : Past) → Writing info (x ∷ xs) 17 past
+        → Always (Allowed n) (λ p _. Writing info xs 17 p) past (writeOne info n x)
     unfolding writeWithin
-    write-one past h = always-bind (Allowed n) (λ p _. Writing info xs 17 p) (λ p _. Writing info xs 17 p) past (persist 17 req) _ (persist-always 17 past h) (λ p _ i. i)
+    write-one past h = always-bind (Allowed n) (λ p _. Writing info xs 17 p) (λ p _. Writing info xs 17 p) past
+        (persist 17 req) _ (persist-always 17 past h) (λ p _ i. i)
 
-  verify-always : (info : Info) (past : Past) → Writing info [] 17 past → Always (Allowed n) (λ p _. Flashed n p (knows info)) past (verify n)
+  verify-always : (info : Info) (past : Past) → Writing info [] 17 past
+      → Always (Allowed n) (λ p _. Flashed n p (knows info)) past (verify n)
   unfolding verify erased erasedIn erases eraseIn written wroteIn writesAt writeIn isOk
   verify-always info past h =
       always-transact (Allowed n) Done past (verifyRequest n) _
@@ -215,9 +253,23 @@ module _ (n : ℕ) where
       always-refuseIf (Allowed n) Done _ (ltb (length payload) 2) 18 [] _ (λ l.
       always-test (Allowed n) Done _ (not (eqb (check image) (field 0 2 payload))) 4 _ (λ e.
       record {
-        may = record { info = info; passed = passed-still _ past info (h .passed); cleared = append-nil (erased past) ∙ h .cleared };
+        may = record {
+          info = info;
+          passed = passed-still _ past info (h .passed);
+          cleared = append-nil (erased past)
+              ∙ h .cleared;
+        };
         all = omega (arith, total);
-        verified = (refl, record { payload = payload; accepted = refl; long = ltb-false (length payload) 2 l; right = sym (eqb-true _ _ (not-false _ e)) });
+        verified = (
+          refl,
+          record {
+            payload = payload;
+            accepted = refl;
+            long = ltb-false
+                (length payload) 2 l;
+            right = sym (eqb-true _ _ (not-false _ e));
+          },
+        );
         result = refl;
       })))
     where
@@ -243,17 +295,24 @@ module _ (n : ℕ) where
   Erased : Past → Info → Type 0
   Erased p info = Writing info (offsets info n) 17 p
 
-  module _ (info : Info) (image : List ℕ) (fits : tooLarge info n ≡ false) (suits : incompatible info image ≡ false) where
-    erase-allowed : spansTooFar info ≡ false → (x : ℕ) (xs : List ℕ) (past : Past) → Erasing info image (x ∷ xs) past → Allowed n past (demand (eraseRequest info x))
+  module _ (info : Info) (image : List ℕ) (fits : tooLarge info n ≡ false)
+      (suits : incompatible info image ≡ false) where
+    erase-allowed : spansTooFar info ≡ false → (x : ℕ) (xs : List ℕ) (past : Past) → Erasing info image (x ∷ xs) past
+        → Allowed n past (demand (eraseRequest info x))
     unfolding erases eraseIn writesAt writeIn
     erase-allowed spans x xs past h =
         record {
-          ordered = toErase (record { info = info; passed = record { image = image; tells = h .tells; fits = fits; suits = suits; spans = spans } }) refl;
+          ordered = toErase (record {
+            info = info;
+            passed = record
+                { image = image; tells = h .tells; fits = fits; suits = suits; spans = spans };
+          }) refl;
           front = erasing-front info image x xs past h;
           few = λ a. omega (arith, h .none a);
         }
 
-    all-erased : sound info ≡ true → (past : Past) → Erasing info image [] past × (spansTooFar info ≡ false) → Erased past info
+    all-erased : sound info ≡ true → (past : Past) → Erasing info image [] past × (spansTooFar info ≡ false)
+        → Erased past info
     unfolding Erased offsets
     all-erased s past (h, spans) =
         record {
@@ -275,7 +334,8 @@ module _ (n : ℕ) where
       always-bind (Allowed n) Begun Erased [] inform _ (inform-always (Allowed n) info-allowed) (λ p r b.
       always-refuseIf (Allowed n) Erased p (tooLarge (r .0) n) 3 _ _ (λ fits.
       always-refuseIf (Allowed n) Erased p (incompatible (r .0) (r .1)) 6 _ _ (λ suits.
-      always-bind (Allowed n) _ Erased p (eraseAll (r .0)) _ (erase-all (Allowed n) (r .0) (r .1) (erase-allowed (r .0) (r .1) fits suits) p (b .0))
+      always-bind (Allowed n) _ Erased p (eraseAll (r .0)) _
+      (erase-all (Allowed n) (r .0) (r .1) (erase-allowed (r .0) (r .1) fits suits) p (b .0))
       (λ q _ e. all-erased (r .0) (r .1) fits suits (b .1) q e))))
 
   pub flash-always : Always (Allowed n) (Flashed n) [] (flash n)
@@ -283,11 +343,16 @@ module _ (n : ℕ) where
   flash-always =
       always-bind (Allowed n) Erased (Flashed n) [] (prepare n) _ prepare-always (λ p info w.
       always-bind (Allowed n) (λ q _. Writing info [] 17 q) (Flashed n) p (writeAll info n) _
-      (always-each (Allowed n) (λ xs q. Writing info xs 17 q) (writeOne info n) (write-one info) (offsets info n) p w) (λ q _ i.
-      always-bind (Allowed n) (λ q _. Flashed n q (knows info)) (Flashed n) q (verify n) (λ _. known info) (verify-always info q i) (λ _ _ f. f)))
+      (always-each (Allowed n) (λ xs q. Writing info xs 17 q) (writeOne info n) (write-one info) (offsets info n) p w)
+      (λ q _ i.
+      always-bind (Allowed n) (λ q _. Flashed n q (knows info)) (Flashed n) q (verify n) (λ _. known info)
+      (verify-always info q i) (λ _ _ f. f)))
 
-  -- Everything asked was allowed when it was asked, and so is what is out; a flash that has returned has erased, written and verified all.
-  pub flash-in-order : (es : List Event) → Kept (Allowed n) (play (flash n) es [] .0) × Stands (Allowed n) (Flashed n) (play (flash n) es [] .0) (play (flash n) es [] .1)
+  -- Everything asked was allowed when it was asked, and so is what is out; a flash that has returned has erased,
+  -- written and verified all.
+  pub flash-in-order : (es : List Event)
+      → Kept (Allowed n) (play (flash n) es [] .0)
+      × Stands (Allowed n) (Flashed n) (play (flash n) es [] .0) (play (flash n) es [] .1)
   flash-in-order es = play-kept (Allowed n) (Flashed n) (flash n) es [] flash-always tt
 
 -- The Erases, those answered and the one that is out, are a front part of those that the Info told of.
@@ -306,16 +371,19 @@ front-still past x h = go (told past) h
     go none h = none-front _ qs (h ∙ take-nil (length qs))
     go (some i) h = h
 
-pub flash-erases-front : (n : ℕ) (es : List Event) → Fronts (play (flash n) es [] .0) (everything (play (flash n) es []))
+pub flash-erases-front : (n : ℕ) (es : List Event)
+    → Fronts (play (flash n) es [] .0) (everything (play (flash n) es []))
 unfolding erases
 flash-erases-front n es =
-    all-asked (Allowed n) (Flashed n) Fronts refl (λ past q h. h .front) (λ past x h. front-still past x (h .front)) (play (flash n) es []) (flash-in-order n es)
+    all-asked (Allowed n) (Flashed n) Fronts refl (λ past q h. h .front) (λ past x h. front-still past x (h .front))
+    (play (flash n) es []) (flash-in-order n es)
 
 -- At most 17 Writes have one address.
 pub flash-writes-few : (n : ℕ) (es : List Event) (a : ℕ) → writesAt a (everything (play (flash n) es [])) ≤ 17
 unfolding writesAt
 flash-writes-few n es a =
-    all-asked (Allowed n) (Flashed n) (λ past qs. writesAt a qs ≤ 17) (omega arith) (λ past q h. h .few a) (λ past x h. h .few a) (play (flash n) es []) (flash-in-order n es)
+    all-asked (Allowed n) (Flashed n) (λ past qs. writesAt a qs ≤ 17) (omega arith) (λ past q h. h .few a)
+    (λ past x h. h .few a) (play (flash n) es []) (flash-in-order n es)
 
 module _ (es : List Event) where
   abbrev Any : Past → Outcome → Type 0
@@ -325,9 +393,11 @@ module _ (es : List Event) where
   unfolding erase Begun erases eraseIn
   erase-always =
       always-bind Front Begun Any [] inform _ (inform-always Front refl) (λ p r b.
-      always-bind Front _ Any p (eraseAll (r .0)) _ (erase-all Front (r .0) (r .1) (λ _. erasing-front (r .0) (r .1)) p (b .0)) (λ q _ e. tt))
+      always-bind Front _ Any p (eraseAll (r .0)) _
+      (erase-all Front (r .0) (r .1) (λ _. erasing-front (r .0) (r .1)) p (b .0)) (λ q _ e. tt))
 
   pub erase-erases-front : Fronts (play erase es [] .0) (everything (play erase es []))
   unfolding erases
   erase-erases-front =
-      all-asked Front Any Fronts refl (λ past q h. h) front-still (play erase es []) (play-kept Front Any erase es [] erase-always tt)
+      all-asked Front Any Fronts refl (λ past q h. h) front-still (play erase es [])
+      (play-kept Front Any erase es [] erase-always tt)

@@ -1,5 +1,4 @@
 -- The frames of a flash fit the bytes that they are written in.
--- Assumes nothing.
 use Prim.Native.Nat.{ℕ, zero, suc, _+_, _-_, _^_, _≤_, _<_}
 use mathlib.Core.Bool.{true}
 use mathlib.Core.List.{List, [], _∷_, _++_}
@@ -14,13 +13,14 @@ use Rattle.paper.specs.Client.{payloadOf, demandFrame}
 use Rattle.paper.specs.Count.{All}
 use Rattle.paper.specs.Frame.{Frame, Info, command-Info, flag-FLUSH}
 use Rattle.paper.specs.Hearing.{onSome}
-use Rattle.paper.specs.Talk.{piece, Demand, Ask, select, demand, leave, Answer}
+use Rattle.paper.specs.Talk.{piece, Demand, Ask, select, demand, leave, AnswerTo}
 use Rattle.paper.specs.Flash.{infoRequest, eraseRequest, writeFlags, writeSize, writeRequest, verifyRequest}
 use Rattle.lore.proofs.Choice.{either}
 use Rattle.paper.proofs.Chunks.{chunk-most, padded-multiple, padded-close, write-size}
 use Rattle.paper.proofs.Words.{Bytes, le-length}
 use Rattle.theory.specs.FlashOrder as Order
-use Rattle.theory.specs.FlashOrder.{Past, asks, toldBy, Passed, InOrder, toInform, toErase, toWrite, toVerify, Front, Allowed}
+use Rattle.theory.specs.FlashOrder.{Past, asks, toldBy, Passed, InOrder, toInform, toErase, toWrite, toVerify}
+use Rattle.theory.specs.FlashOrder.{Front, Allowed}
 use Rattle.theory.proofs.walk.EachMember.{all-weaken, all-take, all-last}
 use Rattle.theory.proofs.flash.WrittenBytes.{piece-length}
 use Rattle.theory.proofs.flash.FlashOrder.{planned-is}
@@ -42,10 +42,11 @@ sound-reply (ok payload) image = go (informed payload) refl
     go (some info) e = informed-sound payload info e
 sound-reply (device status) image = tt
 
-sound-in : (q : Ask) (a : Answer q) → SoundAny (Order.toldIn q a)
+sound-in : (q : Ask) (a : AnswerTo q) → SoundAny (Order.toldIn q a)
 unfolding Order.toldIn
 sound-in (select p) a = tt
-sound-in (demand d) a = either SoundAny (eqb (d .command) command-Info) {x = toldBy (a .reply) (a .image)} {y = none} (sound-reply (a .reply) (a .image)) tt
+sound-in (demand d) a = either SoundAny (eqb (d .command) command-Info) {x = toldBy (a .reply) (a .image)} {y = none}
+    (sound-reply (a .reply) (a .image)) tt
 sound-in (leave d) a = tt
 
 told-sound : (past : Past) → SoundAny (Order.told past)
@@ -71,7 +72,8 @@ module _ (n : ℕ) (past : Past) (info : Info) (p : Passed n (Order.told past) i
 
   passed-addresses : All (λ a. a < 256 ^ 4) (eraseAddresses info)
   passed-addresses =
-      all-weaken (λ x. x + info .eraseSize ≤ 0xFFFFFFFF) (λ a. a < 256 ^ 4) (eraseAddresses info) (λ x l. omega arith) (addresses-fit info passed-size (p .spans))
+      all-weaken (λ x. x + info .eraseSize ≤ 0xFFFFFFFF) (λ a. a < 256 ^ 4) (eraseAddresses info) (λ x l. omega arith)
+      (addresses-fit info passed-size (p .spans))
 
 -- The frames of a flash fit their bytes.
 bytes-replicate : (k : ℕ) → Bytes (replicate k 0xFF)
@@ -80,23 +82,40 @@ bytes-replicate (suc k) = (omega arith, bytes-replicate k)
 
 piece-bytes : (image : List ℕ) (o k : ℕ) → Bytes image → Bytes (payloadOf (piece o k) image)
 unfolding payloadOf
-piece-bytes image o k h = bytes-append (take k (drop o image)) _ (bytes-take k (drop o image) (bytes-drop o image h)) (bytes-replicate (k - (length image - o)))
+piece-bytes image o k h = bytes-append (take k (drop o image)) _ (bytes-take k (drop o image) (bytes-drop o image h))
+    (bytes-replicate (k - (length image - o)))
 
 module _ (n : ℕ) (image : List ℕ) (lent : length image ≡ n) (bytes : Bytes image) where
   abbrev pub frame : Demand → Frame
   frame d = demandFrame d image
 
   flags-fit : (info : Info) (o : ℕ) → writeFlags info n o < 256
-  flags-fit info o = either (λ (x : ℕ). x < 256) (leb (padded n) (o + chunk (info .maxPayload))) {x = flag-FLUSH} {y = 0} (omega arith) (omega arith)
+  flags-fit info o = either (λ (x : ℕ). x < 256) (leb (padded n) (o + chunk (info .maxPayload))) {x = flag-FLUSH}
+      {y = 0} (omega arith) (omega arith)
 
   inform-fits : Fits (frame infoRequest)
   unfolding payloadOf
-  inform-fits = record { command = omega arith; status = omega arith; flags = omega arith; address = omega arith; payload = tt; short = omega arith }
+  inform-fits = record {
+    command = omega arith;
+    status = omega arith;
+    flags = omega arith;
+    address = omega arith;
+    payload = tt;
+    short = omega arith;
+  }
 
   erase-fits : (info : Info) (a : ℕ) → a < 256 ^ 4 → Fits (frame (eraseRequest info a))
   unfolding payloadOf
   erase-fits info a l =
-      record { command = omega arith; status = omega arith; flags = omega arith; address = l; payload = bytes-le 2 (info .eraseSize); short = omega (arith, le-length 2 (info .eraseSize)) }
+      record {
+        command = omega arith;
+        status = omega arith;
+        flags = omega arith;
+        address = l;
+        payload = bytes-le 2
+            (info .eraseSize);
+        short = omega (arith, le-length 2 (info .eraseSize));
+      }
 
   write-fits : (info : Info) (o : ℕ) → o < 256 ^ 4 → Fits (frame (writeRequest info n o))
   write-fits info o l =
@@ -106,19 +125,36 @@ module _ (n : ℕ) (image : List ℕ) (lent : length image ≡ n) (bytes : Bytes
         flags = flags-fit info o;
         address = l;
         payload = piece-bytes image o (writeSize info n o) bytes;
-        short = omega (arith, piece-length image o (writeSize info n o), write-size info n o, chunk-most (info .maxPayload));
+        short = omega (
+          arith,
+          piece-length image o (writeSize info n o),
+          write-size info n o,
+          chunk-most
+              (info .maxPayload),
+        );
       }
 
   verify-fits : n < 256 ^ 4 → Fits (frame (verifyRequest n))
   unfolding payloadOf
-  verify-fits l = record { command = omega arith; status = omega arith; flags = omega arith; address = l; payload = tt; short = omega arith }
+  verify-fits l = record {
+    command = omega arith;
+    status = omega arith;
+    flags = omega arith;
+    address = l;
+    payload = tt;
+    short = omega arith;
+  }
 
-  erase-small : (past : Past) (info : Info) (a : ℕ) → Passed n (Order.told past) info → Front past (demand (eraseRequest info a)) → a < 256 ^ 4
+  erase-small : (past : Past) (info : Info) (a : ℕ) → Passed n (Order.told past) info
+      → Front past (demand (eraseRequest info a)) → a < 256 ^ 4
   unfolding Order.erases Order.eraseIn
   erase-small past info a p f =
       all-last (λ x. x < 256 ^ 4) (Order.erases (asks past)) a
-      (subst (All (λ x. x < 256 ^ 4)) (sym (f ∙ ap (take (length (Order.erases (asks past) ++ (a ∷ [])))) (planned-is past (info, p .image) (p .tells))))
-      (all-take (λ x. x < 256 ^ 4) (length (Order.erases (asks past) ++ (a ∷ []))) (eraseAddresses info) (passed-addresses n past info p)))
+      (subst (All (λ x. x < 256 ^ 4))
+      (sym (f ∙ ap (take (length (Order.erases (asks past) ++ (a ∷ []))))
+      (planned-is past (info, p .image) (p .tells))))
+      (all-take (λ x. x < 256 ^ 4) (length (Order.erases (asks past) ++ (a ∷ []))) (eraseAddresses info)
+      (passed-addresses n past info p)))
 
   pub in-order-fits : (past : Past) (d : Demand) → Allowed n past (demand d) → Fits (frame d)
   in-order-fits past d h = go (h .ordered)
@@ -127,8 +163,12 @@ module _ (n : ℕ) (image : List ℕ) (lent : length image ≡ n) (bytes : Bytes
       go (toInform e f) = subst (λ (d : Demand). Fits (frame d)) (sym f) inform-fits
       go (toErase may e) =
           subst (λ (d : Demand). Fits (frame d)) (sym e)
-          (erase-fits (may .info) (d .address) (erase-small past (may .info) (d .address) (may .passed) (subst (λ (d : Demand). Front past (demand d)) e (h .front))))
+          (erase-fits (may .info) (d .address)
+          (erase-small past (may .info) (d .address) (may .passed)
+          (subst (λ (d : Demand). Front past (demand d)) e (h .front))))
       go (toWrite may l e) =
           subst (λ (d : Demand). Fits (frame d)) (sym e)
-          (write-fits (may .info) (Order.written past) (omega (arith, l, padded-close n, padded-multiple n, passed-length n past (may .info) (may .passed))))
-      go (toVerify may t e) = subst (λ (d : Demand). Fits (frame d)) (sym e) (verify-fits (omega (arith, passed-length n past (may .info) (may .passed))))
+          (write-fits (may .info) (Order.written past)
+          (omega (arith, l, padded-close n, padded-multiple n, passed-length n past (may .info) (may .passed))))
+      go (toVerify may t e) = subst (λ (d : Demand). Fits (frame d)) (sym e)
+          (verify-fits (omega (arith, passed-length n past (may .info) (may .passed))))

@@ -1,5 +1,4 @@
 -- Every operation with one answer to a request ends: how many requests it asks at the most, over any replies.
--- Assumes nothing.
 use Prim.Native.Nat.{ℕ, zero, suc, _+_, _-_, _*_, _/_, _≤_, _<_}
 use mathlib.Core.Bool.{Bool, true, false, not, cond}
 use mathlib.Core.List.{List, [], _∷_}
@@ -12,10 +11,14 @@ use lib.ListN.{length, length-map}
 use borrow.Author.Tests.{ltb-false}
 use Rattle.paper.specs.Frame.{field, check, Info, status-CrcMismatch}
 use Rattle.paper.specs.Hearing.{onSome}
-use Rattle.paper.specs.Answers.{Reply, ok, device, sound, informed, steps, spansTooFar, apart, below, eraseAddresses, tooLarge, reported, incompatible, chunk, padded}
-use Rattle.paper.specs.Talk.{Demand, demand, Answered, Answer, Talk, return, stop, report, ask, _>>=_, _>>_, each}
-use Rattle.paper.specs.Flash.{accepted, transact, refuseIf, infoRequest, keys, inform, eraseOne, eraseAll, repeated, persist, writeWithin, writeOne, offsets, writeAll, verify, known, informOnly, erase, prepare, flash, reset}
-use Rattle.theory.specs.FlashOrder.{Exchange, met, Past, Event, Stand, lost, readEvent, play, everything, toldBy, toldIn, told, Ended, Bounded, most, erasesMost, flashMost}
+use Rattle.paper.specs.Answers.{Reply, ok, device, sound, informed, steps, spansTooFar, apart, below, eraseAddresses}
+use Rattle.paper.specs.Answers.{tooLarge, reported, incompatible, chunk, padded}
+use Rattle.paper.specs.Talk.{Demand, demand, Answered, AnswerTo, Talk, return, stop, report, ask, _>>=_, _>>_, each}
+use Rattle.paper.specs.Flash.{accepted, transact, refuseIf, infoRequest, keys, inform, eraseOne, eraseAll, repeated}
+use Rattle.paper.specs.Flash.{persist, writeWithin, writeOne, offsets, writeAll, verify, known, informOnly, erase}
+use Rattle.paper.specs.Flash.{prepare, flash, reset}
+use Rattle.theory.specs.FlashOrder.{Exchange, met, Past, Event, Stand, lost, readEvent, play, everything, toldBy}
+use Rattle.theory.specs.FlashOrder.{toldIn, told, Ended, Bounded, most, erasesMost, flashMost}
 use Rattle.theory.proofs.talk.TalkRules.{bind-assoc}
 use Rattle.theory.proofs.flash.FlashOrder.{told-still}
 use Rattle.theory.proofs.flash.DeviceInfo.{sound-sizes, sound-chunk, informed-sound}
@@ -27,7 +30,7 @@ Within k (return a) = Unit {0}
 Within k (stop c carries) = Unit {0}
 Within k (report a b m) = Within k m
 Within zero (ask q f) = ⊥
-Within (suc k) (ask q f) = (a : Answer q) → Within k (f a)
+Within (suc k) (ask q f) = (a : AnswerTo q) → Within k (f a)
 
 within-more : {A : Type 0} (j k : ℕ) (m : Talk A) → j ≤ k → Within j m → Within k m
 within-more j k (return a) l h = tt
@@ -37,7 +40,8 @@ within-more zero k (ask q f) l h = absurd h
 within-more (suc j) zero (ask q f) l h = absurd (omega arith)
 within-more (suc j) (suc k) (ask q f) l h = λ a. within-more j k (f a) (omega arith) (h a)
 
-within-bind : {A B : Type 0} (j k l : ℕ) (m : Talk A) (f : A → Talk B) → j + k ≤ l → Within j m → ((a : A) → Within k (f a)) → Within l (m >>= f)
+within-bind : {A B : Type 0} (j k l : ℕ) (m : Talk A) (f : A → Talk B) → j + k ≤ l → Within j m
+    → ((a : A) → Within k (f a)) → Within l (m >>= f)
 unfolding _>>=_
 within-bind j k l (return a) f s h g = within-more k l (f a) (omega arith) (g a)
 within-bind j k l (stop c carries) f s h g = tt
@@ -46,17 +50,22 @@ within-bind zero k l (ask q m) f s h g = absurd h
 within-bind (suc j) k zero (ask q m) f s h g = absurd (omega arith)
 within-bind (suc j) k (suc l) (ask q m) f s h g = λ a. within-bind j k l (m a) f (omega arith) (h a) g
 
-within-each : (j k : ℕ) (f : ℕ → Talk (Unit {0})) → ((x : ℕ) → Within j (f x)) → (xs : List ℕ) → length xs * j ≤ k → Within k (each xs f)
+within-each : (j k : ℕ) (f : ℕ → Talk (Unit {0})) → ((x : ℕ) → Within j (f x)) → (xs : List ℕ) → length xs * j ≤ k
+    → Within k (each xs f)
 unfolding each
 within-each j k f h [] l = tt
-within-each j k f h (x ∷ xs) l = within-bind j (length xs * j) k (f x) (λ _. each xs f) (omega arith) (h x) (λ _. within-each j (length xs * j) f h xs (omega arith))
+within-each j k f h (x ∷ xs) l =
+    within-bind j (length xs * j) k (f x) (λ _. each xs f) (omega arith) (h x)
+    (λ _. within-each j (length xs * j) f h xs (omega arith))
 
-within-refuseIf : {A : Type 0} (k : ℕ) (b : Bool) (c : ℕ) (v : List ℕ) (m : Talk A) → (b ≡ false → Within k m) → Within k (refuseIf b c v >> m)
+within-refuseIf : {A : Type 0} (k : ℕ) (b : Bool) (c : ℕ) (v : List ℕ) (m : Talk A) → (b ≡ false → Within k m)
+    → Within k (refuseIf b c v >> m)
 unfolding refuseIf _>>=_
 within-refuseIf k true c v m h = tt
 within-refuseIf k false c v m h = h refl
 
-within-transact : {A : Type 0} (k : ℕ) (d : Demand) (f : List ℕ × List ℕ → Talk A) → ((payload image : List ℕ) → Within k (f (payload, image))) → Within (suc k) (transact d >>= f)
+within-transact : {A : Type 0} (k : ℕ) (d : Demand) (f : List ℕ × List ℕ → Talk A)
+    → ((payload image : List ℕ) → Within k (f (payload, image))) → Within (suc k) (transact d >>= f)
 unfolding transact accepted _>>=_
 within-transact k d f h = λ a. go (a .reply) (a .image)
   where
@@ -73,13 +82,17 @@ within-play k (stop c carries) h es past = (omega (arith, length-map past (λ x.
 within-play k (report a b m) h es past = within-play k m h es past
 within-play zero (ask q f) h es past = absurd h
 within-play (suc k) (ask q f) h [] past = (omega (arith, length-map past (λ x. x .asked)), λ l. absurd (omega arith))
-within-play {A} (suc k) (ask q f) h (e ∷ es) past = go (readEvent q e) (λ a. within-play k (f a) (h a) es (record { asked = q; answer = a } ∷ past))
+within-play {A} (suc k) (ask q f) h (e ∷ es) past =
+    go (readEvent q e) (λ a. within-play k (f a) (h a) es (record { asked = q; answer = a } ∷ past))
   where
     Fine : ℕ → ℕ → ℕ → Past × Stand A → Type 0
     Fine k n l r = (length (everything r) ≤ k + n) × (k ≤ l → Ended (r .1))
 
-    go : (r : Option (Answer q)) → ((a : Answer q) → Fine k (suc (length past)) (length es) (play (f a) es (record { asked = q; answer = a } ∷ past)))
-        → Fine (suc k) (length past) (suc (length es)) (onSome r (past, lost q) (λ a. play (f a) es (record { asked = q; answer = a } ∷ past)))
+    go : (r : Option (AnswerTo q))
+        → ((a : AnswerTo q) → Fine k (suc (length past)) (length es)
+        (play (f a) es (record { asked = q; answer = a } ∷ past)))
+        → Fine (suc k) (length past) (suc (length es))
+        (onSome r (past, lost q) (λ a. play (f a) es (record { asked = q; answer = a } ∷ past)))
     go none more = (omega (arith, length-map past (λ x. x .asked)), λ _. tt)
     go (some a) more = (omega (arith, more a .0), λ l. more a .1 (omega arith))
 
@@ -87,27 +100,33 @@ bounded : {A : Type 0} (k : ℕ) (m : Talk A) (es : List Event) → Within k m �
 bounded k m es h = let w = within-play k m h es [] in record { few = omega (arith, w .0); ends = w .1 }
 
 -- What was told first stays so.
-told-play : {A : Type 0} (i : Info × List ℕ) (m : Talk A) (es : List Event) (past : Past) → told past ≡ some i → told (play m es past .0) ≡ some i
+told-play : {A : Type 0} (i : Info × List ℕ) (m : Talk A) (es : List Event) (past : Past) → told past ≡ some i
+    → told (play m es past .0) ≡ some i
 unfolding play
 told-play i (return a) es past h = h
 told-play i (stop c carries) es past h = h
 told-play i (report a b m) es past h = told-play i m es past h
 told-play i (ask q f) [] past h = h
 told-play {A} i (ask q f) (e ∷ es) past h =
-    go (readEvent q e) (λ a. told-play i (f a) es (record { asked = q; answer = a } ∷ past) (told-still (record { asked = q; answer = a }) past i h))
+    go (readEvent q e) (λ a. told-play i (f a) es (record { asked = q; answer = a } ∷ past)
+    (told-still (record { asked = q; answer = a }) past i h))
   where
-    go : (r : Option (Answer q)) → ((a : Answer q) → told (play (f a) es (record { asked = q; answer = a } ∷ past) .0) ≡ some i)
+    go : (r : Option (AnswerTo q))
+        → ((a : AnswerTo q) → told (play (f a) es (record { asked = q; answer = a } ∷ past) .0) ≡ some i)
         → told (onSome r (past, lost q) (λ a. play (f a) es (record { asked = q; answer = a } ∷ past)) .0) ≡ some i
     go none more = h
     go (some a) more = more a
 
 module _ {A : Type 0} (g : Info × List ℕ → Talk A) where
   -- A conversation that begins with the Info, by what it does with each sound information.
-  within-inform : (k : ℕ) → ((info : Info) (image : List ℕ) → sound info ≡ true → Within k (g (info, image))) → Within (suc k) (inform >>= g)
+  within-inform : (k : ℕ) → ((info : Info) (image : List ℕ) → sound info ≡ true → Within k (g (info, image)))
+      → Within (suc k) (inform >>= g)
   unfolding inform _>>=_
-  within-inform k h = rw bind-assoc (within-transact k infoRequest _ (λ payload image. go payload image (informed payload) refl))
+  within-inform k h = rw bind-assoc
+      (within-transact k infoRequest _ (λ payload image. go payload image (informed payload) refl))
     where
-      go : (payload image : List ℕ) (i : Option Info) → informed payload ≡ i → Within k (onSome i (stop 5 []) (λ info. return (info, image)) >>= g)
+      go : (payload image : List ℕ) (i : Option Info) → informed payload ≡ i
+          → Within k (onSome i (stop 5 []) (λ info. return (info, image)) >>= g)
       go payload image none e = tt
       go payload image (some info) e = h info image (informed-sound payload info e)
 
@@ -118,7 +137,8 @@ module _ {A : Type 0} (g : Info × List ℕ → Talk A) where
   informed-bounded b h (e ∷ es) = go (readEvent (demand infoRequest) e)
     where
       after : Answered → Talk A
-      after a = accepted (a .reply) (a .image) >>= (λ p. onSome (informed (p .0)) (stop 5 []) (λ info. return (info, p .1))) >>= g
+      after a = accepted (a .reply) (a .image) >>=
+          (λ p. onSome (informed (p .0)) (stop 5 []) (λ info. return (info, p .1))) >>= g
 
       Fine : Past × Stand A → Type 0
       Fine r = Bounded (most b (told (r .0))) (e ∷ es) r
@@ -129,15 +149,19 @@ module _ {A : Type 0} (g : Info × List ℕ → Talk A) where
           rw (told-play i (g i) es (x ∷ []) t) (record { few = omega (arith, w .0); ends = λ l. w .1 (omega arith) })
 
       informs : (payload image : List ℕ) (o : Option Info) → informed payload ≡ o
-          → Fine (play (onSome o (stop 5 []) (λ info. return (info, image)) >>= g) es (met infoRequest (ok payload) image ∷ []))
+          → Fine (play (onSome o (stop 5 []) (λ info. return (info, image)) >>= g) es
+          (met infoRequest (ok payload) image ∷ []))
       informs payload image none q = rw q (record { few = omega arith; ends = λ _. tt })
       informs payload image (some info) q = known-fine _ (info, image) (rw q)
 
-      answers : (r : Reply) (image : List ℕ) → Fine (play (after (record { reply = r; image = image })) es (met infoRequest r image ∷ []))
+      answers : (r : Reply) (image : List ℕ)
+          → Fine (play (after (record { reply = r; image = image })) es (met infoRequest r image ∷ []))
       answers (ok payload) image = informs payload image (informed payload) refl
       answers (device status) image = record { few = omega arith; ends = λ _. tt }
 
-      go : (r : Option Answered) → Fine (onSome r ([], lost (demand infoRequest)) (λ a. play (after a) es (record { asked = demand infoRequest; answer = a } ∷ [])))
+      go : (r : Option Answered) → Fine
+          (onSome r ([], lost (demand infoRequest))
+          (λ a. play (after a) es (record { asked = demand infoRequest; answer = a } ∷ [])))
       go none = record { few = omega arith; ends = λ _. tt }
       go (some a) = answers (a .reply) (a .image)
 
@@ -154,7 +178,8 @@ erase-all-within : (info : Info) (k : ℕ) → (spansTooFar info ≡ false → e
 unfolding eraseAll eraseOne eraseAddresses erasesMost
 erase-all-within info k h =
     within-refuseIf k (spansTooFar info) 19 [] _ (λ s.
-    within-each 1 k (eraseOne info) (λ x. within-transact 0 _ _ (λ payload image. tt)) (eraseAddresses info) (omega (arith, h s, below-length (info .eraseSize) (info .capacity))))
+    within-each 1 k (eraseOne info) (λ x. within-transact 0 _ _ (λ payload image. tt)) (eraseAddresses info)
+    (omega (arith, h s, below-length (info .eraseSize) (info .capacity))))
 
 persist-within : (t : ℕ) (d : Demand) → Within t (persist t d)
 unfolding persist repeated
@@ -169,10 +194,12 @@ persist-within (suc t) d = λ a. go (a .reply) (persist-within t d)
     go (ok payload) h = tt
     go (device status) h = again (eqb status status-CrcMismatch) status h
 
-write-all-within : (info : Info) (n k : ℕ) → 17 * steps (chunk (info .maxPayload)) (padded n) ≤ k → Within k (writeAll info n)
+write-all-within : (info : Info) (n k : ℕ) → 17 * steps (chunk (info .maxPayload)) (padded n) ≤ k
+    → Within k (writeAll info n)
 unfolding writeAll writeWithin offsets
 write-all-within info n k h =
-    within-each 17 k (writeOne info n) (λ x. within-bind 17 0 17 (persist 17 _) _ (omega arith) (persist-within 17 _) (λ _. tt)) (offsets info n)
+    within-each 17 k (writeOne info n)
+    (λ x. within-bind 17 0 17 (persist 17 _) _ (omega arith) (persist-within 17 _) (λ _. tt)) (offsets info n)
     (omega (arith, below-length (chunk (info .maxPayload)) (padded n)))
 
 test-within : (b : Bool) (c : ℕ) (v : List ℕ) → Within 0 (refuseIf b c v)
@@ -184,28 +211,35 @@ verify-within : (n : ℕ) → Within 1 (verify n)
 unfolding verify
 verify-within n =
     within-transact 0 _ _ (λ payload image.
-    within-refuseIf 0 (ltb (length payload) 2) 18 [] _ (λ _. test-within (not (eqb (check image) (field 0 2 payload))) 4 (check image ∷ field 0 2 payload ∷ [])))
+    within-refuseIf 0 (ltb (length payload) 2) 18 [] _
+    (λ _. test-within (not (eqb (check image) (field 0 2 payload))) 4 (check image ∷ field 0 2 payload ∷ [])))
 
 pub inform-bounded : (es : List Event) → Bounded 1 es (play informOnly es [])
 unfolding informOnly
 inform-bounded es = bounded 1 informOnly es (within-inform _ 0 (λ info image s. tt))
 
-pub reset-bounded : (bootloader : Bool) (baud : Option ℕ) (awaited : Bool) (es : List Event) → Bounded 1 es (play (reset bootloader baud awaited) es [])
+pub reset-bounded : (bootloader : Bool) (baud : Option ℕ) (awaited : Bool) (es : List Event)
+    → Bounded 1 es (play (reset bootloader baud awaited) es [])
 unfolding reset
-reset-bounded bootloader baud true es = bounded 1 (reset bootloader baud true) es (within-transact 0 _ _ (λ payload image. tt))
+reset-bounded bootloader baud true es =
+    bounded 1 (reset bootloader baud true) es (within-transact 0 _ _ (λ payload image. tt))
 reset-bounded bootloader baud false es = bounded 1 (reset bootloader baud false) es (λ _. tt)
 
-erase-after : (info : Info) (k : ℕ) → (spansTooFar info ≡ false → erasesMost info ≤ k) → Within k (eraseAll info >> known info)
-erase-after info k h = within-bind k 0 k (eraseAll info) (λ _. known info) (omega arith) (erase-all-within info k h) (λ _. tt)
+erase-after : (info : Info) (k : ℕ) → (spansTooFar info ≡ false → erasesMost info ≤ k)
+    → Within k (eraseAll info >> known info)
+erase-after info k h = within-bind k 0 k (eraseAll info) (λ _. known info) (omega arith) (erase-all-within info k h)
+    (λ _. tt)
 
 pub erase-bounded : (es : List Event) → Bounded (most erasesMost (told (play erase es [] .0))) es (play erase es [])
 unfolding erase
 erase-bounded es = informed-bounded _ erasesMost (λ i. erase-after (i .0) (erasesMost (i .0)) (λ _. omega arith)) es
 
 -- What a flash does with the information, for any bound of its Erases and of its Writes.
-flash-after : (n : ℕ) (info : Info) (image : List ℕ) (k l : ℕ) → (spansTooFar info ≡ false → erasesMost info ≤ k) → 17 * steps (chunk (info .maxPayload)) (padded n) ≤ l
+flash-after : (n : ℕ) (info : Info) (image : List ℕ) (k l : ℕ) → (spansTooFar info ≡ false → erasesMost info ≤ k)
+    → 17 * steps (chunk (info .maxPayload)) (padded n) ≤ l
     → Within (k + (l + 1))
-    (refuseIf (tooLarge info n) 3 (reported n ∷ info .capacity ∷ []) >> (refuseIf (incompatible info image) 6 (keys info image) >> (eraseAll info >> return info))
+    (refuseIf (tooLarge info n) 3 (reported n ∷ info .capacity ∷ []) >>
+    (refuseIf (incompatible info image) 6 (keys info image) >> (eraseAll info >> return info))
     >>= (λ info. writeAll info n >> (verify n >> known info)))
 unfolding _>>=_
 flash-after n info image k l h w =
@@ -215,11 +249,15 @@ flash-after n info image k l h w =
     within-bind l 1 (l + 1) (writeAll info n) _ (omega arith) (write-all-within info n l w) (λ _.
     within-bind 1 0 1 (verify n) _ (omega arith) (verify-within n) (λ _. tt))))))))
 
-pub flash-bounded : (n : ℕ) (es : List Event) → Bounded (most (flashMost n) (told (play (flash n) es [] .0))) es (play (flash n) es [])
+pub flash-bounded : (n : ℕ) (es : List Event)
+    → Bounded (most (flashMost n) (told (play (flash n) es [] .0))) es (play (flash n) es [])
 unfolding flash prepare flashMost
-flash-bounded n es = rw bind-assoc (informed-bounded _ (flashMost n) (λ i. flash-after n (i .0) (i .1) (erasesMost (i .0)) _ (λ _. omega arith) (omega arith)) es)
+flash-bounded n es = rw bind-assoc
+    (informed-bounded _ (flashMost n)
+    (λ i. flash-after n (i .0) (i .1) (erasesMost (i .0)) _ (λ _. omega arith) (omega arith)) es)
 
--- The same without the information: no Erases whose addresses need more than 32 bits are asked, and no chunk is under 4 bytes.
+-- The same without the information: no Erases whose addresses need more than 32 bits are asked, and no chunk is under 4
+-- bytes.
 erases-most : (info : Info) → sound info ≡ true → spansTooFar info ≡ false → erasesMost info ≤ 0xFFFFFFFF
 unfolding spansTooFar erasesMost
 erases-most info h s =
@@ -232,19 +270,24 @@ erases-most info h s =
 steps-most : (c p q : ℕ) → 4 ≤ c → p ≤ 4 * q → steps c p ≤ q
 unfolding steps
 steps-most c p q h l =
-    let less : (p + (c - 1)) / c < q + 1 = div-lt-iff-lt-mul {k = c} {x = p + (c - 1)} {y = q + 1} (omega arith) .1 (omega (arith, mul-le-mul-left q h)) in
+    let less : (p + (c - 1)) / c < q + 1 =
+    div-lt-iff-lt-mul {k = c} {x = p + (c - 1)} {y = q + 1} (omega arith) .1 (omega (arith, mul-le-mul-left q h)) in
     omega arith
 
 writes-most : (info : Info) (n : ℕ) → sound info ≡ true → steps (chunk (info .maxPayload)) (padded n) ≤ padded n / 4
-writes-most info n h = steps-most (chunk (info .maxPayload)) (padded n) (padded n / 4) (sound-chunk info h) (omega (arith, padded-multiple n))
+writes-most info n h = steps-most (chunk (info .maxPayload)) (padded n) (padded n / 4) (sound-chunk info h)
+    (omega (arith, padded-multiple n))
 
 pub erase-ends : (es : List Event) → Bounded (suc 0xFFFFFFFF) es (play erase es [])
 unfolding erase
-erase-ends es = bounded (suc 0xFFFFFFFF) erase es (within-inform _ 0xFFFFFFFF (λ info image s. erase-after info 0xFFFFFFFF (erases-most info s)))
+erase-ends es = bounded (suc 0xFFFFFFFF) erase es
+    (within-inform _ 0xFFFFFFFF (λ info image s. erase-after info 0xFFFFFFFF (erases-most info s)))
 
-pub flash-ends : (n : ℕ) (es : List Event) → Bounded (suc (0xFFFFFFFF + (17 * (padded n / 4) + 1))) es (play (flash n) es [])
+pub flash-ends : (n : ℕ) (es : List Event)
+    → Bounded (suc (0xFFFFFFFF + (17 * (padded n / 4) + 1))) es (play (flash n) es [])
 unfolding flash prepare
 flash-ends n es =
     bounded (suc (0xFFFFFFFF + (17 * (padded n / 4) + 1))) (flash n) es
     (rw bind-assoc (within-inform _ (0xFFFFFFFF + (17 * (padded n / 4) + 1)) (λ info image s.
-    flash-after n info image 0xFFFFFFFF (17 * (padded n / 4)) (erases-most info s) (omega (arith, writes-most info n s)))))
+    flash-after n info image 0xFFFFFFFF (17 * (padded n / 4)) (erases-most info s)
+    (omega (arith, writes-most info n s)))))

@@ -1,5 +1,4 @@
 -- The offsets of Writes one after the other, and how many stand at an offset.
--- Assumes nothing.
 use Prim.Native.Nat.{ℕ, _+_, _≤_, _<_}
 use mathlib.Core.Bool.{Bool, true, false, cond}
 use mathlib.Core.List.{List, [], _∷_}

@@ -1,5 +1,4 @@
 -- What the Writes of a flash carry: the image padded with FF, from the Write's offset on.
--- Assumes nothing.
 use Prim.Native.Nat.{ℕ, _-_, _≤_}
 use mathlib.Core.List.{List, [], _++_}
 use mathlib.Core.Path.{_≡_, sym, _∙_, ap}
@@ -12,7 +11,8 @@ use Rattle.paper.specs.Count.{All}
 use Rattle.paper.specs.Talk.{piece, Demand, Ask, select, demand, leave}
 use Rattle.paper.specs.Flash.{writeSize, writeRequest, flash}
 use Rattle.paper.specs.Client.{payloadOf}
-use Rattle.theory.specs.FlashOrder.{Past, Event, play, everything, carried, written, InOrder, toInform, toErase, toWrite, toVerify, Ordered, Allowed, Flashed}
+use Rattle.theory.specs.FlashOrder.{Past, Event, play, everything, carried, written, InOrder, toInform, toErase}
+use Rattle.theory.specs.FlashOrder.{toWrite, toVerify, Ordered, Allowed, Flashed}
 use Rattle.theory.proofs.flash.FlashOrder.{flash-in-order}
 use Rattle.theory.proofs.talk.TalkRules.{each-asked}
 use Rattle.paper.proofs.Chunks.{chunk-most, write-size}
@@ -23,10 +23,12 @@ piece-padded : (image : List ℕ) (o k : ℕ) → k ≤ padded (length image) - 
 unfolding payloadOf
 piece-padded image o k h =
     sym
-    (ap (take k) (drop-append o image pad ∙ ap (λ (l : List ℕ). drop o image ++ l) (drop-replicate (padding (length image)) 0xFF (o - length image)))
+    (ap (take k) (drop-append o image pad
+    ∙ ap (λ (l : List ℕ). drop o image ++ l) (drop-replicate (padding (length image)) 0xFF (o - length image)))
     ∙ take-append k (drop o image) (replicate (padding (length image) - (o - length image)) 0xFF)
     ∙ ap (λ (l : List ℕ). take k (drop o image) ++ l)
-    (take-replicate (padding (length image) - (o - length image)) 0xFF (k - length (drop o image)) (omega (arith, length-drop o image))
+    (take-replicate (padding (length image) - (o - length image)) 0xFF (k - length (drop o image))
+    (omega (arith, length-drop o image))
     ∙ ap (λ (m : ℕ). replicate (k - m) 0xFF) (length-drop o image)))
   where
     pad : List ℕ
@@ -43,14 +45,16 @@ piece-length image o k =
       length-replicate {A = ℕ} (k - (length image - o)) 0xFF,
     )
 
--- A Write that a flash asks for: the bytes of the padded image that follow on those written, so many that they fit a frame.
+-- A Write that a flash asks for: the bytes of the padded image that follow on those written, so many that they fit a
+-- frame.
 pub record Carries (image : List ℕ) (offset size : ℕ) (bytes : List ℕ) : Type 0 where
   pub same : bytes ≡ take size (drop offset (image ++ replicate (padding (length image)) 0xFF))
   pub all : length bytes ≡ size
   pub fits : size ≤ most
 
 pub write-carries : (info : Info) (image : List ℕ) (offset : ℕ)
-    → Carries image offset (writeSize info (length image) offset) (payloadOf (writeRequest info (length image) offset .payload) image)
+    → Carries image offset (writeSize info (length image) offset)
+    (payloadOf (writeRequest info (length image) offset .payload) image)
 write-carries info image offset =
     record {
       same = piece-padded image offset _ (omega (arith, write-size info (length image) offset));
@@ -61,13 +65,16 @@ write-carries info image offset =
 -- Every Write of a flash of an image, answered or out, carries the padded image from its address on.
 abbrev pub CarriesIn : List ℕ → Ask → Type 0
 CarriesIn image (select p) = Unit {0}
-CarriesIn image (demand d) = d .command ≡ command-Write → Carries image (d .address) (carried (d .payload)) (payloadOf (d .payload) image)
+CarriesIn image (demand d) = d .command ≡ command-Write
+    → Carries image (d .address) (carried (d .payload)) (payloadOf (d .payload) image)
 CarriesIn image (leave d) = Unit {0}
 
-carries-demand : (image : List ℕ) (past : Past) (d : Demand) → InOrder (length image) past d → CarriesIn image (demand d)
+carries-demand : (image : List ℕ) (past : Past) (d : Demand) → InOrder (length image) past d
+    → CarriesIn image (demand d)
 unfolding carried
 carries-demand image past d (toInform _ e) w = absurd (let z : _≡_ {A = ℕ} 0 2 = cc in omega arith)
-carries-demand image past d (toErase _ e) w = absurd (let z : _≡_ {A = ℕ} 1 2 = ap (λ (d : Demand). d .command) (sym e) ∙ w in omega arith)
+carries-demand image past d (toErase _ e) w =
+    absurd (let z : _≡_ {A = ℕ} 1 2 = ap (λ (d : Demand). d .command) (sym e) ∙ w in omega arith)
 carries-demand image past d (toWrite may _ e) w = rw e (write-carries (may .info) image (written past))
 carries-demand image past d (toVerify _ _ e) w = absurd (let z : _≡_ {A = ℕ} 3 2 = cc in omega arith)
 
@@ -76,7 +83,9 @@ carries-in image past (select p) h = tt
 carries-in image past (demand d) h = carries-demand image past d h
 carries-in image past (leave d) h = tt
 
-pub flash-carries : (image : List ℕ) (es : List Event) → All (CarriesIn image) (everything (play (flash (length image)) es []))
+pub flash-carries : (image : List ℕ) (es : List Event)
+    → All (CarriesIn image) (everything (play (flash (length image)) es []))
 flash-carries image es =
-    each-asked (Allowed (length image)) (Flashed (length image)) (CarriesIn image) (λ past q h. carries-in image past q (h .ordered))
+    each-asked (Allowed (length image)) (Flashed (length image)) (CarriesIn image)
+    (λ past q h. carries-in image past q (h .ordered))
     (play (flash (length image)) es []) (flash-in-order (length image) es)

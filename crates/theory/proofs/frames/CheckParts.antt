@@ -1,5 +1,4 @@
 -- The check: of a sequence in parts, and that it fits two bytes.
--- Assumes nothing.
 use Prim.Native.Nat.{ℕ, _*_, _%_, _^_, _<_}
 use mathlib.Core.Bool.{Bool, true, false, cond}
 use mathlib.Core.List.{List, [], _∷_, _++_}
@@ -27,7 +26,8 @@ bit-fits c h = go (ltb c 0x8000) refl
 byte-fits : (c b : ℕ) → c < 2 ^ 16 → b < 256 → crcByte c b < 2 ^ 16
 unfolding crcByte
 byte-fits c b h k =
-    bit-fits _ (bit-fits _ (bit-fits _ (bit-fits _ (bit-fits _ (bit-fits _ (bit-fits _ (bit-fits _ (xor-lt 16 c (b * 256) h (omega arith)))))))))
+    bit-fits _ (bit-fits _ (bit-fits _
+    (bit-fits _ (bit-fits _ (bit-fits _ (bit-fits _ (bit-fits _ (xor-lt 16 c (b * 256) h (omega arith)))))))))
 
 crc-fits : (c : ℕ) (bs : List ℕ) → c < 2 ^ 16 → Bytes bs → crcFrom c bs < 2 ^ 16
 unfolding crcFrom

@@ -1,5 +1,4 @@
 -- What is written is read back, whatever follows; and what is read whole is what would be written.
--- Assumes nothing.
 use Prim.Native.Nat.{ℕ, zero, suc, _+_, _/_, _^_, _<_, _≤_}
 use mathlib.Core.Bool.{Bool, true, false, cond}
 use mathlib.Core.List.{List, [], _∷_, _++_, append-assoc}
@@ -13,7 +12,8 @@ use borrow.Author.Tests.{le-ltb, eq-eqb, eqb-true}
 use Rattle.paper.proofs.Frames.{body-length, frame-length}
 use Rattle.paper.proofs.Readings.{Read, read-known}
 use Rattle.paper.proofs.Words.{Bytes, le-length, number-le, le-number}
-use Rattle.paper.specs.Frame.{le, number, byte, field, check, Frame, size, most, frameHead, frameBody, frameBytes, fields, rightCheck, skipped, readSized, readSynced, read, whole}
+use Rattle.paper.specs.Frame.{le, number, byte, field, check, Frame, size, most, frameHead, frameBody, frameBytes}
+use Rattle.paper.specs.Frame.{fields, rightCheck, skipped, readSized, readSynced, read, whole}
 use Rattle.theory.proofs.frames.CheckParts.{check-fits}
 
 -- A frame whose fields fit the bytes that they are written in.
@@ -55,7 +55,8 @@ number-fits [] h = omega arith
 number-fits (x ∷ xs) h = rw (pow-suc 256 (length xs)) (omega (arith, number-fits xs (h .1), h .0))
 
 -- Reading, from what the bytes are.
-read-made : (s : List ℕ) (n : ℕ) → skipped s ≡ 0 → field 8 2 s ≡ n → n ≤ most → 12 + n ≤ length s → rightCheck n s ≡ true → read s ≡ whole 0 (fields n s)
+read-made : (s : List ℕ) (n : ℕ) → skipped s ≡ 0 → field 8 2 s ≡ n → n ≤ most → 12 + n ≤ length s
+    → rightCheck n s ≡ true → read s ≡ whole 0 (fields n s)
 unfolding read readSynced readSized
 read-made s n e en small room right =
     rw (e, en, le-ltb (length s) 10 (omega arith), le-ltb most n small, le-ltb (length s) (12 + n) room, right)
@@ -92,12 +93,14 @@ module _ (f : Frame) (h : Fits f) (more : List ℕ) where
   written-payload : take n (drop 10 written) ≡ f .payload
   unfolding frameBytes frameBody frameHead le
   written-payload =
-      ap (take n) (append-assoc (f .payload) (le 2 (check (frameBody f))) more) ∙ take-at (f .payload) (le 2 (check (frameBody f)) ++ more) n refl
+      ap (take n) (append-assoc (f .payload) (le 2 (check (frameBody f))) more)
+      ∙ take-at (f .payload) (le 2 (check (frameBody f)) ++ more) n refl
 
   written-fields : fields n written ≡ f
   unfolding frameBytes frameBody frameHead le
   written-fields =
-      ap₂ (λ (a : ℕ) (p : List ℕ). record { command = f .command; status = f .status; flags = f .flags; address = a; payload = p })
+      ap₂ (λ (a : ℕ) (p : List ℕ). record
+      { command = f .command; status = f .status; flags = f .flags; address = a; payload = p })
       (number-le 4 (f .address) (h .address))
       written-payload
 
@@ -107,7 +110,8 @@ module _ (f : Frame) (h : Fits f) (more : List ℕ) where
       eq-eqb _ _
       (ap check (ap (take (10 + n)) written-parts ∙ take-at (frameBody f) after (10 + n) (body-length f))
       ∙ sym
-      (ap (λ (t : List ℕ). number (take 2 t)) (ap (drop (10 + n)) written-parts ∙ drop-at (frameBody f) after (10 + n) (body-length f))
+      (ap (λ (t : List ℕ). number (take 2 t))
+      (ap (drop (10 + n)) written-parts ∙ drop-at (frameBody f) after (10 + n) (body-length f))
       ∙ ap number (take-at (le 2 (check (frameBody f))) more 2 (le-length 2 (check (frameBody f))))
       ∙ number-le 2 (check (frameBody f)) (check-fits (frameBody f) (body-bytes f h))))
     where
@@ -115,7 +119,8 @@ module _ (f : Frame) (h : Fits f) (more : List ℕ) where
       after = le 2 (check (frameBody f)) ++ more
 
   pub read-written : read (frameBytes f ++ more) ≡ whole 0 f
-  read-written = read-made written n written-synced written-sized (h .short) (omega (arith, length-append (frameBytes f) more, frame-length f)) written-checked ∙ ap (whole 0) written-fields
+  read-written = read-made written n written-synced written-sized (h .short)
+      (omega (arith, length-append (frameBytes f) more, frame-length f)) written-checked ∙ ap (whole 0) written-fields
 
 -- The first A5 is where the bytes skipped end.
 synced : (s : List ℕ) → skipped s < length s → byte 0 (drop (skipped s) s) ≡ 0xA5
@@ -126,7 +131,8 @@ synced (b ∷ bs) h = go (synced bs) (eqb b 0xA5) refl h
     one-more : (n : ℕ) → 1 + n ≡ suc n
     one-more n = omega arith
 
-    go : (skipped bs < length bs → byte 0 (drop (skipped bs) bs) ≡ 0xA5) → (t : Bool) → eqb b 0xA5 ≡ t → cond t 0 (1 + skipped bs) < suc (length bs)
+    go : (skipped bs < length bs → byte 0 (drop (skipped bs) bs) ≡ 0xA5) → (t : Bool) → eqb b 0xA5 ≡ t
+        → cond t 0 (1 + skipped bs) < suc (length bs)
         → byte 0 (drop (cond t 0 (1 + skipped bs)) (b ∷ bs)) ≡ 0xA5
     go more true e h = eqb-true b 0xA5 e
     go more false e h = ap (λ (n : ℕ). byte 0 (drop n (b ∷ bs))) (one-more (skipped bs)) ∙ more (omega arith)
@@ -178,7 +184,8 @@ module _ (n : ℕ) (t : List ℕ) (h : Bytes t) (room : 12 + n ≤ length t) whe
   fields-body : byte 0 t ≡ 0xA5 → field 8 2 t ≡ n → frameBody (fields n t) ≡ take (10 + n) t
   unfolding frameBody frameHead
   fields-body e en =
-      ap (λ (x : ℕ). (0xA5 ∷ byte 1 t ∷ byte 2 t ∷ byte 3 t ∷ le 4 (field 4 4 t) ++ le 2 x) ++ take n (drop 10 t)) (payload-length ∙ sym en)
+      ap (λ (x : ℕ). (0xA5 ∷ byte 1 t ∷ byte 2 t ∷ byte 3 t ∷ le 4 (field 4 4 t) ++ le 2 x) ++ take n (drop 10 t))
+      (payload-length ∙ sym en)
       ∙ ap (λ (x : List ℕ). x ++ take n (drop 10 t)) (head-read t h (omega arith) e)
       ∙ sym (take-add 10 n t)
 
@@ -207,7 +214,8 @@ module _ (s : List ℕ) (h : Bytes s) (k : ℕ) (f : Frame) (e : read s ≡ whol
   bytes-read : frameBytes f ≡ take (size f) (drop k s)
   bytes-read =
       ap frameBytes (known .frame)
-      ∙ fields-bytes (length (f .payload)) (drop k s) (bytes-drop k s h) room (rw (known .skip) (synced s (omega (arith, known .skip, known .room)))) (known .sized) (known .check)
+      ∙ fields-bytes (length (f .payload)) (drop k s) (bytes-drop k s h) room
+      (rw (known .skip) (synced s (omega (arith, known .skip, known .room)))) (known .sized) (known .check)
 
   pub written-read : s ≡ take k s ++ (frameBytes f ++ drop (k + size f) s)
   written-read =

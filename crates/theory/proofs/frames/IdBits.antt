@@ -1,5 +1,4 @@
 -- The bits of an id, a byte at a time.
--- Assumes nothing.
 use Prim.Native.Nat.{ℕ, suc, _+_, _*_, _/_, _%_, _<_}
 use mathlib.Core.List.{List, [], _∷_, _++_}
 use mathlib.Core.Path.{_≡_, sym, _∙_, ap, ap₂}
@@ -25,7 +24,8 @@ unfolding bitsOf
 bits-cons b bs =
     ap (counting (bit (b ∷ bs)) 0) eight
     ∙ counting-add (bit (b ∷ bs)) 8 (8 * length bs) 0
-    ∙ ap₂ _++_ (counting-same (bit (b ∷ bs)) (bit (b ∷ [])) 8 0 0 first) (counting-same (bit (b ∷ bs)) (bit bs) (8 * length bs) 8 0 (λ i l. rest i))
+    ∙ ap₂ _++_ (counting-same (bit (b ∷ bs)) (bit (b ∷ [])) 8 0 0 first)
+    (counting-same (bit (b ∷ bs)) (bit bs) (8 * length bs) 8 0 (λ i l. rest i))
   where
     eight : 8 * suc (length bs) ≡ 8 + 8 * length bs
     eight = omega arith

@@ -1,5 +1,4 @@
 -- An id's text reads back, and a text that reads is that id's text but for the letters' case.
--- Assumes nothing.
 use Prim.Native.Nat.{ℕ, _+_, _-_, _*_, _/_, _%_, _<_, _≤_}
 use mathlib.Core.Bool.{Bool, true, false, _&&_, cond}
 use mathlib.Core.List.{List, [], _∷_}
@@ -11,7 +10,8 @@ use lib.Dec.{leb}
 use lib.ListN.{length}
 use borrow.Author.Tests.{leb-true, lt-ltb, le-ltb, le-leb}
 use Rattle.paper.specs.Text.{hexDigit, digit, hexText, unhex, parseUid}
-use Rattle.paper.proofs.Hex.{Kind, number, upper, small, other, kind, within, inside, under, over, digit-number, digit-upper, digit-small, hexText-length, unhex-pair, unhex-bad-high, unhex-bad-low}
+use Rattle.paper.proofs.Hex.{Kind, number, upper, small, other, kind, within, inside, under, over, digit-number}
+use Rattle.paper.proofs.Hex.{digit-upper, digit-small, hexText-length, unhex-pair, unhex-bad-high, unhex-bad-low}
 use Rattle.paper.proofs.Words.{Bytes}
 
 -- A character in lower case, if it is one of A to F; and a text.
@@ -43,9 +43,11 @@ unfolding lowerCase
 hexDigit-digit c h = go (kind c)
   where
     go : Kind c → hexDigit (digit c) ≡ cond (within 65 70 c) (c + 32) c
-    go (number l m) = rw (digit-number c l m, under 65 70 c (omega arith), hexDigit-few (c - 48) (omega arith)) (omega arith)
+    go (number l m) = rw (digit-number c l m, under 65 70 c (omega arith), hexDigit-few (c - 48) (omega arith))
+        (omega arith)
     go (upper l m) = rw (digit-upper c l m, inside 65 70 c l m, hexDigit-more (c - 55) (omega arith)) (omega arith)
-    go (small l m) = rw (digit-small c l m, over 65 70 c (omega arith), hexDigit-more (c - 87) (omega arith)) (omega arith)
+    go (small l m) = rw (digit-small c l m, over 65 70 c (omega arith), hexDigit-more (c - 87) (omega arith))
+        (omega arith)
     go (other e) = absurd (omega arith)
 
 pub unhex-hexText : (bs : List ℕ) → Bytes bs → unhex (hexText bs) ≡ some bs
@@ -64,7 +66,8 @@ unhex-hexText (b ∷ bs) h = go (unhex-hexText bs (h .1))
 
     go : unhex (hexText bs) ≡ some bs → unhex (hexText (b ∷ bs)) ≡ some (b ∷ bs)
     go ih =
-        unhex-pair (hexDigit (b / 16)) (hexDigit (b % 16)) (hexText bs) (some bs) (omega (arith, high)) (omega (arith, low)) ih ∙ rw (high, low, whole b)
+        unhex-pair (hexDigit (b / 16)) (hexDigit (b % 16)) (hexText bs) (some bs) (omega (arith, high))
+        (omega (arith, low)) ih ∙ rw (high, low, whole b)
 
 pub parse-of-written : (id : List ℕ) → length id ≤ 16 → Bytes id → parseUid (hexText id) ≡ some id
 unfolding parseUid
@@ -77,10 +80,12 @@ record Read (text id : List ℕ) : Type 0 where
   bytes : Bytes id
 
 module _ (h l : ℕ) (text : List ℕ) (high : digit h < 16) (low : digit l < 16) where
-  pair-written : (bs : List ℕ) → hexText bs ≡ lower text → hexText ((digit h * 16 + digit l) ∷ bs) ≡ lower (h ∷ l ∷ text)
+  pair-written : (bs : List ℕ) → hexText bs ≡ lower text
+      → hexText ((digit h * 16 + digit l) ∷ bs) ≡ lower (h ∷ l ∷ text)
   unfolding hexText lower
   pair-written bs e =
-      ap₂ (λ (x y : ℕ). hexDigit x ∷ hexDigit y ∷ hexText bs) (above (digit h) (digit l) low) (below (digit h) (digit l) low)
+      ap₂ (λ (x y : ℕ). hexDigit x ∷ hexDigit y ∷ hexText bs) (above (digit h) (digit l) low)
+      (below (digit h) (digit l) low)
       ∙ rw (hexDigit-digit h high, hexDigit-digit l low, e)
     where
       above : (a b : ℕ) → b < 16 → (a * 16 + b) / 16 ≡ a
@@ -90,17 +95,25 @@ module _ (h l : ℕ) (text : List ℕ) (high : digit h < 16) (low : digit l < 16
       below a b m = omega arith
 
   pair-read : (bs : List ℕ) → Read text bs → Read (h ∷ l ∷ text) ((digit h * 16 + digit l) ∷ bs)
-  pair-read bs r = record { written = pair-written bs (r .written); digits = omega (arith, r .digits); bytes = (omega arith, r .bytes) }
+  pair-read bs r = record {
+    written = pair-written bs (r .written);
+    digits = omega
+        (arith, r .digits);
+    bytes = (omega arith, r .bytes);
+  }
 
 unhex-read : (text id : List ℕ) → unhex text ≡ some id → Read text id
 unfolding unhex hexText lower
 unhex-read [] id e = rw (← Option·some-injective [] id e) (record { written = refl; digits = refl; bytes = tt })
 unhex-read (h ∷ []) id e = absurd (Option·none-ne-some id e)
-unhex-read (h ∷ l ∷ text) id e = go (λ bs. unhex-read text bs) (decLt (digit h) 16) (decLt (digit l) 16) (unhex text) refl
+unhex-read (h ∷ l ∷ text) id e =
+    go (λ bs. unhex-read text bs) (decLt (digit h) 16) (decLt (digit l) 16) (unhex text) refl
   where
-    go : ((bs : List ℕ) → unhex text ≡ some bs → Read text bs) → Dec (digit h < 16) → Dec (digit l < 16) → (o : Option (List ℕ)) → unhex text ≡ o → Read (h ∷ l ∷ text) id
+    go : ((bs : List ℕ) → unhex text ≡ some bs → Read text bs) → Dec (digit h < 16) → Dec (digit l < 16)
+        → (o : Option (List ℕ)) → unhex text ≡ o → Read (h ∷ l ∷ text) id
     go ih (yes a) (yes b) (some bs) f =
-        rw (← Option·some-injective ((digit h * 16 + digit l) ∷ bs) id (sym (unhex-pair h l text (some bs) a b f) ∙ e)) (pair-read h l text a b bs (ih bs f))
+        rw (← Option·some-injective ((digit h * 16 + digit l) ∷ bs) id (sym (unhex-pair h l text (some bs) a b f) ∙ e))
+        (pair-read h l text a b bs (ih bs f))
     go ih (yes a) (yes b) none f = absurd (Option·none-ne-some id (sym (unhex-pair h l text none a b f) ∙ e))
     go ih (yes a) (no b) o f = absurd (Option·none-ne-some id (sym (unhex-bad-low h l text (omega arith)) ∙ e))
     go ih (no a) b o f = absurd (Option·none-ne-some id (sym (unhex-bad-high h l text (omega arith)) ∙ e))
@@ -113,7 +126,8 @@ module _ (text id : List ℕ) (parsed : parseUid text ≡ some id) where
   unfolding parseUid
   unhexed = go (leb (length text) 32) refl parsed
     where
-      go : (b : Bool) → leb (length text) 32 ≡ b → cond b (unhex text) none ≡ some id → (length text ≤ 32) × (unhex text ≡ some id)
+      go : (b : Bool) → leb (length text) 32 ≡ b → cond b (unhex text) none ≡ some id
+          → (length text ≤ 32) × (unhex text ≡ some id)
       go true e h = (leb-true (length text) 32 e, h)
       go false e h = absurd (Option·none-ne-some id h)
 

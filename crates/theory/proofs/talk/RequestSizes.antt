@@ -1,5 +1,4 @@
 -- How long a conversation's requests are: no operation's request has more than 1,036 bytes.
--- Assumes nothing.
 use Prim.Native.Nat.{ℕ, zero, suc, _+_, _-_, _/_, _≤_}
 use mathlib.Core.Bool.{Bool, true, false, not, cond}
 use mathlib.Core.List.{List, [], _∷_, _++_}
@@ -14,13 +13,17 @@ use Rattle.paper.proofs.Chunks.{chunk-most, write-size}
 use Rattle.paper.proofs.Frames.{frame-length}
 use Rattle.paper.proofs.Packed.{packed-length}
 use Rattle.paper.specs.Frame.{le, Info, status-CrcMismatch}
-use Rattle.paper.specs.Hearing.{Id, Prefix, Heard, nothing, one, unaddressed, garble, bitsOf, selectPayload, selectFrame, onSome, matches}
+use Rattle.paper.specs.Hearing.{Id, Prefix, Heard, nothing, one, unaddressed, garble, bitsOf, selectPayload}
+use Rattle.paper.specs.Hearing.{selectFrame, onSome, matches}
 use Rattle.paper.specs.Answers.{Reply, ok, device, informed, spansTooFar, eraseAddresses, tooLarge, incompatible}
-use Rattle.paper.specs.Talk.{Payload, these, piece, Demand, Ask, select, demand, leave, Answer, Talk, return, stop, report, ask, _>>=_, each, walking}
+use Rattle.paper.specs.Talk.{Payload, these, piece, Demand, Ask, select, demand, leave, AnswerTo, Talk, return, stop}
+use Rattle.paper.specs.Talk.{report, ask, _>>=_, each, walking}
 use Rattle.paper.specs.Walk as Walk
 use Rattle.paper.specs.Walk.{Walk, _▹_, long, isNothing, confirmRest, confirm, keep, judge, walk, nobody}
 use Rattle.paper.specs.Attach.{listen, selectOnly, deselect, prefixOf, met, attach, discover}
-use Rattle.paper.specs.Flash.{infoRequest, writeRequest, eraseRequest, resetRequest, accepted, transact, refuseIf, inform, eraseOne, eraseAll, prepare, repeated, persist, writeWithin, writeOne, offsets, writeAll, verify, informOnly, erase, flash, reset}
+use Rattle.paper.specs.Flash.{infoRequest, writeRequest, eraseRequest, resetRequest, accepted, transact, refuseIf}
+use Rattle.paper.specs.Flash.{inform, eraseOne, eraseAll, prepare, repeated, persist, writeWithin, writeOne, offsets}
+use Rattle.paper.specs.Flash.{writeAll, verify, informOnly, erase, flash, reset}
 use Rattle.paper.specs.Client.{payloadOf, demandFrame, bytesOf}
 use Rattle.theory.specs.FlashOrder.{carried}
 use Rattle.theory.specs.ClientDriven.{sizeOf}
@@ -37,7 +40,8 @@ demand-size d image = payload-size (d .payload) image
 -- Whatever the seed and the image lent.
 pub asked-size : (q : Ask) (seed : ℕ) (image : List ℕ) → length (bytesOf q seed image) ≡ sizeOf q
 unfolding bytesOf sizeOf selectPayload
-asked-size (select p) seed image = omega (arith, frame-length (selectFrame seed p), packed-length ((length p + 7) / 8) p)
+asked-size (select p) seed image =
+    omega (arith, frame-length (selectFrame seed p), packed-length ((length p + 7) / 8) p)
 asked-size (demand d) seed image = omega (arith, frame-length (demandFrame d image), demand-size d image)
 asked-size (leave d) seed image = omega (arith, frame-length (demandFrame d image), demand-size d image)
 
@@ -48,7 +52,7 @@ Returns (report a b m) = ⊥
 Returns (ask q f) = ⊥
 
 -- A request whose answer is not awaited is the last.
-abbrev pub Lasts : {A : Type 0} → (q : Ask) → (Answer q → Talk A) → Type 0
+abbrev pub Lasts : {A : Type 0} → (q : Ask) → (AnswerTo q → Talk A) → Type 0
 Lasts (select p) f = Unit {0}
 Lasts (demand d) f = Unit {0}
 Lasts (leave d) f = Returns (f tt)
@@ -58,7 +62,7 @@ abbrev pub Modest : {A : Type 0} → ℕ → Talk A → Type 0
 Modest most (return a) = Unit {0}
 Modest most (stop c carries) = Unit {0}
 Modest most (report a b m) = Modest most m
-Modest most (ask q f) = (sizeOf q ≤ most) × (Lasts q f × ((a : Answer q) → Modest most (f a)))
+Modest most (ask q f) = (sizeOf q ≤ most) × (Lasts q f × ((a : AnswerTo q) → Modest most (f a)))
 
 module _ (most : ℕ) where
   -- Of an operation's parts no request is the last.
@@ -67,7 +71,7 @@ module _ (most : ℕ) where
   Going (stop c carries) = Unit {0}
   Going (report a b m) = Going m
   Going (ask (select p) f) = (sizeOf (select p) ≤ most) × ((h : Heard) → Going (f h))
-  Going (ask (demand d) f) = (sizeOf (demand d) ≤ most) × ((a : Answer (demand d)) → Going (f a))
+  Going (ask (demand d) f) = (sizeOf (demand d) ≤ most) × ((a : AnswerTo (demand d)) → Going (f a))
   Going (ask (leave d) f) = ⊥
 
   going-modest : {A : Type 0} (m : Talk A) → Going m → Modest most m
@@ -105,7 +109,8 @@ module _ (most : ℕ) where
       go (ok payload) image = tt
       go (device status) image = tt
 
-  going-some : {A B : Type 0} (o : Option A) (m : Talk B) (f : A → Talk B) → Going m → ((a : A) → Going (f a)) → Going (onSome o m f)
+  going-some : {A B : Type 0} (o : Option A) (m : Talk B) (f : A → Talk B) → Going m → ((a : A) → Going (f a))
+      → Going (onSome o m f)
   going-some none m f h g = h
   going-some (some a) m f h g = g a
 
@@ -115,13 +120,16 @@ room = 1036
 inform-going : Going room inform
 unfolding inform sizeOf carried
 inform-going =
-    going-bind room (transact infoRequest) _ (going-transact room infoRequest (omega arith)) (λ r. going-some room (informed (r .0)) _ _ tt (λ info. tt))
+    going-bind room (transact infoRequest) _ (going-transact room infoRequest (omega arith))
+    (λ r. going-some room (informed (r .0)) _ _ tt (λ info. tt))
 
 erase-all-going : (info : Info) → Going room (eraseAll info)
 unfolding eraseAll eraseOne sizeOf carried le
 erase-all-going info =
     going-bind room (refuseIf (spansTooFar info) 19 []) _ (going-refuseIf room (spansTooFar info) 19 []) (λ _.
-    going-each room (eraseOne info) (λ x. going-bind room (transact (eraseRequest info x)) _ (going-transact room (eraseRequest info x) (omega arith)) (λ _. tt)) (eraseAddresses info))
+    going-each room (eraseOne info)
+    (λ x. going-bind room (transact (eraseRequest info x)) _
+    (going-transact room (eraseRequest info x) (omega arith)) (λ _. tt)) (eraseAddresses info))
 
 persist-going : (t : ℕ) (d : Demand) → sizeOf (demand d) ≤ room → Going room (persist t d)
 unfolding persist repeated
@@ -130,13 +138,16 @@ persist-going (suc t) d h = (h, λ a. go (a .reply) (persist-going t d h))
   where
     go : (r : Reply) → Going room (persist t d) → Going room (repeated r (persist t d))
     go (ok payload) g = tt
-    go (device status) g = either (λ (m : Talk (Unit {0})). Going room m) (eqb status status-CrcMismatch) {x = persist t d} {y = stop 2 (status ∷ [])} g tt
+    go (device status) g = either (λ (m : Talk (Unit {0})). Going room m) (eqb status status-CrcMismatch)
+        {x = persist t d} {y = stop 2 (status ∷ [])} g tt
 
 write-all-going : (info : Info) (n : ℕ) → Going room (writeAll info n)
 unfolding writeAll writeWithin sizeOf carried
 write-all-going info n =
     going-each room (writeOne info n)
-    (λ x. going-bind room (persist 17 (writeRequest info n x)) _ (persist-going 17 (writeRequest info n x) (omega (arith, write-size info n x, chunk-most (info .maxPayload)))) (λ _. tt))
+    (λ x. going-bind room (persist 17 (writeRequest info n x)) _
+    (persist-going 17 (writeRequest info n x) (omega (arith, write-size info n x, chunk-most (info .maxPayload))))
+    (λ _. tt))
     (offsets info n)
 
 verify-going : (n : ℕ) → Going room (verify n)
@@ -150,7 +161,8 @@ unfolding prepare
 prepare-going n =
     going-bind room inform _ inform-going (λ r.
     going-bind room (refuseIf (tooLarge (r .0) n) 3 _) _ (going-refuseIf room (tooLarge (r .0) n) 3 _) (λ _.
-    going-bind room (refuseIf (incompatible (r .0) (r .1)) 6 _) _ (going-refuseIf room (incompatible (r .0) (r .1)) 6 _) (λ _.
+    going-bind room (refuseIf (incompatible (r .0) (r .1)) 6 _) _
+    (going-refuseIf room (incompatible (r .0) (r .1)) 6 _) (λ _.
     going-bind room (eraseAll (r .0)) _ (erase-all-going (r .0)) (λ _. tt))))
 
 -- The Selects of a walk.
@@ -174,7 +186,8 @@ one-more p b = length-append p (b ∷ [])
 
 confirm-brief : (p : Prefix) (id : Id) → length p ≤ 128 → Brief (confirm p id)
 unfolding confirm confirmRest
-confirm-brief p id h = either (λ (w : Walk Bool). Brief w) (matches p id) {x = confirmRest p id (drop (length p) (bitsOf id))} {y = Walk.return false} (rest (drop (length p) (bitsOf id))) tt
+confirm-brief p id h = either (λ (w : Walk Bool). Brief w) (matches p id)
+    {x = confirmRest p id (drop (length p) (bitsOf id))} {y = Walk.return false} (rest (drop (length p) (bitsOf id))) tt
   where
     rest : (bits : List Bool) → Brief (confirmRest p id bits)
     rest [] = tt
@@ -184,12 +197,16 @@ confirm-brief p id h = either (λ (w : Walk Bool). Brief w) (matches p id) {x = 
 
 keep-brief : (ids : List Id) (id : Id) → Brief (keep ids id)
 unfolding keep
-keep-brief ids id = either (λ (w : Walk (List Id)). Brief w) (ltb (length ids) 64) {x = Walk.return (ids ++ (id ∷ []))} {y = Walk.stop 15} tt tt
+keep-brief ids id = either (λ (w : Walk (List Id)). Brief w) (ltb (length ids) 64) {x = Walk.return (ids ++ (id ∷ []))}
+    {y = Walk.stop 15} tt tt
 
-judge-brief : (p : Prefix) (ids : List Id) (h : Heard) (m : Walk (List Id)) → length p ≤ 128 → Brief m → Brief (judge p ids h m)
+judge-brief : (p : Prefix) (ids : List Id) (h : Heard) (m : Walk (List Id)) → length p ≤ 128 → Brief m
+    → Brief (judge p ids h m)
 unfolding judge
 judge-brief p ids nothing m l b = tt
-judge-brief p ids (one id) m l b = brief-bind (confirm p id) _ (confirm-brief p id l) (λ held. either (λ (w : Walk (List Id)). Brief w) held {x = keep ids id} {y = m} (keep-brief ids id) b)
+judge-brief p ids (one id) m l b =
+    brief-bind (confirm p id) _ (confirm-brief p id l)
+    (λ held. either (λ (w : Walk (List Id)). Brief w) held {x = keep ids id} {y = m} (keep-brief ids id) b)
 judge-brief p ids unaddressed m l b = tt
 judge-brief p ids garble m l b = b
 
@@ -199,9 +216,11 @@ walk-brief zero p ids h l = judge-brief p ids h (Walk.stop 12) (omega arith) tt
 walk-brief (suc n) p ids h l =
     judge-brief p ids h _ (omega arith)
     (brief-bind (Walk.ask (p ▹ false)) _ (brief-ask (p ▹ false) (omega (arith, one-more p false))) (λ zeros.
-    brief-bind (walk n (p ▹ false) ids zeros) _ (walk-brief n (p ▹ false) ids zeros (omega (arith, one-more p false))) (λ ids₁.
+    brief-bind (walk n (p ▹ false) ids zeros) _ (walk-brief n (p ▹ false) ids zeros (omega (arith, one-more p false)))
+    (λ ids₁.
     brief-bind (cond (isNothing zeros) (Walk.return garble) (Walk.ask (p ▹ true))) _
-    (either (λ (w : Walk Heard). Brief w) (isNothing zeros) {x = Walk.return garble} {y = Walk.ask (p ▹ true)} tt (brief-ask (p ▹ true) (omega (arith, one-more p true)))) (λ ones.
+    (either (λ (w : Walk Heard). Brief w) (isNothing zeros) {x = Walk.return garble} {y = Walk.ask (p ▹ true)} tt
+    (brief-ask (p ▹ true) (omega (arith, one-more p true)))) (λ ones.
     walk-brief n (p ▹ true) ids₁ ones (omega (arith, one-more p true))))))
 
 discover-brief : (p : Prefix) → length p ≤ 128 → Brief (Walk.discover p)
@@ -235,7 +254,8 @@ deselect-modest = going-modest room deselect deselect-going
 
 pub attach-modest : (uid : Option Id) → length (prefixOf uid) ≤ 129 → Modest room (attach uid)
 unfolding attach met
-attach-modest uid l = going-modest room (attach uid) (going-bind room (listen (prefixOf uid)) (met uid) (listen-going (prefixOf uid) l) meets)
+attach-modest uid l = going-modest room (attach uid)
+    (going-bind room (listen (prefixOf uid)) (met uid) (listen-going (prefixOf uid) l) meets)
   where
     meets : (h : Heard) → Going room (met uid h)
     meets nothing = going-some room uid _ _ tt (λ given. tt)
@@ -246,7 +266,9 @@ attach-modest uid l = going-modest room (attach uid) (going-bind room (listen (p
 pub discover-modest : (given : Id) → length given ≤ 16 → Modest room (discover given)
 unfolding discover
 discover-modest given l =
-    going-modest room (discover given) (going-bind room (walking (Walk.discover (bitsOf given))) _ (walking-going _ (discover-brief (bitsOf given) (omega (arith, bits-length given)))) (λ _. tt))
+    going-modest room (discover given)
+    (going-bind room (walking (Walk.discover (bitsOf given))) _
+    (walking-going _ (discover-brief (bitsOf given) (omega (arith, bits-length given)))) (λ _. tt))
 
 pub inform-modest : Modest room informOnly
 unfolding informOnly
@@ -254,7 +276,9 @@ inform-modest = going-modest room informOnly (going-bind room inform _ inform-go
 
 pub erase-modest : Modest room erase
 unfolding erase
-erase-modest = going-modest room erase (going-bind room inform _ inform-going (λ r. going-bind room (eraseAll (r .0)) _ (erase-all-going (r .0)) (λ _. tt)))
+erase-modest = going-modest room erase
+    (going-bind room inform _ inform-going
+    (λ r. going-bind room (eraseAll (r .0)) _ (erase-all-going (r .0)) (λ _. tt)))
 
 pub flash-modest : (n : ℕ) → Modest room (flash n)
 unfolding flash
@@ -267,5 +291,7 @@ flash-modest n =
 pub reset-modest : (bootloader : Bool) (baud : Option ℕ) (awaited : Bool) → Modest room (reset bootloader baud awaited)
 unfolding reset sizeOf carried
 reset-modest bootloader baud true =
-    going-modest room (reset bootloader baud true) (going-bind room (transact (resetRequest bootloader baud)) _ (going-transact room (resetRequest bootloader baud) (omega arith)) (λ _. tt))
+    going-modest room (reset bootloader baud true)
+    (going-bind room (transact (resetRequest bootloader baud)) _
+    (going-transact room (resetRequest bootloader baud) (omega arith)) (λ _. tt))
 reset-modest bootloader baud false = (omega arith, (tt, λ _. tt))

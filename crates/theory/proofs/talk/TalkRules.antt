@@ -1,5 +1,4 @@
 -- What holds of every way a conversation can go: a rule for each form, and what follows for any events.
--- Assumes nothing.
 use Prim.Native.Nat.{ℕ}
 use mathlib.Core.Bool.{Bool, true, false}
 use mathlib.Core.List.{List, [], _∷_}
@@ -8,25 +7,28 @@ use mathlib.Core.Path.{_≡_, refl}
 use Rattle.paper.specs.Answers.{Reply, ok, device}
 use Rattle.paper.specs.Count.{All}
 use Rattle.paper.specs.Hearing.{onSome}
-use Rattle.paper.specs.Talk.{Demand, Ask, demand, Answer, Talk, return, stop, report, ask, _>>=_, _>>_, each}
+use Rattle.paper.specs.Talk.{Demand, Ask, demand, AnswerTo, Talk, return, stop, report, ask, _>>=_, _>>_, each}
 use Rattle.paper.specs.Flash.{accepted, transact, refuseIf}
-use Rattle.theory.specs.FlashOrder.{Exchange, met, Past, Event, Stand, returned, refused, lost, pending, readEvent, play, asks, everything, Kept, Stands}
+use Rattle.theory.specs.FlashOrder.{Exchange, met, Past, Event, Stand, returned, refused, lost, pending}
+use Rattle.theory.specs.FlashOrder.{readEvent, play, asks, everything, Kept, Stands}
 
 -- Whatever is answered: each request is as R says of the past and of it, and a value returned is as Q says.
 abbrev pub Always : {A : Type 0} → (Past → Ask → Type 0) → (Past → A → Type 0) → Past → Talk A → Type 0
 Always R Q past (return a) = Q past a
 Always R Q past (stop c carries) = Unit {0}
 Always R Q past (report a b m) = Always R Q past m
-Always R Q past (ask q f) = R past q × ((a : Answer q) → Always R Q (record { asked = q; answer = a } ∷ past) (f a))
+Always R Q past (ask q f) = R past q × ((a : AnswerTo q) → Always R Q (record { asked = q; answer = a } ∷ past) (f a))
 
 module _ (R : Past → Ask → Type 0) where
-  pub always-bind : {A B : Type 0} (Q : Past → A → Type 0) (S : Past → B → Type 0) (past : Past) (m : Talk A) (f : A → Talk B)
+  pub always-bind : {A B : Type 0} (Q : Past → A → Type 0) (S : Past → B → Type 0) (past : Past) (m : Talk A)
+      (f : A → Talk B)
       → Always R Q past m → ((p : Past) (a : A) → Q p a → Always R S p (f a)) → Always R S past (m >>= f)
   unfolding _>>=_
   always-bind Q S past (return a) f h g = g past a h
   always-bind Q S past (stop c carries) f h g = tt
   always-bind Q S past (report a b m) f h g = always-bind Q S past m f h g
-  always-bind Q S past (ask q m) f h g = (h .0, λ a. always-bind Q S (record { asked = q; answer = a } ∷ past) (m a) f (h .1 a) g)
+  always-bind Q S past (ask q m) f h g =
+      (h .0, λ a. always-bind Q S (record { asked = q; answer = a } ∷ past) (m a) f (h .1 a) g)
 
   -- A loop, by what holds before the members that are left.
   pub always-each : (I : List ℕ → Past → Type 0) (f : ℕ → Talk (Unit {0}))
@@ -35,7 +37,8 @@ module _ (R : Past → Ask → Type 0) where
   unfolding each
   always-each I f g [] past h = h
   always-each I f g (x ∷ xs) past h =
-      always-bind (λ p _. I xs p) (λ p _. I [] p) past (f x) (λ _. each xs f) (g x xs past h) (λ p _ i. always-each I f g xs p i)
+      always-bind (λ p _. I xs p) (λ p _. I [] p) past (f x) (λ _. each xs f) (g x xs past h)
+      (λ p _ i. always-each I f g xs p i)
 
   pub always-refuseIf : {B : Type 0} (S : Past → B → Type 0) (past : Past) (b : Bool) (c : ℕ) (v : List ℕ) (k : Talk B)
       → (b ≡ false → Always R S past k) → Always R S past (refuseIf b c v >> k)
@@ -43,7 +46,8 @@ module _ (R : Past → Ask → Type 0) where
   always-refuseIf S past true c v k h = tt
   always-refuseIf S past false c v k h = h refl
 
-  pub always-test : (S : Past → Unit {0} → Type 0) (past : Past) (b : Bool) (c : ℕ) (v : List ℕ) → (b ≡ false → S past tt) → Always R S past (refuseIf b c v)
+  pub always-test : (S : Past → Unit {0} → Type 0) (past : Past) (b : Bool) (c : ℕ) (v : List ℕ)
+      → (b ≡ false → S past tt) → Always R S past (refuseIf b c v)
   unfolding refuseIf
   always-test S past true c v h = tt
   always-test S past false c v h = h refl
@@ -61,26 +65,30 @@ module _ (R : Past → Ask → Type 0) where
       go (device status) image = tt
 
   -- After any events: all that was asked was as R says then, and so is what is out; a value returned is as Q says.
-  pub play-kept : {A : Type 0} (Q : Past → A → Type 0) (m : Talk A) (es : List Event) (past : Past) → Always R Q past m → Kept R past
+  pub play-kept : {A : Type 0} (Q : Past → A → Type 0) (m : Talk A) (es : List Event) (past : Past) → Always R Q past m
+      → Kept R past
       → Kept R (play m es past .0) × Stands R Q (play m es past .0) (play m es past .1)
   unfolding play
   play-kept Q (return a) es past h k = (k, h)
   play-kept Q (stop c carries) es past h k = (k, tt)
   play-kept Q (report a b m) es past h k = play-kept Q m es past h k
   play-kept Q (ask q f) [] past h k = (k, h .0)
-  play-kept {A} Q (ask q f) (e ∷ es) past h k = go (readEvent q e) (λ a. play-kept Q (f a) es (record { asked = q; answer = a } ∷ past) (h .1 a) (h .0, k))
+  play-kept {A} Q (ask q f) (e ∷ es) past h k =
+      go (readEvent q e) (λ a. play-kept Q (f a) es (record { asked = q; answer = a } ∷ past) (h .1 a) (h .0, k))
     where
       Fine : Past × Stand A → Type 0
       Fine r = Kept R (r .0) × Stands R Q (r .0) (r .1)
 
-      go : (r : Option (Answer q)) → ((a : Answer q) → Fine (play (f a) es (record { asked = q; answer = a } ∷ past)))
+      go : (r : Option (AnswerTo q))
+          → ((a : AnswerTo q) → Fine (play (f a) es (record { asked = q; answer = a } ∷ past)))
           → Fine (onSome r (past, lost q) (λ a. play (f a) es (record { asked = q; answer = a } ∷ past)))
       go none more = (k, h .0)
       go (some a) more = more a
 
   -- What follows of all that was asked, the request that is out included.
   pub all-asked : {A : Type 0} (Q : Past → A → Type 0) (P : Past → List Ask → Type 0) → P [] []
-      → ((past : Past) (q : Ask) → R past q → P past (q ∷ asks past)) → ((past : Past) (x : Exchange) → R past (x .asked) → P (x ∷ past) (asks (x ∷ past)))
+      → ((past : Past) (q : Ask) → R past q → P past (q ∷ asks past))
+      → ((past : Past) (x : Exchange) → R past (x .asked) → P (x ∷ past) (asks (x ∷ past)))
       → (r : Past × Stand A) → Kept R (r .0) × Stands R Q (r .0) (r .1) → P (r .0) (everything r)
   all-asked Q P z f g (past, lost q) h = f past q (h .1)
   all-asked Q P z f g (past, pending q) h = f past q (h .1)
@@ -103,7 +111,8 @@ module _ (R : Past → Ask → Type 0) where
       go (lost q) h = (f past q h, before past k)
       go (pending q) h = (f past q h, before past k)
 
-pub bind-assoc : {A B C : Type 0} (m : Talk A) (f : A → Talk B) (g : B → Talk C) → m >>= f >>= g ≡ m >>= (λ a. f a >>= g)
+pub bind-assoc : {A B C : Type 0} (m : Talk A) (f : A → Talk B) (g : B → Talk C)
+    → m >>= f >>= g ≡ m >>= (λ a. f a >>= g)
 unfolding _>>=_
 bind-assoc (return a) f g = refl
 bind-assoc (stop c v) f g = refl

@@ -1,5 +1,5 @@
--- A heard id consists of bytes of its record, of few; what holds of every id heard holds of every id that the walk carries.
--- Assumes nothing.
+-- A heard id consists of bytes of its record, of few; what holds of every id heard holds of every id that the walk
+-- carries.
 use Prim.Native.Nat.{ℕ, zero, suc, _≤_}
 use mathlib.Core.Bool.{Bool, true, false, _&&_, cond}
 use mathlib.Core.List.{List, [], _∷_, _++_}
@@ -8,13 +8,16 @@ use mathlib.Core.Path.{_≡_, refl}
 use lib.Dec.{ltb, eqb}
 use lib.ListN.{drop, length}
 use Rattle.paper.specs.Count.{All}
-use Rattle.paper.specs.Frame.{Frame, most, size, Reading, short, tooLong, badCheck, whole, read, status-Request, status-Ok, status-Unsupported}
-use Rattle.paper.specs.Hearing.{Id, Prefix, bitsOf, matches, onSome, clean, frames, replies, Heard, nothing, one, unaddressed, garble, alone, hear}
+use Rattle.paper.specs.Frame.{Frame, most, size, Reading, short, tooLong, badCheck, whole, read, status-Request}
+use Rattle.paper.specs.Frame.{status-Ok, status-Unsupported}
+use Rattle.paper.specs.Hearing.{Id, Prefix, bitsOf, matches, onSome, clean, frames, replies, Heard, nothing, one}
+use Rattle.paper.specs.Hearing.{unaddressed, garble, repliesHeard, hear}
 use Rattle.paper.specs.Walk.{isNothing, done, stopped}
 use Rattle.paper.proofs.Readings.{read-known}
 use Rattle.paper.proofs.Words.{Bytes}
 use Rattle.theory.specs.WalkMachine as Machine
-use Rattle.theory.specs.WalkMachine.{Marks, path, Phase, asked, mine, other, leaving, State, Next, going, ended, to, leave, descend, silent, kept, confirming, hears, tell, step}
+use Rattle.theory.specs.WalkMachine.{Marks, path, Phase, asked, mine, other, leaving, State, Next, going, ended}
+use Rattle.theory.specs.WalkMachine.{to, leave, descend, silent, kept, confirming, hears, tell, step}
 use Rattle.theory.proofs.walk.EachMember.{all-append}
 use Rattle.theory.proofs.frames.FramesReadBack.{bytes-take, bytes-drop}
 use Rattle.theory.proofs.walk.SortedIds.{sort-all}
@@ -27,7 +30,8 @@ Telling P unaddressed = Unit {0}
 Telling P garble = Unit {0}
 
 -- What holds of the payload of each frame read whole, in records of which Q holds, holds of the id that is heard.
-module _ (P : Id → Type 0) (Q : List ℕ → Type 0) (rest : (k : ℕ) (s : List ℕ) → Q s → Q (drop k s)) (payload : (s : List ℕ) (k : ℕ) (f : Frame) → Q s → read s ≡ whole k f → P (f .payload)) where
+module _ (P : Id → Type 0) (Q : List ℕ → Type 0) (rest : (k : ℕ) (s : List ℕ) → Q s → Q (drop k s))
+    (payload : (s : List ℕ) (k : ℕ) (f : Frame) → Q s → read s ≡ whole k f → P (f .payload)) where
   abbrev Laden : List Frame → Type 0
   Laden fs = All (λ f. P (f .payload)) fs
 
@@ -41,16 +45,20 @@ module _ (P : Id → Type 0) (Q : List ℕ → Type 0) (rest : (k : ℕ) (s : Li
   frames-laden (suc n) [] h = tt
   frames-laden (suc n) (b ∷ bs) h = go (λ k. frames-laden n (drop k (b ∷ bs)) (rest k (b ∷ bs) h)) (read (b ∷ bs)) refl
     where
-      more : (f : Frame) → P (f .payload) → (o : Option (List Frame)) → LadenAny o → LadenAny (onSome o none (λ fs. some (f ∷ fs)))
+      more : (f : Frame) → P (f .payload) → (o : Option (List Frame)) → LadenAny o
+          → LadenAny (onSome o none (λ fs. some (f ∷ fs)))
       more f p none l = tt
       more f p (some fs) l = (p, l)
 
       fit : ((k : ℕ) → LadenAny (frames n (drop k (b ∷ bs)))) → (f : Frame) → P (f .payload) → (b′ : Bool)
-          → LadenAny (onSome (cond b′ (some f) none) none (λ f. onSome (frames n (drop (size f) (b ∷ bs))) none (λ fs. some (f ∷ fs))))
+          → LadenAny (onSome (cond b′ (some f) none) none
+          (λ f. onSome (frames n (drop (size f) (b ∷ bs))) none (λ fs. some (f ∷ fs))))
       fit ih f p true = more f p (frames n (drop (size f) (b ∷ bs))) (ih (size f))
       fit ih f p false = tt
 
-      go : ((k : ℕ) → LadenAny (frames n (drop k (b ∷ bs)))) → (r : Reading) → read (b ∷ bs) ≡ r → LadenAny (onSome (clean r) none (λ f. onSome (frames n (drop (size f) (b ∷ bs))) none (λ fs. some (f ∷ fs))))
+      go : ((k : ℕ) → LadenAny (frames n (drop k (b ∷ bs)))) → (r : Reading) → read (b ∷ bs) ≡ r
+          → LadenAny (onSome (clean r) none
+          (λ f. onSome (frames n (drop (size f) (b ∷ bs))) none (λ fs. some (f ∷ fs))))
       go ih short e = tt
       go ih tooLong e = tt
       go ih (badCheck k f) e = tt
@@ -65,8 +73,8 @@ module _ (P : Id → Type 0) (Q : List ℕ → Type 0) (rest : (k : ℕ) (s : Li
       go r true = r
       go r false = (l .0, r)
 
-  alone-laden : (fs : List Frame) → Laden fs → Telling P (alone fs)
-  unfolding alone
+  alone-laden : (fs : List Frame) → Laden fs → Telling P (repliesHeard fs)
+  unfolding repliesHeard
   alone-laden [] l = tt
   alone-laden (f ∷ []) l = go (eqb (f .status) status-Ok) (eqb (f .status) status-Unsupported)
     where
@@ -80,19 +88,21 @@ module _ (P : Id → Type 0) (Q : List ℕ → Type 0) (rest : (k : ℕ) (s : Li
   unfolding hear
   heard-laden s h = go (frames (length s) s) (frames-laden (length s) s h)
     where
-      go : (o : Option (List Frame)) → LadenAny o → Telling P (onSome o garble (λ fs. alone (replies fs)))
+      go : (o : Option (List Frame)) → LadenAny o → Telling P (onSome o garble (λ fs. repliesHeard (replies fs)))
       go none l = tt
       go (some fs) l = alone-laden (replies fs) (replies-laden fs l)
 
 payload-bytes : (s : List ℕ) (k : ℕ) (f : Frame) → Bytes s → read s ≡ whole k f → Bytes (f .payload)
-payload-bytes s k f h e = rw (read-known s k f true e .frame) (bytes-take (length (f .payload)) (drop 10 (drop k s)) (bytes-drop 10 (drop k s) (bytes-drop k s h)))
+payload-bytes s k f h e = rw (read-known s k f true e .frame)
+    (bytes-take (length (f .payload)) (drop 10 (drop k s)) (bytes-drop 10 (drop k s) (bytes-drop k s h)))
 
 pub heard-bytes : (s : List ℕ) → Bytes s → Telling Bytes (hear s)
 heard-bytes = heard-laden Bytes Bytes bytes-drop payload-bytes
 
 -- Whatever the record is: no frame carries more than 1,024 bytes.
 pub heard-small : (s : List ℕ) → Telling (λ x. length x ≤ most) (hear s)
-heard-small s = heard-laden (λ x. length x ≤ most) (λ r. Unit {0}) (λ k r h. tt) (λ r k f h e. read-known r k f true e .small) s tt
+heard-small s = heard-laden (λ x. length x ≤ most) (λ r. Unit {0}) (λ k r h. tt)
+    (λ r k f h e. read-known r k f true e .small) s tt
 
 -- The ids of a state.
 abbrev pub OfPhase : (Id → Type 0) → Phase → Type 0
@@ -133,7 +143,8 @@ module _ (P : Id → Type 0) (pre : Prefix) where
       go true = leave-carries marks (ids ++ (id ∷ [])) (all-append P ids (id ∷ []) a (p, tt))
       go false = tt
 
-  hears-carries : (marks : Marks) (ids : List Id) → All P ids → (h : Heard) → Telling P h → CarriesNext P (hears pre marks ids h)
+  hears-carries : (marks : Marks) (ids : List Id) → All P ids → (h : Heard) → Telling P h
+      → CarriesNext P (hears pre marks ids h)
   unfolding hears silent confirming
   hears-carries marks ids a nothing t = quiet marks
     where
@@ -143,14 +154,16 @@ module _ (P : Id → Type 0) (pre : Prefix) where
       quiet (true ∷ ms) = leave-carries ms ids a
   hears-carries marks ids a (one id) t = go (matches (path pre marks) id) (drop (length (path pre marks)) (bitsOf id))
     where
-      go : (b : Bool) (rest : List Bool) → CarriesNext P (cond b (confirming pre marks ids id rest) (descend pre marks ids))
+      go : (b : Bool) (rest : List Bool)
+          → CarriesNext P (cond b (confirming pre marks ids id rest) (descend pre marks ids))
       go true [] = kept-carries marks ids id a t
       go true (b ∷ rest) = record { ids = a; candidate = t }
       go false rest = descend-carries marks ids a
   hears-carries marks ids a unaddressed t = tt
   hears-carries marks ids a garble t = descend-carries marks ids a
 
-  tell-carries : (marks : Marks) (ids : List Id) → All P ids → (phase : Phase) → OfPhase P phase → (h : Heard) → Telling P h → CarriesNext P (tell pre marks ids phase h)
+  tell-carries : (marks : Marks) (ids : List Id) → All P ids → (phase : Phase) → OfPhase P phase → (h : Heard)
+      → Telling P h → CarriesNext P (tell pre marks ids phase h)
   unfolding tell
   tell-carries marks ids a asked p h t = hears-carries marks ids a h t
   tell-carries marks ids a (mine id) p h t = record { ids = a; candidate = p }

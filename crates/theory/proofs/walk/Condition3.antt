@@ -1,5 +1,4 @@
 -- Acceptance condition 3, of the machine.
--- Assumes nothing.
 use Prim.Native.Nat.{ℕ, _+_, _-_, _*_, _≤_}
 use mathlib.Core.List.{List}
 use mathlib.Core.Path.{_≡_, sym, _∙_, ap}
@@ -19,24 +18,38 @@ use Rattle.theory.proofs.walk.SelectsSent.{Alike}
 
 -- Whatever is heard: the machine has ended within the limit, as the discovery ends and after as many Selects.
 pub ends : (wire : Wire) (pre : Prefix)
-    → (drive (limit pre) wire 0 (start pre) ≡ (ended ((run wire 0 (discover pre)) .0), (run wire 0 (discover pre)) .1)) × ((run wire 0 (discover pre)) .1 ≤ limit pre)
+    → (drive (limit pre) wire 0 (start pre) ≡ (ended ((run wire 0 (discover pre)) .0), (run wire 0 (discover pre)) .1))
+    × ((run wire 0 (discover pre)) .1 ≤ limit pre)
 ends wire pre = (machine-discovers wire pre, discover-bound wire pre)
 
--- On an honest wire: exactly the ids that match, sorted, after exactly the Selects counted with each id's own length, and those are few.
-pub finds-apart : (wire : Wire) (S : List Id) (L : ℕ) (pre : Prefix) → Alike wire (honest S) pre → length pre ≤ 128 → Apart (matching pre S)
+-- On an honest wire: exactly the ids that match, sorted, after exactly the Selects counted with each id's own length,
+-- and those are few.
+pub finds-apart : (wire : Wire) (S : List Id) (L : ℕ) (pre : Prefix) → Alike wire (honest S) pre → length pre ≤ 128
+    → Apart (matching pre S)
     → All (λ x. length x ≤ L) (matching pre S)
-    → (drive (limit pre) wire 0 (start pre) ≡ (ended (done (sort (matching pre S))), ownSelects S pre)) × (ownSelects S pre ≤ 2 + count S pre * (8 * L - length pre + 2))
-finds-apart wire S L pre h le apart w =
-    (machine-discovers wire pre ∙ ap (λ r. (ended (r .0), r .1)) (discover-apart wire S pre h le apart), own-most S L pre apart w)
+    → (drive (limit pre) wire 0 (start pre) ≡ (ended (done (sort (matching pre S))), ownSelects S pre))
+    × (ownSelects S pre ≤ 2 + count S pre * (8 * L - length pre + 2))
+finds-apart wire S L pre h le apart w = (
+  machine-discovers wire pre ∙ ap (λ r. (ended (r .0), r .1))
+      (discover-apart wire S pre h le apart),
+  own-most S L pre apart w,
+)
 
 -- The same for distinct ids of one length, with the paper's count.
-pub finds : (wire : Wire) (S : List Id) (L : ℕ) (pre : Prefix) → Alike wire (honest S) pre → length pre ≤ 128 → Pods L (matching pre S)
-    → (drive (limit pre) wire 0 (start pre) ≡ (ended (done (sort (matching pre S))), selects S L pre)) × (selects S L pre ≤ 2 + count S pre * (8 * L - length pre + 2))
-finds wire S L pre h le pods =
-    (machine-discovers wire pre ∙ ap (λ r. (ended (r .0), r .1)) (discover-exact wire S L pre h le pods), selects-most S L pre pods)
+pub finds : (wire : Wire) (S : List Id) (L : ℕ) (pre : Prefix) → Alike wire (honest S) pre → length pre ≤ 128
+    → Pods L (matching pre S)
+    → (drive (limit pre) wire 0 (start pre) ≡ (ended (done (sort (matching pre S))), selects S L pre))
+    × (selects S L pre ≤ 2 + count S pre * (8 * L - length pre + 2))
+finds wire S L pre h le pods = (
+  machine-discovers wire pre ∙ ap (λ r. (ended (r .0), r .1))
+      (discover-exact wire S L pre h le pods),
+  selects-most S L pre pods,
+)
 
 -- Whatever is heard: what the machine lists begins with the prefix, is in order, and holds no id that begins another.
-pub lists : (wire : Wire) (pre : Prefix) (ids : List Id) (c : ℕ) → drive (limit pre) wire 0 (start pre) ≡ (ended (done ids), c) → Listed pre ids
+pub lists : (wire : Wire) (pre : Prefix) (ids : List Id) (c : ℕ)
+    → drive (limit pre) wire 0 (start pre) ≡ (ended (done ids), c) → Listed pre ids
 lists wire pre ids c e =
-    let same : ended ((run wire 0 (discover pre)) .0) ≡ ended (done ids) = ap (λ r. r .0) (sym (machine-discovers wire pre) ∙ e) in
+    let same : ended ((run wire 0 (discover pre)) .0) ≡ ended (done ids) =
+    ap (λ r. r .0) (sym (machine-discovers wire pre) ∙ e) in
     kept-listed wire pre ids (cc)

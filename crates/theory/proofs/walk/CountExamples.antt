@@ -1,5 +1,4 @@
 -- The examples of condition 3, by computation and by the paper's count; and two of ids that begin one another.
--- Assumes nothing.
 use Prim.Native.Nat.{ℕ, _≤_, _<_}
 use mathlib.Core.List.{List, [], _∷_}
 use mathlib.Core.Path.{_≡_, refl, sym, _∙_, ap}
@@ -7,7 +6,8 @@ use native.Mathlib.Omega.{arith}
 use lib.ListN.{length}
 use Rattle.paper.specs.Count.{matching, heardOf, honest, All, Pods, selects}
 use Rattle.paper.specs.Hearing.{Id, Prefix, bit, counting, bitsOf, begins, before}
-use Rattle.paper.specs.Walk.{_>>=_, long, ask, isNothing, sameId, isOne, confirmRest, confirm, keep, judge, walk, insert, sort, discover, done, stopped, run}
+use Rattle.paper.specs.Walk.{_>>=_, long, ask, isNothing, sameId, isOne, confirmRest, confirm, keep, judge, walk}
+use Rattle.paper.specs.Walk.{insert, sort, discover, done, stopped, run}
 use Rattle.theory.proofs.walk.OneLength.{discover-exact}
 
 -- The ids on an honest wire, how long they are, and the prefix; the ids found and the Selects.
@@ -20,10 +20,38 @@ pub record Row : Type 0 where
 
 unfoldable pub rows : List Row
 rows =
-    record { ids = (0x00 ∷ []) ∷ (0x01 ∷ []) ∷ []; bytes = 1; under = []; found = (0x00 ∷ []) ∷ (0x01 ∷ []) ∷ []; takes = 8 }
-    ∷ record { ids = (0x01 ∷ []) ∷ (0x03 ∷ []) ∷ []; bytes = 1; under = []; found = (0x01 ∷ []) ∷ (0x03 ∷ []) ∷ []; takes = 9 }
-    ∷ record { ids = (0x7f ∷ []) ∷ (0xff ∷ []) ∷ []; bytes = 1; under = []; found = (0x7f ∷ []) ∷ (0xff ∷ []) ∷ []; takes = 11 }
-    ∷ record { ids = (0x00 ∷ []) ∷ (0x01 ∷ []) ∷ []; bytes = 1; under = bitsOf (0x00 ∷ []); found = (0x00 ∷ []) ∷ []; takes = 2 }
+    record {
+      ids = (0x00 ∷ []) ∷ (0x01 ∷ []) ∷ [];
+      bytes = 1;
+      under = [];
+      found = (0x00 ∷ []) ∷ (0x01 ∷ [])
+          ∷ [];
+      takes = 8;
+    }
+    ∷ record {
+      ids = (0x01 ∷ []) ∷ (0x03 ∷ []) ∷ [];
+      bytes = 1;
+      under = [];
+      found = (0x01 ∷ []) ∷ (0x03 ∷ [])
+          ∷ [];
+      takes = 9;
+    }
+    ∷ record {
+      ids = (0x7f ∷ []) ∷ (0xff ∷ []) ∷ [];
+      bytes = 1;
+      under = [];
+      found = (0x7f ∷ []) ∷ (0xff ∷ [])
+          ∷ [];
+      takes = 11;
+    }
+    ∷ record {
+      ids = (0x00 ∷ []) ∷ (0x01 ∷ []) ∷ [];
+      bytes = 1;
+      under = bitsOf (0x00 ∷ []);
+      found = (0x00 ∷ [])
+          ∷ [];
+      takes = 2;
+    }
     ∷ record { ids = [] ∷ []; bytes = 0; under = []; found = [] ∷ []; takes = 2 }
     ∷ []
 
@@ -31,7 +59,8 @@ abbrev Runs : Row → Type 0
 Runs r = run (honest (r .ids)) 0 (discover (r .under)) ≡ (done (r .found), r .takes)
 
 pub runs : All Runs rows
-unfolding rows discover run honest heardOf matching sort insert before walk judge keep confirm confirmRest isOne isNothing ask long _>>=_ bitsOf counting bit begins sameId
+unfolding rows discover run honest heardOf matching sort insert before walk judge keep confirm confirmRest isOne
+    isNothing ask long _>>=_ bitsOf counting bit begins sameId
 runs = (refl, (refl, (refl, (refl, (refl, tt)))))
 
 -- No computation could sum over all prefixes: the count is what was run.
@@ -39,13 +68,27 @@ abbrev Counts : Row → Type 0
 Counts r = selects (r .ids) (r .bytes) (r .under) ≡ r .takes
 
 counted : (r : Row) → length (r .under) ≤ 128 → Pods (r .bytes) (matching (r .under) (r .ids)) → Runs r → Counts r
-counted r le pods e = ap (λ p. p .1) (sym (discover-exact (honest (r .ids)) (r .ids) (r .bytes) (r .under) (λ k q l b n. refl) le pods) ∙ e)
+counted r le pods e = ap (λ p. p .1)
+    (sym (discover-exact (honest (r .ids)) (r .ids) (r .bytes) (r .under) (λ k q l b n. refl) le pods) ∙ e)
 
 pods-empty : Pods 0 ([] ∷ [])
-pods-empty = record { few = omega arith; distinct = (tt, tt); sized = (refl, tt); bytes = (tt, tt); short = omega arith }
+pods-empty = record {
+  few = omega arith;
+  distinct = (tt, tt);
+  sized = (refl, tt);
+  bytes = (tt, tt);
+  within16 = omega
+      arith;
+}
 
 pods-one : (a : ℕ) → a < 256 → Pods 1 ((a ∷ []) ∷ [])
-pods-one a h = record { few = omega arith; distinct = (tt, tt); sized = (refl, tt); bytes = ((h, tt), tt); short = omega arith }
+pods-one a h = record {
+  few = omega arith;
+  distinct = (tt, tt);
+  sized = (refl, tt);
+  bytes = ((h, tt), tt);
+  within16 = omega arith;
+}
 
 pods-two : (a b : ℕ) → a < b → b < 256 → Pods 1 ((a ∷ []) ∷ (b ∷ []) ∷ [])
 pods-two a b l h = record {
@@ -53,7 +96,7 @@ pods-two a b l h = record {
   distinct = (((λ e. let same : a ≡ b = cc in absurd (omega arith)), tt), (tt, tt));
   sized = (refl, (refl, tt));
   bytes = ((omega arith, tt), ((h, tt), tt));
-  short = omega arith;
+  within16 = omega arith;
 }
 
 pub counts : All Counts rows
@@ -74,10 +117,13 @@ counts = (
 
 -- 00 begins 00ff: where both match, the zero child is silent, and from there on nothing ends the descent.
 pub begun-stops : run (honest ((0x00 ∷ []) ∷ (0x00 ∷ 0xff ∷ []) ∷ [])) 0 (discover []) ≡ (stopped 12, 129)
-unfolding discover run honest heardOf matching sort insert before walk judge keep confirm confirmRest isOne isNothing ask long _>>=_ bitsOf counting bit begins sameId
+unfolding discover run honest heardOf matching sort insert before walk judge keep confirm confirmRest isOne isNothing
+    ask long _>>=_ bitsOf counting bit begins sameId
 begun-stops = refl
 
 -- 00 begins 0000: only 00 is lost.
-pub begun-lost : run (honest ((0x00 ∷ []) ∷ (0x00 ∷ 0x00 ∷ []) ∷ [])) 0 (discover []) ≡ (done ((0x00 ∷ 0x00 ∷ []) ∷ []), 22)
-unfolding discover run honest heardOf matching sort insert before walk judge keep confirm confirmRest isOne isNothing ask long _>>=_ bitsOf counting bit begins sameId
+pub begun-lost : run (honest ((0x00 ∷ []) ∷ (0x00 ∷ 0x00 ∷ []) ∷ [])) 0 (discover [])
+    ≡ (done ((0x00 ∷ 0x00 ∷ []) ∷ []), 22)
+unfolding discover run honest heardOf matching sort insert before walk judge keep confirm confirmRest isOne isNothing
+    ask long _>>=_ bitsOf counting bit begins sameId
 begun-lost = refl

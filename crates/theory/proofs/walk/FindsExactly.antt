@@ -1,5 +1,5 @@
--- On an honest wire a discovery finds exactly the ids that match, sorted, after exactly the Selects that are counted from them.
--- Assumes nothing.
+-- On an honest wire a discovery finds exactly the ids that match, sorted, after exactly the Selects that are counted
+-- from them.
 use Prim.Native.Nat.{ℕ, zero, suc, _+_, _-_, _*_, _≤_, _<_}
 use mathlib.Core.Bool.{Bool, true, false, not, cond}
 use mathlib.Core.List.{List, [], _∷_, _++_}
@@ -13,11 +13,14 @@ use lib.Seq.{take-append-le, take-length}
 use borrow.Author.Tests.{lt-ltb, ltb-false, ltb-true}
 use Rattle.paper.specs.Count.{matching, heardOf, honest, All, count, sumOver, sumUnder, forked}
 use Rattle.paper.specs.Hearing.{Id, Prefix, bitsOf, matches, Heard, one, garble}
-use Rattle.paper.specs.Walk.{_▹_, Walk, return, _>>=_, ask, isNothing, isOne, confirmRest, confirm, keep, judge, walk, sort, discover, Wire, Ended, done, run}
+use Rattle.paper.specs.Walk.{_▹_, Walk, return, _>>=_, ask, isNothing, isOne, confirmRest, confirm, keep, judge, walk}
+use Rattle.paper.specs.Walk.{sort, discover, Wire, Ended, done, run}
 use Rattle.paper.proofs.Bits.{bits-length}
 use Rattle.theory.specs.PrefixFree.{Apart, ownAlone, ownSelects}
 use Rattle.theory.proofs.walk.CountSums.{sum-quiet, alone-here, alone-never}
-use Rattle.theory.proofs.walk.MatchingIds.{matching-yes, matching-not, matching-matching, all-matches, Under, under-child, Side, two-shorter, two-sides, part-length, part-sum, part-insert}
+use Rattle.theory.proofs.walk.MatchingIds.{matching-yes, matching-not, matching-matching, all-matches, Under}
+use Rattle.theory.proofs.walk.MatchingIds.{under-child, Side, two-shorter, two-sides, part-length, part-sum}
+use Rattle.theory.proofs.walk.MatchingIds.{part-insert}
 use Rattle.theory.proofs.walk.PrefixMatches.{beq-refl, beq-not, begins-child, begins-whole, sameId-refl}
 use Rattle.theory.proofs.walk.WalkRuns.{down, walk-judge, walk-nothing, run-then, run-ask}
 use Rattle.theory.proofs.walk.SelectsSent.{Alike, discover-alike}
@@ -28,7 +31,8 @@ abbrev Deep : List Id → ℕ → Prefix → Type 0
 Deep ids p q = (j : ℕ) → p ≤ j → j < length q → 1 < count ids (take j q)
 
 deep-child : (S : List Id) (p : ℕ) (q : Prefix) (b : Bool) → Deep S p q → 1 < count S q → Deep S p (q ▹ b)
-deep-child S p q b d c j h l = rw (take-append-le j q (b ∷ []) (omega (arith, length-append q (b ∷ [])))) (go (ltb j (length q)) refl)
+deep-child S p q b d c j h l =
+    rw (take-append-le j q (b ∷ []) (omega (arith, length-append q (b ∷ [])))) (go (ltb j (length q)) refl)
   where
     go : (t : Bool) → ltb j (length q) ≡ t → 1 < count S (take j q)
     go true e = d j h (ltb-true j (length q) e)
@@ -68,7 +72,8 @@ forked-many S q h = rw (lt-ltb 1 (count S q) h) (go (ltb 0 (count S (q ▹ false
     go false = refl
 
 abbrev Finds : List Id → ℕ → ℕ → Type 0
-Finds S p n = (q : Prefix) (ids : List Id) (k : ℕ) → length q + n ≡ 128 → Under q (matching q S) → p ≤ length q → Deep S p q → length ids + count S q ≤ 64
+Finds S p n = (q : Prefix) (ids : List Id) (k : ℕ) → length q + n ≡ 128 → Under q (matching q S) → p ≤ length q
+    → Deep S p q → length ids + count S q ≤ 64
     → Found S p n q ids k
 
 module _ (S : List Id) (p : ℕ) where
@@ -98,57 +103,78 @@ module _ (S : List Id) (p : ℕ) where
       child : (b : Bool) → matching (q ▹ b) S ≡ matching (q ▹ b) (x ∷ [])
       child b = sym (matching-matching q (b ∷ []) S) ∙ ap (matching (q ▹ b)) e
 
-      go : (rest : List Bool) → drop (length q) (bitsOf x) ≡ rest → run (honest S) k (confirmRest q x rest) ≡ (done true, k + ownAlone S p x)
+      go : (rest : List Bool) → drop (length q) (bitsOf x) ≡ rest
+          → run (honest S) k (confirmRest q x rest) ≡ (done true, k + ownAlone S p x)
       go [] d =
           let over : length (bitsOf x) ≤ length q = omega (arith, ap length d, length-drop (length q) (bitsOf x)) in
           let w : q ≡ bitsOf x = begins-whole q (bitsOf x) m over in
           let n : length q ≡ 8 * length x = ap length w ∙ bits-length x in
-          let a : ownAlone S p x ≡ 0 = alone-never S p (8 * length x) x (λ i l. subst (λ z. 1 < count S (take (p + i) z)) w (deep (p + i) (omega arith) (omega arith))) in
+          let a : ownAlone S p x ≡ 0 = alone-never S p (8 * length x) x
+          (λ i l. subst (λ z. 1 < count S (take (p + i) z)) w (deep (p + i) (omega arith) (omega arith))) in
           end-at true (omega arith)
-      go (b ∷ rest) d = run-ask S k (q ▹ b) _ (child-short q b u) ∙ run-ask S (suc k) (q ▹ not b) _ (child-short q (not b) u) ∙
-          (let mine : matching (q ▹ b) S ≡ x ∷ [] = child b ∙ matching-yes (q ▹ b) x [] (begins-child q (bitsOf x) b rest m d b ∙ beq-refl b) in
-          let other : matching (q ▹ not b) S ≡ [] = child (not b) ∙ matching-not (q ▹ not b) x [] (begins-child q (bitsOf x) b rest m d (not b) ∙ beq-not b) in
-          let a : ownAlone S p x ≡ 2 = alone-here S p (8 * length x) x q m (ap length e) pq (omega (arith, ap length d, length-drop (length q) (bitsOf x), bits-length x)) in
+      go (b ∷ rest) d = run-ask S k (q ▹ b) _ (child-short q b u)
+          ∙ run-ask S (suc k) (q ▹ not b) _ (child-short q (not b) u) ∙
+          (let mine : matching (q ▹ b) S ≡ x ∷ [] = child b
+          ∙ matching-yes (q ▹ b) x [] (begins-child q (bitsOf x) b rest m d b ∙ beq-refl b) in
+          let other : matching (q ▹ not b) S ≡ [] =
+          child (not b) ∙ matching-not (q ▹ not b) x []
+          (begins-child q (bitsOf x) b rest m d (not b) ∙ beq-not b) in
+          let a : ownAlone S p x ≡ 2 = alone-here S p (8 * length x) x q m (ap length e) pq
+          (omega (arith, ap length d, length-drop (length q) (bitsOf x), bits-length x)) in
           rw (mine, other, sameId-refl x) (end-at true (omega arith)))
 
-  one-found : (n : ℕ) (q : Prefix) (ids : List Id) (k : ℕ) (x : Id) → matching q S ≡ x ∷ [] → Under q (matching q S) → p ≤ length q → Deep S p q → length ids < 64
+  one-found : (n : ℕ) (q : Prefix) (ids : List Id) (k : ℕ) (x : Id) → matching q S ≡ x ∷ [] → Under q (matching q S)
+      → p ≤ length q → Deep S p q → length ids < 64
       → Found S p n q ids k
   unfolding heardOf sumOver insertAll run judge keep
   one-found n q ids k x e u pq deep l = record {
     kept = ids ++ (x ∷ []);
     ran = rw (sum-quiet S (suc n) q (rw e (omega arith)), e, walk-judge n q ids (one x))
-        (run-then (honest S) k (k + ownAlone S p x) (confirm q x) true _ (confirmed q k x e u pq deep) ∙ rw (lt-ltb (length ids) 64 l) (end-at _ (omega arith)));
+        (run-then (honest S) k (k + ownAlone S p x) (confirm q x) true _ (confirmed q k x e u pq deep)
+        ∙ rw (lt-ltb (length ids) 64 l) (end-at _ (omega arith)));
     sorted = rw e (sort-snoc ids x);
     many = rw e (length-append ids (x ∷ []));
   }
 
-  second-run : (q : Prefix) (c : ℕ) (zs : List Id) (f : Heard → Walk (List Id)) → (length zs ≡ 0 → 1 < count S q) → All (λ x. length x ≤ 16) (matching q S)
-      → run (honest S) c (cond (isNothing (heardOf zs)) (return garble) (ask q) >>= f) ≡ run (honest S) (c + extra (length zs)) (f (heardOf (matching q S)))
+  second-run : (q : Prefix) (c : ℕ) (zs : List Id) (f : Heard → Walk (List Id)) → (length zs ≡ 0 → 1 < count S q)
+      → All (λ x. length x ≤ 16) (matching q S)
+      → run (honest S) c (cond (isNothing (heardOf zs)) (return garble) (ask q) >>= f)
+      ≡ run (honest S) (c + extra (length zs)) (f (heardOf (matching q S)))
   unfolding heardOf isNothing _>>=_
   second-run q c [] f h sh = rw (heard-many (matching q S) (h refl), add-zero c)
   second-run q c (x ∷ []) f h sh = rw (add-one c) (run-ask S c q f sh)
-  second-run q c (x ∷ y ∷ zs) f h sh = rw (lt-ltb 0 (suc (suc (length zs))) (omega arith), add-one c) (run-ask S c q f sh)
+  second-run q c (x ∷ y ∷ zs) f h sh =
+      rw (lt-ltb 0 (suc (suc (length zs))) (omega arith), add-one c) (run-ask S c q f sh)
 
-  module _ (n : ℕ) (ih : Finds S p n) (q : Prefix) (ids : List Id) (k : ℕ) (nq : length q + suc n ≡ 128) (u : Under q (matching q S)) (pq : p ≤ length q)
-      (deep : Deep S p q) (room : length ids + count S q ≤ 64) (parted : All (Side q) (matching q S)) (several : 1 < count S q) where
+  module _ (n : ℕ) (ih : Finds S p n) (q : Prefix) (ids : List Id) (k : ℕ) (nq : length q + suc n ≡ 128)
+      (u : Under q (matching q S)) (pq : p ≤ length q)
+      (deep : Deep S p q) (room : length ids + count S q ≤ 64) (parted : All (Side q) (matching q S))
+      (several : 1 < count S q) where
     lengths : count S (q ▹ false) + count S (q ▹ true) ≡ count S q
-    lengths = rw (matching-matching q (false ∷ []) S, matching-matching q (true ∷ []) S) at (part-length q (matching q S) parted)
+    lengths = rw (matching-matching q (false ∷ []) S, matching-matching q (true ∷ []) S) at
+        (part-length q (matching q S) parted)
 
-    sums : sumOver (ownAlone S p) (matching (q ▹ false) S) + sumOver (ownAlone S p) (matching (q ▹ true) S) ≡ sumOver (ownAlone S p) (matching q S)
-    sums = rw (matching-matching q (false ∷ []) S, matching-matching q (true ∷ []) S) at (part-sum q (ownAlone S p) (matching q S) parted)
+    sums : sumOver (ownAlone S p) (matching (q ▹ false) S) + sumOver (ownAlone S p) (matching (q ▹ true) S)
+        ≡ sumOver (ownAlone S p) (matching q S)
+    sums = rw (matching-matching q (false ∷ []) S, matching-matching q (true ∷ []) S) at
+        (part-sum q (ownAlone S p) (matching q S) parted)
 
-    inserts : insertAll (matching (q ▹ true) S) (insertAll (matching (q ▹ false) S) (sort ids)) ≡ insertAll (matching q S) (sort ids)
-    inserts = rw (matching-matching q (false ∷ []) S, matching-matching q (true ∷ []) S) at (part-insert q (matching q S) (sort ids) parted)
+    inserts : insertAll (matching (q ▹ true) S) (insertAll (matching (q ▹ false) S) (sort ids))
+        ≡ insertAll (matching q S) (sort ids)
+    inserts = rw (matching-matching q (false ∷ []) S, matching-matching q (true ∷ []) S) at
+        (part-insert q (matching q S) (sort ids) parted)
 
     first : Found S p n (q ▹ false) ids (suc k)
-    first = ih (q ▹ false) ids (suc k) (omega (arith, length-append q (false ∷ []))) (under-child q (false ∷ []) S u) (omega (arith, length-append q (false ∷ [])))
+    first = ih (q ▹ false) ids (suc k) (omega (arith, length-append q (false ∷ []))) (under-child q (false ∷ []) S u)
+        (omega (arith, length-append q (false ∷ [])))
         (deep-child S p q false deep several) (omega (arith, lengths))
 
     after : ℕ
     after = suc k + spent S p n (q ▹ false) + extra (count S (q ▹ false))
 
     second : Found S p n (q ▹ true) (first .kept) after
-    second = ih (q ▹ true) (first .kept) after (omega (arith, length-append q (true ∷ []))) (under-child q (true ∷ []) S u) (omega (arith, length-append q (true ∷ [])))
+    second = ih (q ▹ true) (first .kept) after (omega (arith, length-append q (true ∷ [])))
+        (under-child q (true ∷ []) S u) (omega (arith, length-append q (true ∷ [])))
         (deep-child S p q true deep several) (omega (arith, lengths, first .many))
 
     total : after + spent S p n (q ▹ true) ≡ k + spent S p (suc n) q
@@ -161,8 +187,10 @@ module _ (S : List Id) (p : ℕ) where
       kept = second .kept;
       ran = rw (heard-many (matching q S) several, walk-judge (suc n) q ids garble)
           (run-ask S k (q ▹ false) _ (child-short q false u)
-          ∙ run-then (honest S) (suc k) (suc k + spent S p n (q ▹ false)) (walk n (q ▹ false) ids (heardOf (matching (q ▹ false) S))) (first .kept) _ (first .ran)
-          ∙ second-run (q ▹ true) (suc k + spent S p n (q ▹ false)) (matching (q ▹ false) S) (λ o. walk n (q ▹ true) (first .kept) o)
+          ∙ run-then (honest S) (suc k) (suc k + spent S p n (q ▹ false))
+          (walk n (q ▹ false) ids (heardOf (matching (q ▹ false) S))) (first .kept) _ (first .ran)
+          ∙ second-run (q ▹ true) (suc k + spent S p n (q ▹ false)) (matching (q ▹ false) S)
+          (λ o. walk n (q ▹ true) (first .kept) o)
           (λ z. omega (arith, lengths)) (child-short q true u)
           ∙ second .ran ∙ end-at (second .kept) total);
       sorted = second .sorted ∙ ap (insertAll (matching (q ▹ true) S)) (first .sorted) ∙ inserts;
@@ -181,18 +209,21 @@ module _ (S : List Id) (p : ℕ) where
       go : Finds S p n → (xs : List Id) → matching q S ≡ xs → Found S p (suc n) q ids k
       go ih [] e = none-found (suc n) q ids k e
       go ih (x ∷ []) e = one-found (suc n) q ids k x e u pq deep (omega (arith, ap length e))
-      go ih (x ∷ y ∷ zs) e = several-found n ih q ids k nq u pq deep room (rw e (two-sides q x y zs (subst (Under q) e u))) (omega (arith, ap length e))
+      go ih (x ∷ y ∷ zs) e = several-found n ih q ids k nq u pq deep room
+          (rw e (two-sides q x y zs (subst (Under q) e u))) (omega (arith, ap length e))
 
 discover-honest : (S : List Id) (pre : Prefix) → length pre ≤ 128 → Apart (matching pre S)
     → run (honest S) 0 (discover pre) ≡ (done (sort (matching pre S)), ownSelects S pre)
 unfolding discover run sort ownSelects
 discover-honest S pre le apart =
     run-ask S 0 pre _ (apart .short)
-    ∙ run-then (honest S) 1 (1 + spent S (length pre) (128 - length pre) pre) (walk (128 - length pre) pre [] (heardOf (matching pre S))) (f .kept) _ (f .ran)
+    ∙ run-then (honest S) 1 (1 + spent S (length pre) (128 - length pre) pre)
+    (walk (128 - length pre) pre [] (heardOf (matching pre S))) (f .kept) _ (f .ran)
     ∙ (λ i. (done (sorted i), total i))
   where
     f : Found S (length pre) (128 - length pre) pre [] 1
-    f = finds S (length pre) (128 - length pre) pre [] 1 (omega arith) (record { matched = all-matches pre S; separate = apart .separate; short = apart .short }) (omega arith)
+    f = finds S (length pre) (128 - length pre) pre [] 1 (omega arith)
+        (record { matched = all-matches pre S; separate = apart .separate; short = apart .short }) (omega arith)
         (λ j h l. absurd (omega arith)) (omega (arith, apart .few))
 
     sorted : sort (f .kept) ≡ sort (matching pre S)
@@ -202,6 +233,7 @@ discover-honest S pre le apart =
     total = let n : 129 - length pre ≡ suc (128 - length pre) = omega arith in rw n (omega arith)
 
 -- On every wire that lets the Selects sent be heard as an honest one does, whatever it is made of.
-pub discover-apart : (wire : Wire) (S : List Id) (pre : Prefix) → Alike wire (honest S) pre → length pre ≤ 128 → Apart (matching pre S)
+pub discover-apart : (wire : Wire) (S : List Id) (pre : Prefix) → Alike wire (honest S) pre → length pre ≤ 128
+    → Apart (matching pre S)
     → run wire 0 (discover pre) ≡ (done (sort (matching pre S)), ownSelects S pre)
 discover-apart wire S pre h le apart = discover-alike wire (honest S) pre le h ∙ discover-honest S pre le apart

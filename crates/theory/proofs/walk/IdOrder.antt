@@ -1,5 +1,4 @@
 -- The order of ids is total.
--- Assumes nothing.
 use Prim.Native.Nat.{ℕ, _<_}
 use mathlib.Core.Bool.{Bool, true, false, true≢false, false≢true}
 use mathlib.Core.List.{[], _∷_}
@@ -70,11 +69,13 @@ before-trans (x ∷ xs) [] z e f = absurd (false≢true e)
 before-trans (x ∷ xs) (y ∷ ys) [] e f = absurd (false≢true f)
 before-trans (x ∷ xs) (y ∷ ys) (z ∷ zs) e f = go (before-trans xs ys zs) (tri x y) (tri y z)
   where
-    go : (before xs ys ≡ true → before ys zs ≡ true → before xs zs ≡ true) → Tri x y → Tri y z → before (x ∷ xs) (z ∷ zs) ≡ true
+    go : (before xs ys ≡ true → before ys zs ≡ true → before xs zs ≡ true) → Tri x y → Tri y z
+        → before (x ∷ xs) (z ∷ zs) ≡ true
     go ih (less h) (less g) = before-less x z xs zs (omega arith)
     go ih (less h) (same g) = before-less x z xs zs (omega arith)
     go ih (same h) (less g) = before-less x z xs zs (omega arith)
-    go ih (same h) (same g) = before-same x z xs zs (h ∙ g) ∙ ih (sym (before-same x y xs ys h) ∙ e) (sym (before-same y z ys zs g) ∙ f)
+    go ih (same h) (same g) = before-same x z xs zs (h ∙ g)
+        ∙ ih (sym (before-same x y xs ys h) ∙ e) (sym (before-same y z ys zs g) ∙ f)
     go ih (more h) t = absurd (false≢true (sym (before-more x y xs ys h) ∙ e))
     go ih (less h) (more g) = absurd (false≢true (sym (before-more y z ys zs g) ∙ f))
     go ih (same h) (more g) = absurd (false≢true (sym (before-more y z ys zs g) ∙ f))

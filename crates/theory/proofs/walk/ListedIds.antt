@@ -1,5 +1,5 @@
--- Whatever is heard, the ids that a discovery ends with begin with its prefix, none begins another, and they stand in order.
--- Assumes nothing.
+-- Whatever is heard, the ids that a discovery ends with begin with its prefix, none begins another, and they stand in
+-- order.
 use Prim.Native.Nat.{ℕ, zero, suc, _-_, _≤_, _<_}
 use mathlib.Core.Bool.{Bool, true, false, not, cond, false≢true, true≢false}
 use mathlib.Core.List.{List, [], _∷_, _++_, append-assoc, append-nil}
@@ -10,7 +10,8 @@ use lib.ListN.{drop, length, length-append}
 use borrow.Author.Tests.{ltb-false, ltb-true}
 use Rattle.paper.specs.Count.{All, Distinct}
 use Rattle.paper.specs.Hearing.{Id, Prefix, bitsOf, matches, Heard, nothing, one, unaddressed, garble}
-use Rattle.paper.specs.Walk.{_▹_, Walk, return, stop, select, _>>=_, long, ask, isNothing, confirmRest, confirm, keep, judge, walk, sort, nobody, discover, Wire, Ended, done, stopped, run}
+use Rattle.paper.specs.Walk.{_▹_, Walk, return, stop, select, _>>=_, long, ask, isNothing, confirmRest, confirm, keep}
+use Rattle.paper.specs.Walk.{judge, walk, sort, nobody, discover, Wire, Ended, done, stopped, run}
 use Rattle.theory.specs.PrefixFree.{Unlike, Separate, Apart, Sorted}
 use Rattle.theory.proofs.walk.WalkRules.{Always, always-run, always-weaken, always-bind, always-ask}
 use Rattle.theory.proofs.walk.EachMember.{all-weaken, all-append}
@@ -32,9 +33,18 @@ Grows q ids (done js) c = Grown q ids js
 Grows q ids (stopped r) c = Unit {0}
 
 none-grown : (q : Prefix) (ids : List Id) → length ids ≤ 64 → Grown q ids ids
-none-grown q ids le = record { new = []; grown = sym (append-nil ids); matched = tt; separate = tt; short = tt; few = le }
+none-grown q ids le = record {
+  new = [];
+  grown = sym
+      (append-nil ids);
+  matched = tt;
+  separate = tt;
+  short = tt;
+  few = le;
+}
 
-one-grown : (q : Prefix) (ids : List Id) (x : Id) → matches q x ≡ true → length x ≤ 16 → length ids < 64 → Grown q ids (ids ++ (x ∷ []))
+one-grown : (q : Prefix) (ids : List Id) (x : Id) → matches q x ≡ true → length x ≤ 16 → length ids < 64
+    → Grown q ids (ids ++ (x ∷ []))
 one-grown q ids x m s l = record {
   new = x ∷ [];
   grown = refl;
@@ -74,18 +84,23 @@ confirm-confirms : (q : Prefix) (id : Id) (k : ℕ) → Always (Confirmed q id) 
 unfolding confirm confirmRest
 confirm-confirms q id k = go (matches q id) refl (drop (length q) (bitsOf id))
   where
-    go : (b : Bool) → matches q id ≡ b → (rest : List Bool) → Always (Confirmed q id) k (cond b (confirmRest q id rest) (return false))
+    go : (b : Bool) → matches q id ≡ b → (rest : List Bool)
+        → Always (Confirmed q id) k (cond b (confirmRest q id rest) (return false))
     go true m [] = λ e. m
-    go true m (b ∷ rest) = always-ask (Confirmed q id) k (q ▹ b) _ (λ x l. always-ask (Confirmed q id) (suc k) (q ▹ not b) _ (λ y l e. m) tt) tt
+    go true m (b ∷ rest) = always-ask (Confirmed q id) k (q ▹ b) _
+        (λ x l. always-ask (Confirmed q id) (suc k) (q ▹ not b) _ (λ y l e. m) tt) tt
     go false m rest = λ e. absurd (false≢true e)
 
-judge-grows : (q : Prefix) (ids : List Id) (h : Heard) (below : Walk (List Id)) (k : ℕ) → length ids ≤ 64 → long h ≡ false
+judge-grows : (q : Prefix) (ids : List Id) (h : Heard) (below : Walk (List Id)) (k : ℕ) → length ids ≤ 64
+    → long h ≡ false
     → ((c : ℕ) → Always (Grows q ids) c below) → Always (Grows q ids) k (judge q ids h below)
 unfolding judge long keep
 judge-grows q ids nothing below k le e d = none-grown q ids le
-judge-grows q ids (one id) below k le e d = always-bind (Confirmed q id) (Grows q ids) k (confirm q id) _ (confirm-confirms q id k) held (λ r c s. tt)
+judge-grows q ids (one id) below k le e d =
+    always-bind (Confirmed q id) (Grows q ids) k (confirm q id) _ (confirm-confirms q id k) held (λ r c s. tt)
   where
-    kept : (c : ℕ) → matches q id ≡ true → (b : Bool) → ltb (length ids) 64 ≡ b → Always (Grows q ids) c (cond b (return (ids ++ (id ∷ []))) (stop 15))
+    kept : (c : ℕ) → matches q id ≡ true → (b : Bool) → ltb (length ids) 64 ≡ b
+        → Always (Grows q ids) c (cond b (return (ids ++ (id ∷ []))) (stop 15))
     kept c m true l = one-grown q ids id m (ltb-false 16 (length id) e) (ltb-true (length ids) 64 l)
     kept c m false l = tt
 
@@ -95,17 +110,22 @@ judge-grows q ids (one id) below k le e d = always-bind (Confirmed q id) (Grows 
 judge-grows q ids unaddressed below k le e d = tt
 judge-grows q ids garble below k le e d = d k
 
-walk-grows : (n : ℕ) (q : Prefix) (ids : List Id) (h : Heard) (k : ℕ) → length ids ≤ 64 → long h ≡ false → Always (Grows q ids) k (walk n q ids h)
+walk-grows : (n : ℕ) (q : Prefix) (ids : List Id) (h : Heard) (k : ℕ) → length ids ≤ 64 → long h ≡ false
+    → Always (Grows q ids) k (walk n q ids h)
 unfolding down long _>>=_
 walk-grows zero q ids h k le e = rw (walk-judge zero q ids h) (judge-grows q ids h _ k le e (λ c. tt))
-walk-grows (suc n) q ids h k le e = rw (walk-judge (suc n) q ids h) (judge-grows q ids h _ k le e (λ c. descends c (walk-grows n)))
+walk-grows (suc n) q ids h k le e =
+    rw (walk-judge (suc n) q ids h) (judge-grows q ids h _ k le e (λ c. descends c (walk-grows n)))
   where
-    descends : (c : ℕ) → ((q : Prefix) (ids : List Id) (h : Heard) (k : ℕ) → length ids ≤ 64 → long h ≡ false → Always (Grows q ids) k (walk n q ids h))
+    descends : (c : ℕ) → ((q : Prefix) (ids : List Id) (h : Heard) (k : ℕ) → length ids ≤ 64 → long h ≡ false
+        → Always (Grows q ids) k (walk n q ids h))
         → Always (Grows q ids) c (down (suc n) q ids)
     descends c ih = always-ask (Grows q ids) c (q ▹ false) _ zeros tt
       where
-        ones : (js : List Id) → Grown (q ▹ false) ids js → (o : Heard) → long o ≡ false → (d : ℕ) → Always (Grows q ids) d (walk n (q ▹ true) js o)
-        ones js g o l d = always-weaken (Grows (q ▹ true) js) (Grows q ids) d (walk n (q ▹ true) js o) (ih (q ▹ true) js o d (g .few) l) joins
+        ones : (js : List Id) → Grown (q ▹ false) ids js → (o : Heard) → long o ≡ false → (d : ℕ)
+            → Always (Grows q ids) d (walk n (q ▹ true) js o)
+        ones js g o l d = always-weaken (Grows (q ▹ true) js) (Grows q ids) d (walk n (q ▹ true) js o)
+            (ih (q ▹ true) js o d (g .few) l) joins
           where
             joins : (e : Ended (List Id)) (c : ℕ) → Grows (q ▹ true) js e c → Grows q ids e c
             joins (done ks) c t = both-grown q ids js ks g t
@@ -116,8 +136,12 @@ walk-grows (suc n) q ids h k le e = rw (walk-judge (suc n) q ids h) (judge-grows
         second js g true d = ones js g garble refl d
         second js g false d = always-ask (Grows q ids) d (q ▹ true) _ (λ o l. ones js g o l (suc d)) tt
 
-        zeros : (z : Heard) → long z ≡ false → Always (Grows q ids) (suc c) (walk n (q ▹ false) ids z >>= λ js. cond (isNothing z) (return garble) (ask (q ▹ true)) >>= λ o. walk n (q ▹ true) js o)
-        zeros z l = always-bind (Grows (q ▹ false) ids) (Grows q ids) (suc c) (walk n (q ▹ false) ids z) _ (ih (q ▹ false) ids z (suc c) le l)
+        zeros : (z : Heard) → long z ≡ false
+            → Always (Grows q ids) (suc c)
+            (walk n (q ▹ false) ids z >>= λ js. cond (isNothing z) (return garble) (ask (q ▹ true)) >>= λ o. walk n
+            (q ▹ true) js o)
+        zeros z l = always-bind (Grows (q ▹ false) ids) (Grows q ids) (suc c) (walk n (q ▹ false) ids z) _
+            (ih (q ▹ false) ids z (suc c) le l)
             (λ js d g. second js g (isNothing z) d) (λ r d s. tt)
 
 -- What a discovery lists.
@@ -145,18 +169,25 @@ discover-lists : (pre : Prefix) → Always (Lists pre) 0 (discover pre)
 unfolding discover
 discover-lists pre = always-ask (Lists pre) 0 pre _ heard tt
   where
-    heard : (h : Heard) → long h ≡ false → Always (Lists pre) 1 (walk (128 - length pre) pre [] h >>= λ ids. select nobody (λ _. return (sort ids)))
-    heard h l = always-bind (Grows pre []) (Lists pre) 1 (walk (128 - length pre) pre [] h) _ (walk-grows (128 - length pre) pre [] h 1 (omega arith) l)
+    heard : (h : Heard) → long h ≡ false
+        → Always (Lists pre) 1 (walk (128 - length pre) pre [] h >>= λ ids. select nobody (λ _. return (sort ids)))
+    heard h l = always-bind (Grows pre []) (Lists pre) 1 (walk (128 - length pre) pre [] h) _
+        (walk-grows (128 - length pre) pre [] h 1 (omega arith) l)
         (λ js c g x. grown-listed pre js g) (λ r c s. tt)
 
 -- On every wire.
-pub kept-listed : (wire : Wire) (pre : Prefix) (ids : List Id) → (run wire 0 (discover pre)) .0 ≡ done ids → Listed pre ids
-kept-listed wire pre ids e = subst (λ r. Lists pre r ((run wire 0 (discover pre)) .1)) e (always-run (Lists pre) wire 0 (discover pre) (discover-lists pre))
+pub kept-listed : (wire : Wire) (pre : Prefix) (ids : List Id) → (run wire 0 (discover pre)) .0 ≡ done ids
+    → Listed pre ids
+kept-listed wire pre ids e = subst (λ r. Lists pre r ((run wire 0 (discover pre)) .1)) e
+    (always-run (Lists pre) wire 0 (discover pre) (discover-lists pre))
 
 separate-distinct : (xs : List Id) → Separate xs → Distinct xs
 separate-distinct [] h = tt
-separate-distinct (x ∷ xs) h =
-    (all-weaken _ _ xs (λ y u same. true≢false (sym (begins-refl (bitsOf x)) ∙ ap (matches (bitsOf x)) same ∙ u .0)) (h .0), separate-distinct xs (h .1))
+separate-distinct (x ∷ xs) h = (
+  all-weaken _ _ xs (λ y u same. true≢false (sym (begins-refl (bitsOf x)) ∙ ap (matches (bitsOf x)) same ∙ u .0))
+      (h .0),
+  separate-distinct xs (h .1),
+)
 
 pub kept-distinct : (wire : Wire) (pre : Prefix) (ids : List Id) → (run wire 0 (discover pre)) .0 ≡ done ids
     → Distinct ids × Sorted ids × (length ids ≤ 64) × All (λ id. length id ≤ 16) ids

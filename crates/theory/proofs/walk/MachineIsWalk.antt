@@ -1,5 +1,4 @@
 -- The machine does what the conversation says: on every wire the same end after the same Selects.
--- Assumes nothing.
 use Prim.Native.Nat.{ℕ, zero, suc, _+_, _-_, _≤_}
 use mathlib.Core.Bool.{Bool, true, false, _&&_, not, cond}
 use mathlib.Core.List.{List, [], _∷_, _++_}
@@ -10,12 +9,16 @@ use lib.ListN.{drop, length, length-append}
 use borrow.Author.Tests.{ltb-false, ltb-true}
 use Rattle.paper.specs.Count.{limit}
 use Rattle.paper.specs.Hearing.{Id, Prefix, bitsOf, matches, Heard, nothing, one, unaddressed, garble}
-use Rattle.paper.specs.Walk.{_▹_, Walk, return, stop, select, _>>=_, long, ask, isNothing, isOne, confirmRest, confirm, keep, judge, walk, sort, nobody, discover, Wire, done, stopped, run}
-use Rattle.theory.specs.WalkMachine.{Marks, path, Phase, asked, mine, other, leaving, State, Next, going, ended, bitAfter, nextBit, request, to, leave, descend, silent, kept, confirming, hears, tell, tooLong, step, start, drive}
+use Rattle.paper.specs.Walk.{_▹_, Walk, return, stop, select, _>>=_, long, ask, isNothing, isOne, confirmRest, confirm}
+use Rattle.paper.specs.Walk.{keep, judge, walk, sort, nobody, discover, Wire, done, stopped, run}
+use Rattle.theory.specs.WalkMachine.{Marks, path, Phase, asked, mine, other, leaving, State, Next, going, ended}
+use Rattle.theory.specs.WalkMachine.{bitAfter, nextBit, request, to, leave, descend, silent, kept, confirming}
+use Rattle.theory.specs.WalkMachine.{hears, tell, tooLong, step, start, drive}
 use Rattle.theory.proofs.walk.Bound.{discover-bound}
 use Rattle.theory.proofs.walk.WalkRuns.{down, walk-judge, walk-nothing}
 
-pub bind-assoc : {A B C : Type 0} (m : Walk A) (f : A → Walk B) (g : B → Walk C) → m >>= f >>= g ≡ m >>= (λ a. f a >>= g)
+pub bind-assoc : {A B C : Type 0} (m : Walk A) (f : A → Walk B) (g : B → Walk C)
+    → m >>= f >>= g ≡ m >>= (λ a. f a >>= g)
 unfolding _>>=_
 bind-assoc (return a) f g = refl
 bind-assoc (stop c) f g = refl
@@ -32,7 +35,8 @@ module _ (pre : Prefix) where
   -- What is left of the conversation when the branch at the marks has ended with ids kept.
   unwind : Marks → List Id → Walk (List Id)
   unwind [] = farewell
-  unwind (false ∷ marks) = λ ids. (ask (path pre marks ▹ true) >>= λ o. walk (left (true ∷ marks)) (path pre marks ▹ true) ids o) >>= unwind marks
+  unwind (false ∷ marks) = λ ids.
+      (ask (path pre marks ▹ true) >>= λ o. walk (left (true ∷ marks)) (path pre marks ▹ true) ids o) >>= unwind marks
   unwind (true ∷ marks) = unwind marks
 
   -- An id that both children have been asked for.
@@ -42,7 +46,8 @@ module _ (pre : Prefix) where
   listen : Marks → List Id → Walk (List Id)
   listen [] ids = (ask pre >>= λ h. walk (left []) pre ids h) >>= farewell
   listen (false ∷ marks) ids = down (suc (left (false ∷ marks))) (path pre marks) ids >>= unwind marks
-  listen (true ∷ marks) ids = (ask (path pre marks ▹ true) >>= λ o. walk (left (true ∷ marks)) (path pre marks ▹ true) ids o) >>= unwind marks
+  listen (true ∷ marks) ids = (ask (path pre marks ▹ true) >>= λ o. walk (left (true ∷ marks))
+      (path pre marks ▹ true) ids o) >>= unwind marks
 
   resumes : Marks → List Id → Phase → Walk (List Id)
   resumes marks ids asked = listen marks ids
@@ -71,52 +76,66 @@ module _ (pre : Prefix) where
   leave-sim (false ∷ marks) ids = refl
   leave-sim (true ∷ marks) ids = leave-sim marks ids
 
-  descend-sim : (marks : Marks) (ids : List Id) → down (left pre marks) (path pre marks) ids >>= unwind pre marks ≡ resumed (descend pre marks ids)
+  descend-sim : (marks : Marks) (ids : List Id)
+      → down (left pre marks) (path pre marks) ids >>= unwind pre marks ≡ resumed (descend pre marks ids)
   unfolding descend resumed resume resumes listen down _>>=_
   descend-sim marks ids = go (ltb (length (path pre marks)) 128) refl
     where
       go : (b : Bool) → ltb (length (path pre marks)) 128 ≡ b
-          → down (left pre marks) (path pre marks) ids >>= unwind pre marks ≡ resumed (cond b (to pre (false ∷ marks) ids asked) (ended (stopped 12)))
+          → down (left pre marks) (path pre marks) ids >>= unwind pre marks
+          ≡ resumed (cond b (to pre (false ∷ marks) ids asked) (ended (stopped 12)))
       go true e =
-          let n : left pre marks ≡ suc (left pre (false ∷ marks)) = omega (arith, ltb-true (length (path pre marks)) 128 e, length-append (path pre marks) (false ∷ [])) in
+          let n : left pre marks ≡ suc (left pre (false ∷ marks)) =
+          omega (arith, ltb-true (length (path pre marks)) 128 e, length-append (path pre marks) (false ∷ [])) in
           rw n
       go false e =
           let n : left pre marks ≡ 0 = omega (arith, ltb-false (length (path pre marks)) 128 e) in
           rw n
 
-  garble-sim : (marks : Marks) (ids : List Id) → walk (left pre marks) (path pre marks) ids garble >>= unwind pre marks ≡ resumed (descend pre marks ids)
+  garble-sim : (marks : Marks) (ids : List Id)
+      → walk (left pre marks) (path pre marks) ids garble >>= unwind pre marks ≡ resumed (descend pre marks ids)
   unfolding judge
   garble-sim marks ids = rw (walk-judge (left pre marks) (path pre marks) ids garble) (descend-sim marks ids)
 
-  kept-sim : (marks : Marks) (ids : List Id) (id : Id) → keep ids id >>= unwind pre marks ≡ resumed (kept pre marks ids id)
+  kept-sim : (marks : Marks) (ids : List Id) (id : Id)
+      → keep ids id >>= unwind pre marks ≡ resumed (kept pre marks ids id)
   unfolding keep kept _>>=_ resumed
   kept-sim marks ids id = go (ltb (length ids) 64)
     where
-      go : (b : Bool) → cond b (return (ids ++ (id ∷ []))) (stop 15) >>= unwind pre marks ≡ resumed (cond b (leave pre marks (ids ++ (id ∷ []))) (ended (stopped 15)))
+      go : (b : Bool) → cond b (return (ids ++ (id ∷ []))) (stop 15) >>= unwind pre marks
+          ≡ resumed (cond b (leave pre marks (ids ++ (id ∷ []))) (ended (stopped 15)))
       go true = leave-sim marks (ids ++ (id ∷ []))
       go false = refl
 
-  settle-sim : (marks : Marks) (ids : List Id) (id : Id) (b : Bool) → settle pre marks ids id b >>= unwind pre marks ≡ resumed (cond b (kept pre marks ids id) (descend pre marks ids))
+  settle-sim : (marks : Marks) (ids : List Id) (id : Id) (b : Bool)
+      → settle pre marks ids id b >>= unwind pre marks
+      ≡ resumed (cond b (kept pre marks ids id) (descend pre marks ids))
   unfolding settle
   settle-sim marks ids id true = kept-sim marks ids id
   settle-sim marks ids id false = descend-sim marks ids
 
-  one-sim : (marks : Marks) (ids : List Id) (id : Id) → walk (left pre marks) (path pre marks) ids (one id) >>= unwind pre marks ≡ resumed (hears pre marks ids (one id))
+  one-sim : (marks : Marks) (ids : List Id) (id : Id)
+      → walk (left pre marks) (path pre marks) ids (one id) >>= unwind pre marks
+      ≡ resumed (hears pre marks ids (one id))
   unfolding judge hears confirm settle confirmRest confirming resumed resume resumes nextBit bitAfter _>>=_
-  one-sim marks ids id = rw (walk-judge (left pre marks) (path pre marks) ids (one id)) (go (matches (path pre marks) id) (drop (length (path pre marks)) (bitsOf id)) refl)
+  one-sim marks ids id = rw (walk-judge (left pre marks) (path pre marks) ids (one id))
+      (go (matches (path pre marks) id) (drop (length (path pre marks)) (bitsOf id)) refl)
     where
       go : (b : Bool) (rest : List Bool) → drop (length (path pre marks)) (bitsOf id) ≡ rest
-          → cond b (confirmRest (path pre marks) id rest) (return false) >>= settle pre marks ids id >>= unwind pre marks
+          → cond b (confirmRest (path pre marks) id rest)
+          (return false) >>= settle pre marks ids id >>= unwind pre marks
           ≡ resumed (cond b (confirming pre marks ids id rest) (descend pre marks ids))
       go true [] e = kept-sim marks ids id
       go true (b ∷ rest) e = rw e
       go false rest e = descend-sim marks ids
 
-  nothing-sim : (marks : Marks) (ids : List Id) → walk (left pre marks) (path pre marks) ids nothing >>= unwind pre marks ≡ resumed (leave pre marks ids)
+  nothing-sim : (marks : Marks) (ids : List Id)
+      → walk (left pre marks) (path pre marks) ids nothing >>= unwind pre marks ≡ resumed (leave pre marks ids)
   unfolding _>>=_
   nothing-sim marks ids = rw walk-nothing (leave-sim marks ids)
 
-  unaddressed-sim : (marks : Marks) (ids : List Id) → walk (left pre marks) (path pre marks) ids unaddressed >>= unwind pre marks ≡ stop 23
+  unaddressed-sim : (marks : Marks) (ids : List Id)
+      → walk (left pre marks) (path pre marks) ids unaddressed >>= unwind pre marks ≡ stop 23
   unfolding judge _>>=_
   unaddressed-sim marks ids = rw (walk-judge (left pre marks) (path pre marks) ids unaddressed)
 
@@ -133,19 +152,26 @@ module _ (pre : Prefix) where
   level marks = omega (arith, length-append (path pre marks) (false ∷ []), length-append (path pre marks) (true ∷ []))
 
   loud : (marks : Marks) (m : Walk (List Id))
-      → (m >>= λ ids₁. ask (path pre marks ▹ true) >>= λ o. walk (left pre (false ∷ marks)) (path pre marks ▹ true) ids₁ o) >>= unwind pre marks ≡ m >>= unwind pre (false ∷ marks)
+      → (m >>= λ ids₁. ask (path pre marks ▹ true) >>= λ o. walk (left pre (false ∷ marks))
+      (path pre marks ▹ true) ids₁ o) >>= unwind pre marks ≡ m >>= unwind pre (false ∷ marks)
   unfolding unwind
   loud marks m = rw (level marks) (bind-assoc m _ _)
 
   -- What a zero child holds.
   zero-sim : (marks : Marks) (ids : List Id) (z : Heard)
-      → (walk (left pre (false ∷ marks)) (path pre marks ▹ false) ids z >>= λ ids₁. cond (isNothing z) (return garble) (ask (path pre marks ▹ true)) >>= λ o.
-      walk (left pre (false ∷ marks)) (path pre marks ▹ true) ids₁ o) >>= unwind pre marks ≡ resumed (hears pre (false ∷ marks) ids z)
+      → (walk (left pre (false ∷ marks)) (path pre marks ▹ false) ids z >>= λ ids₁. cond (isNothing z) (return garble)
+      (ask (path pre marks ▹ true)) >>= λ o.
+      walk (left pre (false ∷ marks)) (path pre marks ▹ true) ids₁ o) >>= unwind pre marks
+      ≡ resumed (hears pre (false ∷ marks) ids z)
   unfolding hears silent resumed isNothing unwind _>>=_
   zero-sim marks ids nothing = rw (walk-nothing, level marks) (garble-sim (true ∷ marks) ids)
-  zero-sim marks ids (one id) = loud marks (walk (left pre (false ∷ marks)) (path pre marks ▹ false) ids (one id)) ∙ one-sim (false ∷ marks) ids id
-  zero-sim marks ids unaddressed = loud marks (walk (left pre (false ∷ marks)) (path pre marks ▹ false) ids unaddressed) ∙ unaddressed-sim (false ∷ marks) ids
-  zero-sim marks ids garble = loud marks (walk (left pre (false ∷ marks)) (path pre marks ▹ false) ids garble) ∙ garble-sim (false ∷ marks) ids
+  zero-sim marks ids (one id) = loud marks (walk (left pre (false ∷ marks)) (path pre marks ▹ false) ids (one id))
+      ∙ one-sim (false ∷ marks) ids id
+  zero-sim marks ids unaddressed =
+      loud marks (walk (left pre (false ∷ marks)) (path pre marks ▹ false) ids unaddressed)
+      ∙ unaddressed-sim (false ∷ marks) ids
+  zero-sim marks ids garble = loud marks (walk (left pre (false ∷ marks)) (path pre marks ▹ false) ids garble)
+      ∙ garble-sim (false ∷ marks) ids
 
 -- An answer, refused for its length or not.
 ask-sim : (p : Prefix) (f : Heard → Walk (List Id)) (next : Heard → Next) → ((h : Heard) → f h ≡ resumed (next h))
@@ -159,23 +185,34 @@ ask-sim p f next e = λ i. select p (λ h. go h (long h) i)
 
 module _ (pre : Prefix) where
   listen-sim : (marks : Marks) (ids : List Id)
-      → listen pre marks ids ≡ select (path pre marks) (λ h. resumed (cond (long h) (ended (stopped 14)) (hears pre marks ids h)))
+      → listen pre marks ids ≡ select (path pre marks)
+      (λ h. resumed (cond (long h) (ended (stopped 14)) (hears pre marks ids h)))
   unfolding listen unwind silent leave down
   listen-sim [] ids = bind-assoc (ask pre) _ _ ∙ ask-sim pre _ (hears pre [] ids) (hears-sim pre [] ids refl)
-  listen-sim (false ∷ marks) ids = bind-assoc (ask (path pre marks ▹ false)) _ _ ∙ ask-sim (path pre marks ▹ false) _ (hears pre (false ∷ marks) ids) (zero-sim pre marks ids)
-  listen-sim (true ∷ marks) ids = bind-assoc (ask (path pre marks ▹ true)) _ _ ∙ ask-sim (path pre marks ▹ true) _ (hears pre (true ∷ marks) ids) (hears-sim pre (true ∷ marks) ids refl)
+  listen-sim (false ∷ marks) ids =
+      bind-assoc (ask (path pre marks ▹ false)) _ _
+      ∙ ask-sim (path pre marks ▹ false) _ (hears pre (false ∷ marks) ids) (zero-sim pre marks ids)
+  listen-sim (true ∷ marks) ids =
+      bind-assoc (ask (path pre marks ▹ true)) _ _
+      ∙ ask-sim (path pre marks ▹ true) _ (hears pre (true ∷ marks) ids) (hears-sim pre (true ∷ marks) ids refl)
 
   resumes-sim : (marks : Marks) (ids : List Id) (phase : Phase)
       → resumes pre marks ids phase
-      ≡ select (request (record { pre = pre; marks = marks; ids = ids; phase = phase })) (λ h. resumed (step (record { pre = pre; marks = marks; ids = ids; phase = phase }) h))
+      ≡ select (request (record { pre = pre; marks = marks; ids = ids; phase = phase }))
+      (λ h. resumed (step (record { pre = pre; marks = marks; ids = ids; phase = phase }) h))
   unfolding resumes request step tooLong tell resumed resume farewell _>>=_
   resumes-sim marks ids asked = listen-sim marks ids
   resumes-sim marks ids (mine id) =
-      ap (_>>= unwind pre marks) (bind-assoc (ask (path pre marks ▹ nextBit (path pre marks) id)) _ (settle pre marks ids id)) ∙ bind-assoc (ask (path pre marks ▹ nextBit (path pre marks) id)) _ _
-      ∙ ask-sim (path pre marks ▹ nextBit (path pre marks) id) _ (λ h. to pre marks ids (other id (isOne id h))) (λ h. refl)
+      ap (_>>= unwind pre marks) (bind-assoc (ask (path pre marks ▹ nextBit (path pre marks) id)) _
+      (settle pre marks ids id)) ∙ bind-assoc (ask (path pre marks ▹ nextBit (path pre marks) id)) _ _
+      ∙ ask-sim (path pre marks ▹ nextBit (path pre marks) id) _ (λ h. to pre marks ids (other id (isOne id h)))
+      (λ h. refl)
   resumes-sim marks ids (other id good) =
-      ap (_>>= unwind pre marks) (bind-assoc (ask (path pre marks ▹ not (nextBit (path pre marks) id))) _ (settle pre marks ids id)) ∙ bind-assoc (ask (path pre marks ▹ not (nextBit (path pre marks) id))) _ _
-      ∙ ask-sim (path pre marks ▹ not (nextBit (path pre marks) id)) _ (λ h. cond (good && isNothing h) (kept pre marks ids id) (descend pre marks ids)) (λ h. settle-sim pre marks ids id (good && isNothing h))
+      ap (_>>= unwind pre marks) (bind-assoc (ask (path pre marks ▹ not (nextBit (path pre marks) id))) _
+      (settle pre marks ids id)) ∙ bind-assoc (ask (path pre marks ▹ not (nextBit (path pre marks) id))) _ _
+      ∙ ask-sim (path pre marks ▹ not (nextBit (path pre marks) id)) _
+      (λ h. cond (good && isNothing h) (kept pre marks ids id) (descend pre marks ids))
+      (λ h. settle-sim pre marks ids id (good && isNothing h))
   resumes-sim marks ids leaving = refl
 
 -- The machine's Select is the conversation's, and so is what follows on each thing heard.
@@ -194,7 +231,8 @@ run-later wire k (stop c) = omega arith
 run-later wire k (select p f) = omega (arith, run-later wire (suc k) (f (wire k p)))
 
 -- A Select of the machine's, as the conversation has it.
-drive-select : (wire : Wire) (k : ℕ) (s : State) → run wire k (resumed (going s)) ≡ run wire (suc k) (resumed (step s (wire k (request s))))
+drive-select : (wire : Wire) (k : ℕ) (s : State)
+    → run wire k (resumed (going s)) ≡ run wire (suc k) (resumed (step s (wire k (request s))))
 unfolding resumed run
 drive-select wire k s = ap (run wire k) (resume-step s)
 
@@ -205,15 +243,19 @@ unfolding drive run resumed
 drive-run zero wire k (ended (done ids)) h = refl
 drive-run zero wire k (ended (stopped c)) h = refl
 drive-run zero wire k (going s) h =
-    let c : (run wire k (resumed (going s))) .1 ≡ (run wire (suc k) (resumed (step s (wire k (request s))))) .1 = ap (λ r. r .1) (drive-select wire k s) in
+    let c : (run wire k (resumed (going s))) .1 ≡ (run wire (suc k) (resumed (step s (wire k (request s))))) .1 =
+    ap (λ r. r .1) (drive-select wire k s) in
     absurd (omega (arith, run-later wire (suc k) (resumed (step s (wire k (request s))))))
 drive-run (suc n) wire k (ended (done ids)) h = refl
 drive-run (suc n) wire k (ended (stopped c)) h = refl
 drive-run (suc n) wire k (going s) h =
-    let c : (run wire k (resumed (going s))) .1 ≡ (run wire (suc k) (resumed (step s (wire k (request s))))) .1 = ap (λ r. r .1) (drive-select wire k s) in
-    drive-run n wire (suc k) (step s (wire k (request s))) (omega arith) ∙ ap (λ r. (ended (r .0), r .1)) (sym (drive-select wire k s))
+    let c : (run wire k (resumed (going s))) .1 ≡ (run wire (suc k) (resumed (step s (wire k (request s))))) .1 =
+    ap (λ r. r .1) (drive-select wire k s) in
+    drive-run n wire (suc k) (step s (wire k (request s))) (omega arith)
+    ∙ ap (λ r. (ended (r .0), r .1)) (sym (drive-select wire k s))
 
 -- On every wire the machine ends as the discovery does, after the same Selects, which are within the limit.
 pub machine-discovers : (wire : Wire) (pre : Prefix)
     → drive (limit pre) wire 0 (start pre) ≡ (ended ((run wire 0 (discover pre)) .0), (run wire 0 (discover pre)) .1)
-machine-discovers wire pre = rw (resume-start pre) (drive-run (limit pre) wire 0 (start pre) (rw (← resume-start pre) (omega (arith, discover-bound wire pre))))
+machine-discovers wire pre = rw (resume-start pre)
+    (drive-run (limit pre) wire 0 (start pre) (rw (← resume-start pre) (omega (arith, discover-bound wire pre))))

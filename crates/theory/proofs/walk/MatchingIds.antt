@@ -1,5 +1,4 @@
 -- The ids that match a prefix, and how they part between its children.
--- Assumes nothing.
 use Prim.Native.Nat.{ℕ, suc, _+_, _*_, _≤_, _<_}
 use mathlib.Core.Bool.{Bool, true, false, cond, true≢false}
 use mathlib.Core.List.{List, [], _∷_, _++_}
@@ -29,7 +28,8 @@ unfolding matching
 matching-matching q r [] = refl
 matching-matching q r (x ∷ xs) = go (matching-matching q r xs) (matches q x) refl (matches (q ++ r) x) refl
   where
-    go : matching (q ++ r) (matching q xs) ≡ matching (q ++ r) xs → (a : Bool) → matches q x ≡ a → (b : Bool) → matches (q ++ r) x ≡ b → matching (q ++ r) (matching q (x ∷ xs)) ≡ matching (q ++ r) (x ∷ xs)
+    go : matching (q ++ r) (matching q xs) ≡ matching (q ++ r) xs → (a : Bool) → matches q x ≡ a → (b : Bool)
+        → matches (q ++ r) x ≡ b → matching (q ++ r) (matching q (x ∷ xs)) ≡ matching (q ++ r) (x ∷ xs)
     go ih true e b f = ap (matching (q ++ r)) (matching-yes q x xs e) ∙ ap (λ l. cond (matches (q ++ r) x) (x ∷ l) l) ih
     go ih false e true f = absurd (true≢false (sym (begins-front q r (bitsOf x) f) ∙ e))
     go ih false e false f = ap (matching (q ++ r)) (matching-not q x xs e) ∙ ih ∙ sym (matching-not (q ++ r) x xs f)
@@ -44,7 +44,8 @@ module _ (q : Prefix) where
   all-matches [] = tt
   all-matches (x ∷ xs) = go (all-matches xs) (matches q x) refl
     where
-      go : All (λ y. matches q y ≡ true) (matching q xs) → (b : Bool) → matches q x ≡ b → All (λ y. matches q y ≡ true) (cond b (x ∷ matching q xs) (matching q xs))
+      go : All (λ y. matches q y ≡ true) (matching q xs) → (b : Bool) → matches q x ≡ b
+          → All (λ y. matches q y ≡ true) (cond b (x ∷ matching q xs) (matching q xs))
       go ih true e = (e, ih)
       go ih false e = ih
 
@@ -71,7 +72,8 @@ unfolding matching
 length-matching q [] = omega arith
 length-matching q (x ∷ xs) = go (length-matching q xs) (matches q x)
   where
-    go : length (matching q xs) ≤ length xs → (b : Bool) → length (cond b (x ∷ matching q xs) (matching q xs)) ≤ suc (length xs)
+    go : length (matching q xs) ≤ length xs → (b : Bool)
+        → length (cond b (x ∷ matching q xs) (matching q xs)) ≤ suc (length xs)
     go ih true = omega arith
     go ih false = omega arith
 
@@ -101,40 +103,51 @@ side q x h m = go (drop (length q) (bitsOf x)) refl
   where
     go : (rest : List Bool) → drop (length q) (bitsOf x) ≡ rest → Side q x
     go [] e = absurd (omega (arith, ap length e, length-drop (length q) (bitsOf x), bits-length x))
-    go (false ∷ rest) e = zero-side (begins-child q (bitsOf x) false rest m e false) (begins-child q (bitsOf x) false rest m e true)
-    go (true ∷ rest) e = one-side (begins-child q (bitsOf x) true rest m e false) (begins-child q (bitsOf x) true rest m e true)
+    go (false ∷ rest) e = zero-side (begins-child q (bitsOf x) false rest m e false)
+        (begins-child q (bitsOf x) false rest m e true)
+    go (true ∷ rest) e = one-side (begins-child q (bitsOf x) true rest m e false)
+        (begins-child q (bitsOf x) true rest m e true)
 
 -- A prefix of two ids, where the first does not begin the other, is shorter than the first.
-shorter : (q : Prefix) (x y : Id) → matches q x ≡ true → matches q y ≡ true → matches (bitsOf x) y ≡ false → length q < 8 * length x
+shorter : (q : Prefix) (x y : Id) → matches q x ≡ true → matches q y ≡ true → matches (bitsOf x) y ≡ false
+    → length q < 8 * length x
 shorter q x y m n u = go (ltb (length q) (8 * length x)) refl
   where
     go : (b : Bool) → ltb (length q) (8 * length x) ≡ b → length q < 8 * length x
     go true e = ltb-true _ _ e
     go false e =
-        let whole : q ≡ bitsOf x = begins-whole q (bitsOf x) m (omega (arith, ltb-false (length q) (8 * length x) e, bits-length x)) in
+        let whole : q ≡ bitsOf x = begins-whole q (bitsOf x) m
+        (omega (arith, ltb-false (length q) (8 * length x) e, bits-length x)) in
         absurd (true≢false (sym n ∙ ap (λ r. matches r y) whole ∙ u))
 
 pub two-shorter : (q : Prefix) (x y : Id) (zs : List Id) → Under q (x ∷ y ∷ zs) → length q < 8 * length x
 two-shorter q x y zs u = shorter q x y (u .matched .0) (u .matched .1 .0) (u .separate .0 .0 .0)
 
 pub two-sides : (q : Prefix) (x y : Id) (zs : List Id) → Under q (x ∷ y ∷ zs) → All (Side q) (x ∷ y ∷ zs)
-two-sides q x y zs u = (side q x (two-shorter q x y zs u) (u .matched .0), others (y ∷ zs) (u .matched .1) (u .separate .0))
+two-sides q x y zs u = (
+  side q x (two-shorter q x y zs u) (u .matched .0),
+  others (y ∷ zs) (u .matched .1)
+      (u .separate .0),
+)
   where
     others : (ys : List Id) → All (λ y. matches q y ≡ true) ys → All (Unlike x) ys → All (Side q) ys
     others [] m s = tt
     others (y ∷ ys) m s = (side q y (shorter q y x (m .0) (u .matched .0) (s .0 .1)) (m .0), others ys (m .1) (s .1))
 
 module _ (q : Prefix) where
-  pub part-length : (xs : List Id) → All (Side q) xs → length (matching (q ▹ false) xs) + length (matching (q ▹ true) xs) ≡ length xs
+  pub part-length : (xs : List Id) → All (Side q) xs
+      → length (matching (q ▹ false) xs) + length (matching (q ▹ true) xs) ≡ length xs
   unfolding matching
   part-length [] h = refl
   part-length (x ∷ xs) h = go (part-length xs (h .1)) (h .0)
     where
-      go : length (matching (q ▹ false) xs) + length (matching (q ▹ true) xs) ≡ length xs → Side q x → length (matching (q ▹ false) (x ∷ xs)) + length (matching (q ▹ true) (x ∷ xs)) ≡ suc (length xs)
+      go : length (matching (q ▹ false) xs) + length (matching (q ▹ true) xs) ≡ length xs → Side q x
+          → length (matching (q ▹ false) (x ∷ xs)) + length (matching (q ▹ true) (x ∷ xs)) ≡ suc (length xs)
       go ih (zero-side e f) = rw (matching-yes (q ▹ false) x xs e, matching-not (q ▹ true) x xs f) (omega arith)
       go ih (one-side e f) = rw (matching-not (q ▹ false) x xs e, matching-yes (q ▹ true) x xs f) (omega arith)
 
-  pub part-sum : (f : Id → ℕ) (xs : List Id) → All (Side q) xs → sumOver f (matching (q ▹ false) xs) + sumOver f (matching (q ▹ true) xs) ≡ sumOver f xs
+  pub part-sum : (f : Id → ℕ) (xs : List Id) → All (Side q) xs
+      → sumOver f (matching (q ▹ false) xs) + sumOver f (matching (q ▹ true) xs) ≡ sumOver f xs
   unfolding matching sumOver
   part-sum f [] h = refl
   part-sum f (x ∷ xs) h = go (part-sum f xs (h .1)) (h .0)
@@ -144,12 +157,15 @@ module _ (q : Prefix) where
       go ih (zero-side e g) = rw (matching-yes (q ▹ false) x xs e, matching-not (q ▹ true) x xs g) (omega arith)
       go ih (one-side e g) = rw (matching-not (q ▹ false) x xs e, matching-yes (q ▹ true) x xs g) (omega arith)
 
-  pub part-insert : (xs l : List Id) → All (Side q) xs → insertAll (matching (q ▹ true) xs) (insertAll (matching (q ▹ false) xs) l) ≡ insertAll xs l
+  pub part-insert : (xs l : List Id) → All (Side q) xs
+      → insertAll (matching (q ▹ true) xs) (insertAll (matching (q ▹ false) xs) l) ≡ insertAll xs l
   unfolding matching insertAll
   part-insert [] l h = refl
   part-insert (x ∷ xs) l h = go (part-insert xs l (h .1)) (h .0)
     where
       go : insertAll (matching (q ▹ true) xs) (insertAll (matching (q ▹ false) xs) l) ≡ insertAll xs l → Side q x
-          → insertAll (matching (q ▹ true) (x ∷ xs)) (insertAll (matching (q ▹ false) (x ∷ xs)) l) ≡ insert x (insertAll xs l)
-      go ih (zero-side e g) = rw (matching-yes (q ▹ false) x xs e, matching-not (q ▹ true) x xs g) (insertAll-insert x (matching (q ▹ true) xs) (insertAll (matching (q ▹ false) xs) l) ∙ ap (insert x) ih)
+          → insertAll (matching (q ▹ true) (x ∷ xs)) (insertAll (matching (q ▹ false) (x ∷ xs)) l)
+          ≡ insert x (insertAll xs l)
+      go ih (zero-side e g) = rw (matching-yes (q ▹ false) x xs e, matching-not (q ▹ true) x xs g)
+          (insertAll-insert x (matching (q ▹ true) xs) (insertAll (matching (q ▹ false) xs) l) ∙ ap (insert x) ih)
       go ih (one-side e g) = rw (matching-not (q ▹ false) x xs e, matching-yes (q ▹ true) x xs g) (ap (insert x) ih)

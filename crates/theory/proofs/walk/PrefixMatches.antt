@@ -1,5 +1,4 @@
 -- When a prefix matches an id: shorter prefixes, children, and whole ids.
--- Assumes nothing.
 use Prim.Native.Nat.{ℕ, zero, suc, _+_, _/_, _%_, _^_, _≤_, _<_}
 use mathlib.Core.Bool.{Bool, true, false, not, Bool·beq, and-eq-true-iff, and-true, false≢true}
 use mathlib.Core.List.{List, [], _∷_, _++_}
@@ -40,7 +39,8 @@ unfolding begins
 begins-refl [] = refl
 begins-refl (x ∷ xs) = rw (beq-refl x) (begins-refl xs)
 
-begins-cons : (p : Bool) (q : List Bool) (x : Bool) (xs : List Bool) → begins (p ∷ q) (x ∷ xs) ≡ true → (p ≡ x) × (begins q xs ≡ true)
+begins-cons : (p : Bool) (q : List Bool) (x : Bool) (xs : List Bool) → begins (p ∷ q) (x ∷ xs) ≡ true
+    → (p ≡ x) × (begins q xs ≡ true)
 unfolding begins
 begins-cons p q x xs e = let w = (and-eq-true-iff (Bool·beq p x) (begins q xs)) .0 e in (beq-eq p x (w .0), w .1)
 
@@ -48,13 +48,16 @@ pub begins-front : (q r xs : List Bool) → begins (q ++ r) xs ≡ true → begi
 unfolding begins
 begins-front [] r xs e = refl
 begins-front (p ∷ q) r [] e = e
-begins-front (p ∷ q) r (x ∷ xs) e = let w = begins-cons p (q ++ r) x xs e in rw (w .0, beq-refl x) (begins-front q r xs (w .1))
+begins-front (p ∷ q) r (x ∷ xs) e = let w = begins-cons p (q ++ r) x xs e
+    in rw (w .0, beq-refl x) (begins-front q r xs (w .1))
 
-pub begins-child : (q xs : List Bool) (b : Bool) (rest : List Bool) → begins q xs ≡ true → drop (length q) xs ≡ b ∷ rest → (c : Bool) → begins (q ▹ c) xs ≡ Bool·beq c b
+pub begins-child : (q xs : List Bool) (b : Bool) (rest : List Bool) → begins q xs ≡ true
+    → drop (length q) xs ≡ b ∷ rest → (c : Bool) → begins (q ▹ c) xs ≡ Bool·beq c b
 unfolding begins
 begins-child [] xs b rest e d c = rw d (and-true (Bool·beq c b))
 begins-child (p ∷ q) [] b rest e d c = absurd (false≢true e)
-begins-child (p ∷ q) (x ∷ xs) b rest e d c = let w = begins-cons p q x xs e in rw (w .0, beq-refl x) (begins-child q xs b rest (w .1) d c)
+begins-child (p ∷ q) (x ∷ xs) b rest e d c = let w = begins-cons p q x xs e
+    in rw (w .0, beq-refl x) (begins-child q xs b rest (w .1) d c)
 
 pub begins-take : (q xs : List Bool) → begins q xs ≡ true → take (length q) xs ≡ q
 unfolding begins
@@ -69,21 +72,25 @@ begins-more (p ∷ q) [] r e = absurd (false≢true e)
 begins-more (p ∷ q) (x ∷ xs) r e = let w = begins-cons p q x xs e in rw (w .0, beq-refl x) (begins-more q xs r (w .1))
 
 pub begins-splits : (q xs : List Bool) → begins q xs ≡ true → q ++ drop (length q) xs ≡ xs
-begins-splits q xs e = ap (λ (r : List Bool). r ++ drop (length q) xs) (sym (begins-take q xs e)) ∙ take-append-drop (length q) xs
+begins-splits q xs e = ap (λ (r : List Bool). r ++ drop (length q) xs) (sym (begins-take q xs e))
+    ∙ take-append-drop (length q) xs
 
 pub begins-whole : (q xs : List Bool) → begins q xs ≡ true → length xs ≤ length q → q ≡ xs
 begins-whole q xs e h = sym (begins-take q xs e) ∙ take-all (length q) xs h
 
 -- Lists that go on differently after the same bits.
-pub begins-parted : (q xs ys : List Bool) (b : Bool) → begins (q ▹ b) xs ≡ true → begins (q ▹ not b) ys ≡ true → begins xs ys ≡ false
+pub begins-parted : (q xs ys : List Bool) (b : Bool) → begins (q ▹ b) xs ≡ true → begins (q ▹ not b) ys ≡ true
+    → begins xs ys ≡ false
 unfolding begins
 begins-parted [] [] ys b e f = absurd (false≢true e)
 begins-parted [] (x ∷ xs) [] b e f = refl
-begins-parted [] (x ∷ xs) (y ∷ ys) b e f = rw (← (begins-cons b [] x xs e) .0, ← (begins-cons (not b) [] y ys f) .0, beq-other b)
+begins-parted [] (x ∷ xs) (y ∷ ys) b e f =
+    rw (← (begins-cons b [] x xs e) .0, ← (begins-cons (not b) [] y ys f) .0, beq-other b)
 begins-parted (p ∷ q) [] ys b e f = absurd (false≢true e)
 begins-parted (p ∷ q) (x ∷ xs) [] b e f = refl
 begins-parted (p ∷ q) (x ∷ xs) (y ∷ ys) b e f =
-    and-not-right (Bool·beq x y) (begins xs ys) (begins-parted q xs ys b ((begins-cons p (q ▹ b) x xs e) .1) ((begins-cons p (q ▹ not b) y ys f) .1))
+    and-not-right (Bool·beq x y) (begins xs ys)
+    (begins-parted q xs ys b ((begins-cons p (q ▹ b) x xs e) .1) ((begins-cons p (q ▹ not b) y ys f) .1))
 
 module _ (a b : ℕ) (e : counting (bit (a ∷ [])) 0 8 ≡ counting (bit (b ∷ [])) 0 8) where
   same-bit : (i : ℕ) → i < 8 → a / 2 ^ i % 2 ≡ b / 2 ^ i % 2
@@ -109,7 +116,8 @@ module _ (a b : ℕ) (e : counting (bit (a ∷ [])) 0 8 ≡ counting (bit (b ∷
   -- Bytes that are the same without their i lowest bits, and then with the next one.
   same-above : a < 256 → b < 256 → (k i : ℕ) → k + i ≡ 8 → a / 2 ^ i ≡ b / 2 ^ i
   same-above h g zero i n = let last : i ≡ 8 = omega arith in rw last (div-eq-of-lt h ∙ sym (div-eq-of-lt g))
-  same-above h g (suc k) i n = half (a / 2 ^ i) (b / 2 ^ i) (next a ∙ same-above h g k (suc i) (omega arith) ∙ sym (next b)) (same-bit i (omega arith))
+  same-above h g (suc k) i n = half (a / 2 ^ i) (b / 2 ^ i)
+      (next a ∙ same-above h g k (suc i) (omega arith) ∙ sym (next b)) (same-bit i (omega arith))
     where
       half : (x y : ℕ) → x / 2 ≡ y / 2 → x % 2 ≡ y % 2 → x ≡ y
       half x y d m = omega arith
@@ -126,7 +134,8 @@ bitsOf-inj [] [] h g e = refl
 bitsOf-inj [] (b ∷ bs) h g e = absurd (omega (arith, ap length e, bits-length [], bits-length (b ∷ bs)))
 bitsOf-inj (a ∷ x) [] h g e = absurd (omega (arith, ap length e, bits-length (a ∷ x), bits-length []))
 bitsOf-inj (a ∷ x) (b ∷ y) h g e =
-    let parts : counting (bit (a ∷ [])) 0 8 ++ bitsOf x ≡ counting (bit (b ∷ [])) 0 8 ++ bitsOf y = sym (bits-cons a x) ∙ e ∙ bits-cons b y in
+    let parts : counting (bit (a ∷ [])) 0 8 ++ bitsOf x ≡ counting (bit (b ∷ [])) 0 8 ++ bitsOf y =
+    sym (bits-cons a x) ∙ e ∙ bits-cons b y in
     let s = same-byte a b (ap (take 8) parts) (h .0) (g .0) in
     let t = bitsOf-inj x y (h .1) (g .1) (ap (drop 8) parts) in
     cc

@@ -1,5 +1,4 @@
 -- Ids inserted in either order give one list; what holds of ids holds of them sorted; and sorted they stand in order.
--- Assumes nothing.
 use Prim.Native.Nat.{suc}
 use mathlib.Core.Bool.{Bool, true, false, cond, true≢false}
 use mathlib.Core.List.{List, [], _∷_, _++_}
@@ -21,11 +20,13 @@ unfolding insert
 insert-past x y l e = rw e
 
 -- Both stand before all of l.
-pair-front : (x y : Id) (l : List Id) → insert x l ≡ x ∷ l → insert y l ≡ y ∷ l → insert x (insert y l) ≡ insert y (insert x l)
+pair-front : (x y : Id) (l : List Id) → insert x l ≡ x ∷ l → insert y l ≡ y ∷ l
+    → insert x (insert y l) ≡ insert y (insert x l)
 pair-front x y l e f = rw (e, f) (go (before x y) refl (before y x) refl)
   where
     go : (a : Bool) → before x y ≡ a → (b : Bool) → before y x ≡ b → insert x (y ∷ l) ≡ insert y (x ∷ l)
-    go true a true b = ap (λ z. insert z (y ∷ l)) (before-antisym x y a b) ∙ ap (λ z. insert y (z ∷ l)) (sym (before-antisym x y a b))
+    go true a true b = ap (λ z. insert z (y ∷ l)) (before-antisym x y a b)
+        ∙ ap (λ z. insert y (z ∷ l)) (sym (before-antisym x y a b))
     go true a false b = insert-here x y l a ∙ ap (x ∷_) (sym f) ∙ sym (insert-past y x l b)
     go false a true b = insert-past x y l a ∙ ap (y ∷_) e ∙ sym (insert-here y x l b)
     go false a false b = absurd (true≢false (sym (before-total x y a) ∙ b))
@@ -35,7 +36,8 @@ unfolding insert
 insert-comm x y [] = pair-front x y [] refl refl
 insert-comm x y (z ∷ l) = go (insert-comm x y l) (before x z) refl (before y z) refl
   where
-    late : (x y : Id) → before x z ≡ true → before y z ≡ false → insert x (insert y (z ∷ l)) ≡ insert y (insert x (z ∷ l))
+    late : (x y : Id) → before x z ≡ true → before y z ≡ false
+        → insert x (insert y (z ∷ l)) ≡ insert y (insert x (z ∷ l))
     late x y e f =
         ap (insert x) (insert-past y z l f) ∙ insert-here x z (insert y l) e ∙ ap (x ∷_) (sym (insert-past y z l f))
         ∙ sym (insert-past y x (z ∷ l) (not-before (before y x) refl)) ∙ ap (insert y) (sym (insert-here x z l e))
@@ -44,11 +46,13 @@ insert-comm x y (z ∷ l) = go (insert-comm x y l) (before x z) refl (before y z
         not-before true g = absurd (true≢false (sym (before-trans y x z g e) ∙ f))
         not-before false g = g
 
-    go : insert x (insert y l) ≡ insert y (insert x l) → (a : Bool) → before x z ≡ a → (b : Bool) → before y z ≡ b → insert x (insert y (z ∷ l)) ≡ insert y (insert x (z ∷ l))
+    go : insert x (insert y l) ≡ insert y (insert x l) → (a : Bool) → before x z ≡ a → (b : Bool) → before y z ≡ b
+        → insert x (insert y (z ∷ l)) ≡ insert y (insert x (z ∷ l))
     go ih true e true f = pair-front x y (z ∷ l) (insert-here x z l e) (insert-here y z l f)
     go ih true e false f = late x y e f
     go ih false e true f = sym (late y x f e)
-    go ih false e false f = ap (insert x) (insert-past y z l f) ∙ insert-past x z (insert y l) e ∙ ap (z ∷_) ih ∙ sym (insert-past y z (insert x l) f)
+    go ih false e false f = ap (insert x) (insert-past y z l f) ∙ insert-past x z (insert y l) e ∙ ap (z ∷_) ih
+        ∙ sym (insert-past y z (insert x l) f)
         ∙ ap (insert y) (sym (insert-past x z l e))
 
 -- All of a list put into a sorted one.
@@ -91,7 +95,8 @@ unfolding insert
 insert-length x [] = refl
 insert-length x (y ∷ ys) = go (insert-length x ys) (before x y)
   where
-    go : length (insert x ys) ≡ suc (length ys) → (b : Bool) → length (cond b (x ∷ y ∷ ys) (y ∷ insert x ys)) ≡ suc (suc (length ys))
+    go : length (insert x ys) ≡ suc (length ys) → (b : Bool)
+        → length (cond b (x ∷ y ∷ ys) (y ∷ insert x ys)) ≡ suc (suc (length ys))
     go ih true = refl
     go ih false = ap suc ih
 

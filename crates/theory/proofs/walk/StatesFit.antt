@@ -1,5 +1,4 @@
 -- What every state of the machine keeps to, for the arrays that hold it.
--- Assumes nothing.
 use Prim.Native.Nat.{ℕ, _*_, _≤_, _<_}
 use mathlib.Core.Bool.{Bool, true, false, _&&_, not, cond}
 use mathlib.Core.List.{List, [], _∷_, _++_}
@@ -12,7 +11,9 @@ use Rattle.paper.specs.Count.{All}
 use Rattle.paper.specs.Hearing.{Id, Prefix, bitsOf, matches, Heard, nothing, one, unaddressed, garble}
 use Rattle.paper.specs.Walk.{long, isNothing, nobody, done, stopped}
 use Rattle.paper.proofs.Bits.{bits-length}
-use Rattle.theory.specs.WalkMachine.{Marks, path, Phase, asked, mine, other, leaving, State, Next, going, ended, nextBit, request, to, leave, descend, silent, kept, confirming, hears, tell, tooLong, step, start}
+use Rattle.theory.specs.WalkMachine.{Marks, path, Phase, asked, mine, other, leaving, State, Next, going, ended}
+use Rattle.theory.specs.WalkMachine.{nextBit, request, to, leave, descend, silent, kept, confirming, hears, tell}
+use Rattle.theory.specs.WalkMachine.{tooLong, step, start}
 use Rattle.theory.proofs.walk.EachMember.{all-append}
 use Rattle.theory.proofs.walk.SortedIds.{sort-all, sort-length}
 
@@ -44,29 +45,43 @@ module _ (pre : Prefix) where
   longer : (marks : Marks) (b : Bool) (n : ℕ) → length (path pre marks) < n → length (path pre (b ∷ marks)) ≤ n
   longer marks b n h = omega (arith, length-append (path pre marks) (b ∷ []))
 
-  leave-fits : (marks : Marks) (ids : List Id) → length (path pre marks) ≤ 128 → length ids ≤ 64 → All Short ids → FitsNext (leave pre marks ids)
+  leave-fits : (marks : Marks) (ids : List Id) → length (path pre marks) ≤ 128 → length ids ≤ 64 → All Short ids
+      → FitsNext (leave pre marks ids)
   unfolding leave
   leave-fits [] ids d f s = record { depth = d; few = f; short = s; held = tt }
-  leave-fits (false ∷ marks) ids d f s = record { depth = longer marks true 128 (shorter marks false 128 d); few = f; short = s; held = tt }
+  leave-fits (false ∷ marks) ids d f s =
+      record { depth = longer marks true 128 (shorter marks false 128 d); few = f; short = s; held = tt }
   leave-fits (true ∷ marks) ids d f s = leave-fits marks ids (omega (arith, shorter marks true 128 d)) f s
 
   descend-fits : (marks : Marks) (ids : List Id) → length ids ≤ 64 → All Short ids → FitsNext (descend pre marks ids)
   unfolding descend
   descend-fits marks ids f s = go (ltb (length (path pre marks)) 128) refl
     where
-      go : (b : Bool) → ltb (length (path pre marks)) 128 ≡ b → FitsNext (cond b (to pre (false ∷ marks) ids asked) (ended (stopped 12)))
-      go true e = record { depth = longer marks false 128 (ltb-true (length (path pre marks)) 128 e); few = f; short = s; held = tt }
+      go : (b : Bool) → ltb (length (path pre marks)) 128 ≡ b
+          → FitsNext (cond b (to pre (false ∷ marks) ids asked) (ended (stopped 12)))
+      go true e = record {
+        depth = longer marks false 128
+            (ltb-true (length (path pre marks)) 128 e);
+        few = f;
+        short = s;
+        held = tt;
+      }
       go false e = tt
 
-  kept-fits : (marks : Marks) (ids : List Id) (id : Id) → length (path pre marks) ≤ 128 → All Short ids → Short id → FitsNext (kept pre marks ids id)
+  kept-fits : (marks : Marks) (ids : List Id) (id : Id) → length (path pre marks) ≤ 128 → All Short ids → Short id
+      → FitsNext (kept pre marks ids id)
   unfolding kept
   kept-fits marks ids id d s h = go (ltb (length ids) 64) refl
     where
-      go : (b : Bool) → ltb (length ids) 64 ≡ b → FitsNext (cond b (leave pre marks (ids ++ (id ∷ []))) (ended (stopped 15)))
-      go true e = leave-fits marks (ids ++ (id ∷ [])) d (omega (arith, ltb-true (length ids) 64 e, length-append ids (id ∷ []))) (all-append Short ids (id ∷ []) s (h, tt))
+      go : (b : Bool) → ltb (length ids) 64 ≡ b
+          → FitsNext (cond b (leave pre marks (ids ++ (id ∷ []))) (ended (stopped 15)))
+      go true e = leave-fits marks (ids ++ (id ∷ [])) d
+          (omega (arith, ltb-true (length ids) 64 e, length-append ids (id ∷ [])))
+          (all-append Short ids (id ∷ []) s (h, tt))
       go false e = tt
 
-  module _ (marks : Marks) (ids : List Id) (d : length (path pre marks) ≤ 128) (f : length ids ≤ 64) (s : All Short ids) where
+  module _ (marks : Marks) (ids : List Id) (d : length (path pre marks) ≤ 128) (f : length ids ≤ 64)
+      (s : All Short ids) where
     settle-fits : (id : Id) (b : Bool) → Short id → FitsNext (cond b (kept pre marks ids id) (descend pre marks ids))
     settle-fits id true h = kept-fits marks ids id d s h
     settle-fits id false h = descend-fits marks ids f s
@@ -102,7 +117,8 @@ module _ (pre : Prefix) where
     hears-fits unaddressed e = tt
     hears-fits garble e = descend-fits marks ids f s
 
-    tell-fits : (phase : Phase) (h : Heard) → Held (path pre marks) phase → tooLong phase h ≡ false → FitsNext (tell pre marks ids phase h)
+    tell-fits : (phase : Phase) (h : Heard) → Held (path pre marks) phase → tooLong phase h ≡ false
+        → FitsNext (tell pre marks ids phase h)
     unfolding tell tooLong
     tell-fits asked h w e = hears-fits h e
     tell-fits (mine id) h w e = record { depth = d; few = f; short = s; held = w }
@@ -113,7 +129,8 @@ pub step-fits : (s : State) (h : Heard) → Fits s → FitsNext (step s h)
 unfolding step
 step-fits s h t = go (tooLong (s .phase) h) refl
   where
-    go : (b : Bool) → tooLong (s .phase) h ≡ b → FitsNext (cond b (ended (stopped 14)) (tell (s .pre) (s .marks) (s .ids) (s .phase) h))
+    go : (b : Bool) → tooLong (s .phase) h ≡ b
+        → FitsNext (cond b (ended (stopped 14)) (tell (s .pre) (s .marks) (s .ids) (s .phase) h))
     go true e = tt
     go false e = tell-fits (s .pre) (s .marks) (s .ids) (t .depth) (t .few) (t .short) (s .phase) h (t .held) e
 
@@ -126,8 +143,21 @@ pub request-fits : (s : State) → Fits s → length (request s) ≤ 129
 unfolding request nobody
 request-fits s t = go (s .phase) (t .held)
   where
-    go : (phase : Phase) → Held (path (s .pre) (s .marks)) phase → length (request (record { pre = s .pre; marks = s .marks; ids = s .ids; phase = phase })) ≤ 129
+    go : (phase : Phase) → Held (path (s .pre) (s .marks)) phase
+        → length (request (record { pre = s .pre; marks = s .marks; ids = s .ids; phase = phase })) ≤ 129
     go asked w = omega (arith, t .depth)
-    go (mine id) w = omega (arith, w .0, w .1, length-append (path (s .pre) (s .marks)) (nextBit (path (s .pre) (s .marks)) id ∷ []))
-    go (other id good) w = omega (arith, w .0, w .1, length-append (path (s .pre) (s .marks)) (not (nextBit (path (s .pre) (s .marks)) id) ∷ []))
+    go (mine id) w = omega (
+      arith,
+      w .0,
+      w .1,
+      length-append (path (s .pre) (s .marks))
+          (nextBit (path (s .pre) (s .marks)) id ∷ []),
+    )
+    go (other id good) w = omega (
+      arith,
+      w .0,
+      w .1,
+      length-append (path (s .pre) (s .marks))
+          (not (nextBit (path (s .pre) (s .marks)) id) ∷ []),
+    )
     go leaving w = omega arith

@@ -1,5 +1,4 @@
 -- How a step of the walk can end: with 12, 14, 15 or 23, and done only by the deselect.
--- Assumes nothing.
 use Prim.Native.Nat.{ℕ}
 use mathlib.Core.Bool.{Bool, true, false, _&&_, cond}
 use mathlib.Core.List.{List, [], _∷_, _++_}
@@ -7,7 +6,8 @@ use lib.Dec.{ltb}
 use lib.ListN.{drop, length}
 use Rattle.paper.specs.Hearing.{Id, Prefix, bitsOf, matches, Heard, nothing, one, unaddressed, garble}
 use Rattle.paper.specs.Walk.{isNothing, done, stopped}
-use Rattle.theory.specs.WalkMachine.{Marks, path, Phase, asked, mine, other, leaving, State, Next, going, ended, to, leave, descend, silent, kept, confirming, hears, tell, tooLong, step}
+use Rattle.theory.specs.WalkMachine.{Marks, path, Phase, asked, mine, other, leaving, State, Next, going, ended}
+use Rattle.theory.specs.WalkMachine.{to, leave, descend, silent, kept, confirming, hears, tell, tooLong, step}
 
 -- It is not done, and where it is stopped its number satisfies P.
 abbrev pub Undone : (ℕ → Type 0) → Next → Type 0
@@ -62,7 +62,8 @@ module _ (P : ℕ → Type 0) (deep : P 12) (long : P 14) (full : P 15) (bare : 
   hears-undone marks ids unaddressed = bare
   hears-undone marks ids garble = descend-undone marks ids
 
-  tell-undone : (marks : Marks) (ids : List Id) (phase : Phase) (h : Heard) → Staying phase → Undone P (tell pre marks ids phase h)
+  tell-undone : (marks : Marks) (ids : List Id) (phase : Phase) (h : Heard) → Staying phase
+      → Undone P (tell pre marks ids phase h)
   unfolding tell
   tell-undone marks ids asked h a = hears-undone marks ids h
   tell-undone marks ids (mine id) h a = tt
@@ -73,7 +74,8 @@ module _ (P : ℕ → Type 0) (deep : P 12) (long : P 14) (full : P 15) (bare : 
       go false = descend-undone marks ids
   tell-undone marks ids leaving h a = absurd a
 
-pub step-undone : (P : ℕ → Type 0) → P 12 → P 14 → P 15 → P 23 → (s : State) (h : Heard) → Staying (s .phase) → Undone P (step s h)
+pub step-undone : (P : ℕ → Type 0) → P 12 → P 14 → P 15 → P 23 → (s : State) (h : Heard) → Staying (s .phase)
+    → Undone P (step s h)
 unfolding step
 step-undone P deep long full bare s h a = go (tooLong (s .phase) h)
   where

@@ -1,5 +1,4 @@
 -- What holds of every way a conversation can go: a rule for each form.
--- Assumes nothing.
 use Prim.Native.Nat.{ℕ, suc}
 use mathlib.Core.Bool.{Bool, true, false, cond}
 use mathlib.Core.Path.{_≡_, refl}
@@ -12,19 +11,23 @@ Always Q k (return a) = Q (done a) k
 Always Q k (stop c) = Q (stopped c) k
 Always Q k (select p f) = (h : Heard) → Always Q (suc k) (f h)
 
-pub always-run : {A : Type 0} (Q : Ended A → ℕ → Type 0) (wire : Wire) (k : ℕ) (w : Walk A) → Always Q k w → Q ((run wire k w) .0) ((run wire k w) .1)
+pub always-run : {A : Type 0} (Q : Ended A → ℕ → Type 0) (wire : Wire) (k : ℕ) (w : Walk A) → Always Q k w
+    → Q ((run wire k w) .0) ((run wire k w) .1)
 unfolding run
 always-run Q wire k (return a) h = h
 always-run Q wire k (stop c) h = h
 always-run Q wire k (select p f) h = always-run Q wire (suc k) (f (wire k p)) (h (wire k p))
 
-pub always-weaken : {A : Type 0} (Q R : Ended A → ℕ → Type 0) (k : ℕ) (w : Walk A) → Always Q k w → ((e : Ended A) (c : ℕ) → Q e c → R e c) → Always R k w
+pub always-weaken : {A : Type 0} (Q R : Ended A → ℕ → Type 0) (k : ℕ) (w : Walk A) → Always Q k w
+    → ((e : Ended A) (c : ℕ) → Q e c → R e c) → Always R k w
 always-weaken Q R k (return a) h g = g (done a) k h
 always-weaken Q R k (stop c) h g = g (stopped c) k h
 always-weaken Q R k (select p f) h g = λ x. always-weaken Q R (suc k) (f x) (h x) g
 
-pub always-bind : {A B : Type 0} (Q : Ended A → ℕ → Type 0) (R : Ended B → ℕ → Type 0) (k : ℕ) (m : Walk A) (f : A → Walk B) → Always Q k m
-    → ((a : A) (c : ℕ) → Q (done a) c → Always R c (f a)) → ((r c : ℕ) → Q (stopped r) c → R (stopped r) c) → Always R k (m >>= f)
+pub always-bind : {A B : Type 0} (Q : Ended A → ℕ → Type 0) (R : Ended B → ℕ → Type 0) (k : ℕ) (m : Walk A)
+    (f : A → Walk B) → Always Q k m
+    → ((a : A) (c : ℕ) → Q (done a) c → Always R c (f a)) → ((r c : ℕ) → Q (stopped r) c → R (stopped r) c)
+    → Always R k (m >>= f)
 unfolding _>>=_
 always-bind Q R k (return a) f h g s = g a k h
 always-bind Q R k (stop c) f h g s = s c k h

@@ -1,5 +1,4 @@
 -- `walk::begin` meets its contract.
--- Assumes nothing.
 use Rattle.walk.proofs.Ways.{begin-is}
 use borrow.Author.Needs.{needs}
 use Rattle.walk.proofs.begin.Statement.{statement}

@@ -1,5 +1,4 @@
 -- `walk::mark_at` meets its contract.
--- Assumes nothing.
 use Rattle.walk.proofs.Ways.{mark-in}
 use borrow.Author.Needs.{needs}
 use Rattle.walk.proofs.mark_at.Statement.{statement}

@@ -1,5 +1,4 @@
 -- `walk::no_place` meets its contract.
--- Assumes nothing.
 use Rattle.walk.proofs.Ways.{no-place-is}
 use borrow.Author.Needs.{needs}
 use Rattle.walk.proofs.no_place.Statement.{statement}

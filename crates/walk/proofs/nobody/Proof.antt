@@ -1,5 +1,4 @@
 -- `walk::nobody` meets its contract.
--- Assumes nothing.
 use borrow.Author.Needs.{needs}
 use Rattle.walk.specs.Moves.{nobody}
 use Rattle.walk.proofs.nobody.Statement.{statement}

@@ -1,5 +1,4 @@
 -- `walk_step::confirming` meets its contract.
--- Assumes nothing.
 use Rattle.walk_step.proofs.Ways.{confirming-on, confirming-all}
 use borrow.Author.Needs.{needs}
 use Rattle.walk_step.proofs.confirming.Statement.{statement}

@@ -1,5 +1,4 @@
 -- `walk_step::descend` meets its contract.
--- Assumes nothing.
 use Rattle.walk_step.proofs.Ways.{descend-no, descend-on}
 use borrow.Author.Needs.{needs}
 use Rattle.walk_step.proofs.descend.Statement.{statement}

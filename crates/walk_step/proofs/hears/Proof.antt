@@ -1,5 +1,4 @@
 -- `walk_step::hears` meets its contract.
--- Assumes nothing.
 use Rattle.walk_step.proofs.Ways.{hears-one, hears-at, hears-other}
 use Rattle.walk_step.specs.Steps.{hears}
 use borrow.Author.Needs.{needs}

@@ -1,5 +1,4 @@
 -- `walk_step::kept` meets its contract.
--- Assumes nothing.
 use Rattle.walk_step.proofs.Ways.{kept-full, kept-in}
 use borrow.Author.Needs.{needs}
 use Rattle.walk_step.proofs.kept.Statement.{statement}

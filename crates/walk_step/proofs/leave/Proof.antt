@@ -1,5 +1,4 @@
 -- `walk_step::leave` meets its contract.
--- Assumes nothing.
 use Rattle.walk_step.proofs.Ways.{deep-at, leave-on, leave-up}
 use borrow.Author.Needs.{needs}
 use Rattle.walk_step.proofs.leave.Statement.{statement}

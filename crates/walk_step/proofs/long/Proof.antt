@@ -1,5 +1,4 @@
 -- `walk_step::long` meets its contract.
--- Assumes nothing.
 use Rattle.walk_step.specs.Steps.{long}
 use borrow.Author.Needs.{needs}
 use Rattle.walk_step.proofs.long.Statement.{statement}

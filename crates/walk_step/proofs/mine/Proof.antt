@@ -1,5 +1,4 @@
 -- `walk_step::mine` meets its contract.
--- Assumes nothing.
 use Rattle.walk_step.proofs.Ways.{mine-long, mine-else}
 use borrow.Author.Needs.{needs}
 use Rattle.walk_step.proofs.mine.Statement.{statement}

@@ -1,5 +1,4 @@
 -- `walk_step::on` meets its contract.
--- Assumes nothing.
 use Rattle.walk_step.proofs.Ways.{on-is}
 use borrow.Author.Needs.{needs}
 use Rattle.walk_step.proofs.on.Statement.{statement}

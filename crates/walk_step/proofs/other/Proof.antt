@@ -1,5 +1,4 @@
 -- `walk_step::other` meets its contract.
--- Assumes nothing.
 use Rattle.walk_step.proofs.Ways.{other-long, other-else}
 use borrow.Author.Needs.{needs}
 use Rattle.walk_step.proofs.other.Statement.{statement}

@@ -1,5 +1,4 @@
 -- `walk_step::settled` meets its contract.
--- Assumes nothing.
 use Rattle.walk_step.proofs.Ways.{holding-deep, settled-yes, settled-no}
 use borrow.Author.Needs.{needs}
 use Rattle.walk_step.proofs.settled.Statement.{statement}

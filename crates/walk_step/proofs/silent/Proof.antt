@@ -1,5 +1,4 @@
 -- `walk_step::silent` meets its contract.
--- Assumes nothing.
 use Rattle.walk_step.proofs.Ways.{deep-at, silent-zero, silent-else}
 use borrow.Author.Needs.{needs}
 use Rattle.walk_step.proofs.silent.Statement.{statement}

@@ -1,5 +1,4 @@
 -- `walk_step::step` meets its contract.
--- Assumes nothing.
 use Rattle.walk_step.proofs.Ways.{step-deep, step-many, step-tells}
 use borrow.Author.Needs.{needs}
 use Rattle.walk_step.proofs.step.Statement.{statement}

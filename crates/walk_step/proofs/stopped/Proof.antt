@@ -1,5 +1,4 @@
 -- `walk_step::stopped` meets its contract.
--- Assumes nothing.
 use Rattle.walk_step.proofs.Ways.{stopped-is}
 use borrow.Author.Needs.{needs}
 use Rattle.walk_step.proofs.stopped.Statement.{statement}

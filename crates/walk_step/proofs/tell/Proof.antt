@@ -1,5 +1,4 @@
 -- `walk_step::tell` meets its contract.
--- Assumes nothing.
 use Rattle.walk_step.proofs.Ways.{tell-at, tell-mine, tell-leaving}
 use Rattle.walk_step.specs.Steps.{tell}
 use borrow.Author.Needs.{needs}

@@ -1,5 +1,4 @@
 -- `wire::copy` meets its contract.
--- Assumes nothing.
 use borrow.Author.Needs.{needs}
 use lib.ListN.{length, take, drop}
 use mathlib.Core.List.{_++_}

@@ -1,5 +1,4 @@
 -- `wire::fill` meets its contract.
--- Assumes nothing.
 use borrow.Author.Needs.{needs}
 use lib.ListN.{length, take, drop, replicate}
 use mathlib.Core.List.{_++_}

@@ -1,5 +1,4 @@
 -- `wire::get16` meets its contract.
--- Assumes nothing.
 use Rattle.paper.proofs.Words.{field-2}
 use borrow.Author.Needs.{needs}
 use Rattle.wire.proofs.get16.Statement.{statement}

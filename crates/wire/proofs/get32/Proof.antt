@@ -1,5 +1,4 @@
 -- `wire::get32` meets its contract.
--- Assumes nothing.
 use Rattle.paper.proofs.Words.{field-4}
 use borrow.Author.Needs.{needs}
 use Rattle.wire.proofs.get32.Statement.{statement}

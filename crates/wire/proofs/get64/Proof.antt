@@ -1,5 +1,4 @@
 -- `wire::get64` meets its contract.
--- Assumes nothing.
 use Rattle.paper.proofs.Words.{field-8}
 use borrow.Author.Needs.{needs}
 use Rattle.wire.proofs.get64.Statement.{statement}

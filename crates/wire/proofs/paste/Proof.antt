@@ -1,5 +1,4 @@
 -- `wire::paste` meets its contract.
--- Assumes nothing.
 use Rattle.lore.proofs.Parts.{put-part}
 use borrow.Author.Needs.{needs}
 use Rattle.wire.proofs.paste.Statement.{statement}

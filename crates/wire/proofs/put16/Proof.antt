@@ -1,5 +1,4 @@
 -- `wire::put16` meets its contract.
--- Assumes nothing.
 use native.Mathlib.Numerals.{add-one}
 use lib.Seq.{sets-eq}
 use lib.ListN.{length-set}

@@ -1,5 +1,4 @@
 -- `wire::put32` meets its contract.
--- Assumes nothing.
 use native.Mathlib.Numerals.{add-one}
 use Prim.Native.Nat.{ℕ, suc, _+_}
 use mathlib.Core.Path.{_≡_}

@@ -1,5 +1,4 @@
 -- `wire::put64` meets its contract.
--- Assumes nothing.
 use Rattle.wire.proofs.Ways.{put-eight}
 use borrow.Author.Needs.{needs}
 use Rattle.wire.proofs.put64.Statement.{statement}

@@ -1,5 +1,4 @@
 -- `wire::put8` meets its contract.
--- Assumes nothing.
 use Rattle.wire.proofs.Ways.{put-one}
 use borrow.Author.Needs.{needs}
 use Rattle.wire.proofs.put8.Statement.{statement}

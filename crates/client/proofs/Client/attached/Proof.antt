@@ -1,5 +1,4 @@
 -- `client::Client::attached` meets its contract.
--- Assumes nothing.
 use borrow.Author.Needs.{needs}
 use Rattle.client.proofs.Ways.{attached-is}
 use Rattle.client.proofs.Client.attached.Statement.{statement}

@@ -1,5 +1,4 @@
 -- `client::Client::new` meets its contract.
--- Assumes nothing.
 use Rattle.client.proofs.Ways.{fresh-is}
 use borrow.Author.Needs.{needs}
 use Rattle.client.proofs.Client.new.Statement.{statement}

@@ -1,5 +1,4 @@
 -- `client::Front::cleared` meets its contract.
--- Assumes nothing.
 use Rattle.client.proofs.Ways.{cleared-is}
 use borrow.Author.Needs.{needs}
 use Rattle.client.proofs.Front.cleared.Statement.{statement}

@@ -1,5 +1,4 @@
 -- `client::Front::ends` meets its contract.
--- Assumes nothing.
 use Rattle.client.proofs.Ways.{ends-is}
 use borrow.Author.Needs.{needs}
 use Rattle.client.proofs.Front.ends.Statement.{statement}

@@ -1,5 +1,4 @@
 -- `client::Front::idle` meets its contract.
--- Assumes nothing.
 use Rattle.client.proofs.Ways.{idle-is}
 use borrow.Author.Needs.{needs}
 use Rattle.client.proofs.Front.idle.Statement.{statement}

@@ -1,5 +1,4 @@
 -- `client::Front::onward` meets its contract.
--- Assumes nothing.
 use Rattle.client.proofs.Ways.{onward-is}
 use borrow.Author.Needs.{needs}
 use Rattle.client.proofs.Front.onward.Statement.{statement}

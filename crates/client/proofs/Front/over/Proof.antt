@@ -1,5 +1,4 @@
 -- `client::Front::over` meets its contract.
--- Assumes nothing.
 use Rattle.client.proofs.Ways.{over-gives, over-clears}
 use borrow.Author.Needs.{needs}
 use Rattle.client.proofs.Front.over.Statement.{statement}

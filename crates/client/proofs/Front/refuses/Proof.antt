@@ -1,5 +1,4 @@
 -- `client::Front::refuses` meets its contract.
--- Assumes nothing.
 use Rattle.client.proofs.Ways.{refuses-is}
 use borrow.Author.Needs.{needs}
 use Rattle.client.proofs.Front.refuses.Statement.{statement}

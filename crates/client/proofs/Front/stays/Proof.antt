@@ -1,5 +1,4 @@
 -- `client::Front::stays` meets its contract.
--- Assumes nothing.
 use Rattle.client.proofs.Ways.{stays-is}
 use borrow.Author.Needs.{needs}
 use Rattle.client.proofs.Front.stays.Statement.{statement}

@@ -1,5 +1,4 @@
 -- `client::Front::stops` meets its contract.
--- Assumes nothing.
 use Rattle.client.proofs.Ways.{stops-is}
 use borrow.Author.Needs.{needs}
 use Rattle.client.proofs.Front.stops.Statement.{statement}

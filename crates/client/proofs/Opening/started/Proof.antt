@@ -1,5 +1,4 @@
 -- `client::Opening::started` meets its contract.
--- Assumes nothing.
 use Rattle.client.proofs.Ways.{started-is}
 use borrow.Author.Needs.{needs}
 use Rattle.client.proofs.Opening.started.Statement.{statement}

@@ -1,5 +1,4 @@
 -- `client::Opening::walk` meets its contract.
--- Assumes nothing.
 use Rattle.client.proofs.Ways.{walk-begins}
 use borrow.Author.Needs.{needs}
 use Rattle.client.proofs.Opening.walk.Statement.{statement}

@@ -1,5 +1,4 @@
 -- `client_record::answer::goes` meets its contract.
--- Assumes nothing.
 use Rattle.client_record.proofs.answer.Ways.{goes-on, goes-over, goes-refused}
 use borrow.Author.Needs.{needs}
 use Rattle.client_record.proofs.answer.goes.Statement.{statement}

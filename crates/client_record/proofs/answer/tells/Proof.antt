@@ -1,5 +1,4 @@
 -- `client_record::answer::tells` meets its contract.
--- Assumes nothing.
 use Rattle.client_record.proofs.answer.Ways.{payload-fits, payload-within, tells-lost, tells-device, tells-ok}
 use borrow.Author.Needs.{needs}
 use Rattle.client_record.proofs.answer.tells.Statement.{statement}

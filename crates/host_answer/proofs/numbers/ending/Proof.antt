@@ -1,5 +1,4 @@
 -- `host_answer::numbers::ending` meets its contract.
--- Assumes nothing.
 use borrow.Author.Needs.{needs}
 use Rattle.host_answer.specs.Numbers.{ending}
 use Rattle.host_answer.proofs.numbers.ending.Statement.{statement}

@@ -1,5 +1,4 @@
 -- `host_answer::numbers::gain_of` meets its contract.
--- Assumes nothing.
 use Rattle.host_answer.specs.Numbers.{gainOf}
 use Rattle.lore.proofs.Choice.{at-value}
 use borrow.Author.Needs.{needs}

@@ -1,5 +1,4 @@
 -- `host_answer::numbers::going` meets its contract.
--- Assumes nothing.
 use Rattle.host_answer.proofs.numbers.Ways.{going-is}
 use borrow.Author.Needs.{needs}
 use Rattle.host_answer.proofs.numbers.going.Statement.{statement}

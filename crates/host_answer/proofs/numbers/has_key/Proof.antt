@@ -1,5 +1,4 @@
 -- `host_answer::numbers::has_key` meets its contract.
--- Assumes nothing.
 use Rattle.host_answer.specs.Numbers.{hasKey}
 use borrow.Author.Needs.{needs}
 use Rattle.host_answer.proofs.numbers.has_key.Statement.{statement}

@@ -1,5 +1,4 @@
 -- `host_answer::numbers::heard_tag` meets its contract.
--- Assumes nothing.
 use Rattle.host_answer.specs.Numbers.{heardTag}
 use borrow.Author.Needs.{needs}
 use Rattle.host_answer.proofs.numbers.heard_tag.Statement.{statement}

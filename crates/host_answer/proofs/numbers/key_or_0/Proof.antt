@@ -1,5 +1,4 @@
 -- `host_answer::numbers::key_or_0` meets its contract.
--- Assumes nothing.
 use Rattle.host_answer.specs.Numbers.{keyOr0}
 use borrow.Author.Needs.{needs}
 use Rattle.host_answer.proofs.numbers.key_or_0.Statement.{statement}

@@ -1,5 +1,4 @@
 -- `host_answer::numbers::note_of` meets its contract.
--- Assumes nothing.
 use Rattle.lore.proofs.Choice.{at-value}
 use Rattle.host_answer.proofs.numbers.Ways.{refused-is}
 use Rattle.host_answer.specs.Numbers.{noteOf}

@@ -1,5 +1,4 @@
 -- `host_answer::numbers::outcome_note` meets its contract.
--- Assumes nothing.
 use Rattle.host_answer.specs.Numbers.{outcomeNote}
 use Rattle.lore.proofs.Choice.{at-value}
 use Rattle.host_answer.proofs.numbers.Ways.{ending-is}

@@ -1,5 +1,4 @@
 -- `host_answer::numbers::refusal_note` meets its contract.
--- Assumes nothing.
 use Rattle.host_answer.specs.Numbers.{refusalNote}
 use Rattle.host_turn.proofs.Ways.{at-case}
 use Rattle.host_answer.proofs.numbers.Ways.{refusing-with}

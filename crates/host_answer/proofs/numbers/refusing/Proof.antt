@@ -1,5 +1,4 @@
 -- `host_answer::numbers::refusing` meets its contract.
--- Assumes nothing.
 use Rattle.host_answer.proofs.numbers.Ways.{refusing-is}
 use borrow.Author.Needs.{needs}
 use Rattle.host_answer.proofs.numbers.refusing.Statement.{statement}

@@ -1,5 +1,4 @@
 -- `host_buffers::codes::coded` meets its contract.
--- Assumes nothing.
 use Rattle.host_buffers.specs.Codes.{coded}
 use borrow.Author.Needs.{needs}
 use Rattle.host_buffers.proofs.codes.coded.Statement.{statement}

@@ -1,5 +1,4 @@
 -- `host_buffers::codes::put_uid` meets its contract.
--- Assumes nothing.
 use Rattle.ids.proofs.Laws.{id-fits, id-part}
 use Rattle.host_buffers.proofs.codes.Ways.{uid-short, uid-room, uid-put}
 use borrow.Author.Needs.{needs}

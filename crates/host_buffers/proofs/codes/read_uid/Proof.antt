@@ -1,5 +1,4 @@
 -- `host_buffers::codes::read_uid` meets its contract.
--- Assumes nothing.
 use Rattle.host_buffers.proofs.codes.Ways.{uid-read, uid-bad}
 use borrow.Author.Needs.{needs}
 use Rattle.host_buffers.proofs.codes.read_uid.Statement.{statement}

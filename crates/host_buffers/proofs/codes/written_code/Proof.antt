@@ -1,5 +1,4 @@
 -- `host_buffers::codes::written_code` meets its contract.
--- Assumes nothing.
 use Rattle.host_buffers.specs.Codes.{writtenCode}
 use Rattle.lore.proofs.Choice.{at-value}
 use borrow.Author.Needs.{needs}

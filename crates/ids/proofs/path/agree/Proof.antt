@@ -1,5 +1,4 @@
 -- `ids::path::agree` meets its contract.
--- Assumes nothing.
 use borrow.Author.Needs.{needs}
 use Rattle.ids.proofs.path.agree.Statement.{statement}
 use Rattle.ids.proofs.path.agree.Tie as tie

@@ -1,5 +1,4 @@
 -- `ids::path::begins` meets its contract. The loop's invariant: the bits from k on decide.
--- Assumes nothing.
 use mathlib.Core.Path.{_≡_}
 use Prim.Native.Nat.{_≤_, _-_}
 use lib.ListN.{length, take, drop}
@@ -10,7 +9,9 @@ use Rattle.ids.proofs.path.begins.Statement.{statement}
 use Rattle.ids.proofs.path.begins.Tie as tie
 
 abbrev Inv-loop : tie.InvT-loop
-Inv-loop path bits n x k₀ k = (n ≤ 16) × (bits ≤ 128) × (length path ≡ 16) × (length x ≡ 16) × (begins (drop k (take bits (bitsOf path))) (drop k (bitsOf (take n x))) ≡ begins (take bits (bitsOf path)) (bitsOf (take n x)))
+Inv-loop path bits n x k₀ k = (n ≤ 16) × (bits ≤ 128) × (length path ≡ 16) × (length x ≡ 16)
+    × (begins (drop k (take bits (bitsOf path))) (drop k (bitsOf (take n x)))
+    ≡ begins (take bits (bitsOf path)) (bitsOf (take n x)))
 
 abbrev μ-loop : tie.MeasureT-loop
 μ-loop path bits n x k₀ k = bits - k

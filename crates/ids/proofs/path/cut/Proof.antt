@@ -1,5 +1,4 @@
 -- `ids::path::cut` meets its contract.
--- Assumes nothing.
 use Prim.Native.Nat.{_/_}
 use lib.ListN.{set}
 use mathlib.Core.Path.{ap}

@@ -1,5 +1,4 @@
 -- `ids::path::low_bits` meets its contract.
--- Assumes nothing.
 use lib.Pow.{pow-pos}
 use lib.Bits.{and-mask}
 use Rattle.ids.proofs.Shift.{one-shl}

@@ -1,5 +1,4 @@
 -- `image::Info::chunk` meets its contract.
--- Assumes nothing.
 use Rattle.image.proofs.Ways.{chunk-small, chunk-most}
 use borrow.Author.Needs.{needs}
 use Rattle.image.proofs.Info.chunk.Statement.{statement}

@@ -1,5 +1,4 @@
 -- `image::Info::erase_after` meets its contract.
--- Assumes nothing.
 use Rattle.image.proofs.Ways.{still, next-erase, last-erase}
 use borrow.Author.Needs.{needs}
 use Rattle.image.proofs.Info.erase_after.Statement.{statement}

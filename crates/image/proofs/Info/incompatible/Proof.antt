@@ -1,5 +1,4 @@
 -- `image::Info::incompatible` meets its contract.
--- Assumes nothing.
 use Rattle.image.proofs.Ways.{no-key-set, key-missing, key-compared}
 use borrow.Author.Needs.{needs}
 use Rattle.image.proofs.Info.incompatible.Statement.{statement}

@@ -1,5 +1,4 @@
 -- `image::Info::sound` meets its contract.
--- Assumes nothing.
 use borrow.Author.Needs.{needs}
 use Rattle.image.proofs.Ways.{no-size, no-capacity, sizes}
 use Rattle.image.proofs.Info.sound.Statement.{statement}

@@ -1,5 +1,4 @@
 -- `image::Info::spans_too_far` meets its contract.
--- Assumes nothing.
 use Rattle.image.proofs.Ways.{no-span, span, rounds}
 use borrow.Author.Needs.{needs}
 use Rattle.image.proofs.Info.spans_too_far.Statement.{statement}

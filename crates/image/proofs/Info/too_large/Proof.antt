@@ -1,5 +1,4 @@
 -- `image::Info::too_large` meets its contract.
--- Assumes nothing.
 use Rattle.paper.specs.Answers.{tooLarge}
 use mathlib.Core.Path.{refl}
 use borrow.Author.Needs.{needs}

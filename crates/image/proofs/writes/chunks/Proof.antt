@@ -1,5 +1,4 @@
 -- `image::writes::chunks` meets its contract.
--- Assumes nothing.
 use Rattle.image.proofs.writes.Ways.{none-at-all, sum-fits, all-of-them}
 use borrow.Author.Needs.{needs}
 use Rattle.image.proofs.writes.chunks.Statement.{statement}

@@ -1,5 +1,4 @@
 -- `image::writes::chunks_to` meets its contract.
--- Assumes nothing.
 use Rattle.image.proofs.writes.Ways.{no-chunks, next-fits, so-many}
 use borrow.Author.Needs.{needs}
 use Rattle.image.proofs.writes.chunks_to.Statement.{statement}

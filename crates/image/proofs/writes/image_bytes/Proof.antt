@@ -1,5 +1,4 @@
 -- `image::writes::image_bytes` meets its contract.
--- Assumes nothing.
 use Rattle.image.proofs.writes.Ways.{past-end, all-held, some-held}
 use borrow.Author.Needs.{needs}
 use Rattle.image.proofs.writes.image_bytes.Statement.{statement}

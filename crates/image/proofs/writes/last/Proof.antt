@@ -1,5 +1,4 @@
 -- `image::writes::last` meets its contract.
--- Assumes nothing.
 use Rattle.image.proofs.writes.Ways.{last-is}
 use borrow.Author.Needs.{needs}
 use Rattle.image.proofs.writes.last.Statement.{statement}

@@ -1,5 +1,4 @@
 -- `image::writes::left` meets its contract.
--- Assumes nothing.
 use Rattle.image.proofs.writes.Ways.{padded-fits}
 use borrow.Author.Needs.{needs}
 use Rattle.image.proofs.writes.left.Statement.{statement}

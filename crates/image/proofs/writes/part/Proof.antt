@@ -1,5 +1,4 @@
 -- `image::writes::part` meets its contract.
--- Assumes nothing.
 use Rattle.image.proofs.writes.Ways.{part-none, part-fits, part-within, part-held}
 use borrow.Author.Needs.{needs}
 use Rattle.image.proofs.writes.part.Statement.{statement}

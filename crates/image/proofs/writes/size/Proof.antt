@@ -1,5 +1,4 @@
 -- `image::writes::size` meets its contract.
--- Assumes nothing.
 use Rattle.image.proofs.writes.Ways.{size-chunk, size-rest}
 use borrow.Author.Needs.{needs}
 use Rattle.image.proofs.writes.size.Statement.{statement}

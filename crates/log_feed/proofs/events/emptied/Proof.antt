@@ -1,5 +1,4 @@
 -- `log_feed::events::emptied` meets its contract.
--- Assumes nothing.
 use Rattle.log_feed.proofs.events.Ways.{first-empty, record-over, record-taken, ended-empty}
 use borrow.Author.Needs.{needs}
 use Rattle.log_feed.proofs.events.emptied.Statement.{statement}

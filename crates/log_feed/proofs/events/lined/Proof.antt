@@ -1,5 +1,4 @@
 -- `log_feed::events::lined` meets its contract.
--- Assumes nothing.
 use Rattle.log_feed.proofs.events.Ways.{first-line, line-over, line-joined, ended-line}
 use borrow.Author.Needs.{needs}
 use Rattle.log_feed.proofs.events.lined.Statement.{statement}

@@ -1,5 +1,4 @@
 -- `log_feed::events::met` meets its contract.
--- Assumes nothing.
 use Rattle.log_feed.proofs.events.Ways.{met-more, met-line, met-empty, met-bad}
 use borrow.Author.Needs.{needs}
 use Rattle.log_feed.proofs.events.met.Statement.{statement}

@@ -1,5 +1,4 @@
 -- `log_lines::Reader::feed` meets its contract.
--- Assumes nothing.
 use borrow.Author.Needs.{needs}
 use mathlib.Core.Path.{_≡_}
 use Prim.Native.Nat.{_-_}
@@ -10,7 +9,8 @@ use Rattle.log_lines.proofs.Reader.feed.Statement.{statement}
 use Rattle.log_lines.proofs.Reader.feed.Tie as tie
 
 abbrev Inv-loop : tie.InvT-loop
-Inv-loop joined from piece buf₀ w₀ i₀ buf w i = (length buf ≡ length buf₀) × (feed joined i w buf (drop i piece) ≡ feed joined from w₀ buf₀ (drop from piece))
+Inv-loop joined from piece buf₀ w₀ i₀ buf w i =
+    (length buf ≡ length buf₀) × (feed joined i w buf (drop i piece) ≡ feed joined from w₀ buf₀ (drop from piece))
 
 abbrev μ-loop : tie.MeasureT-loop
 μ-loop joined from piece buf₀ w₀ i₀ buf w i = length piece - i

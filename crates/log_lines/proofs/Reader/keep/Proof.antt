@@ -1,5 +1,4 @@
 -- `log_lines::Reader::keep` meets its contract.
--- Assumes nothing.
 use Rattle.lore.proofs.Choice.{ways}
 use Rattle.log_lines.specs.Reading.{keep}
 use borrow.Author.Needs.{needs}

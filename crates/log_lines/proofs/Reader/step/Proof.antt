@@ -1,5 +1,4 @@
 -- `log_lines::Reader::step` meets its contract.
--- Assumes nothing.
 use Rattle.log_lines.proofs.Ways.{on-half, on-whole, on-line, on-empty, on-bad}
 use borrow.Author.Needs.{needs}
 use Rattle.log_lines.proofs.Reader.step.Statement.{statement}

@@ -1,5 +1,4 @@
 -- `log_run::Replay::answer` meets its contract.
--- Assumes nothing.
 use Rattle.log_run.proofs.Ways.{before-first, before-record, at-end}
 use borrow.Author.Needs.{needs}
 use Rattle.log_run.proofs.Replay.answer.Statement.{statement}

@@ -1,5 +1,4 @@
 -- `log_run::Replay::opens` meets its contract.
--- Assumes nothing.
 use Rattle.log_run.proofs.Ways.{no-byte, other-byte, opened}
 use borrow.Author.Needs.{needs}
 use Rattle.log_run.proofs.Replay.opens.Statement.{statement}

@@ -1,5 +1,4 @@
 -- `log_run::Replay::takes` meets its contract.
--- Assumes nothing.
 use Rattle.log_run.proofs.Ways.{took}
 use borrow.Author.Needs.{needs}
 use Rattle.log_run.proofs.Replay.takes.Statement.{statement}

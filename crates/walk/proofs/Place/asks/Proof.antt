@@ -1,5 +1,4 @@
 -- `walk::Place::asks` meets its contract.
--- Assumes nothing.
 use Rattle.walk.proofs.Ways.{asks-deep, asks-path, asks-mine, asks-other, asks-nobody}
 use borrow.Author.Needs.{needs}
 use Rattle.walk.proofs.Place.asks.Statement.{statement}

@@ -1,5 +1,4 @@
 -- `walk::Place::child` meets its contract.
--- Assumes nothing.
 use Rattle.walk.proofs.Ways.{child-zero, child-over, child-one}
 use borrow.Author.Needs.{needs}
 use Rattle.walk.proofs.Place.child.Statement.{statement}

@@ -1,5 +1,5 @@
--- `walk::Place::climb` meets its contract. The loop's invariant: the climb from here ends where the climb from the start does.
--- Assumes nothing.
+-- `walk::Place::climb` meets its contract. The loop's invariant: the climb from here ends where the climb from the
+-- start does.
 use Rattle.walk.proofs.Ways.{deep, climb-less, climb-on, climb-end}
 use Prim.Native.Nat.{_≤_}
 use lib.ListN.{length}
@@ -13,7 +13,8 @@ use Rattle.walk.proofs.Place.climb.Tie as tie
 abbrev Inv-loop : tie.InvT-loop
 Inv-loop p path₀ marks₀ d₀ path marks d =
     ((d ≤ 128) × (length marks ≡ 128))
-    × ((t : Table) → climb d (walkOf (record { path = path; depth = d; marks = marks; candidate = p .candidate }) t) ≡ climb (p .depth) (walkOf p t))
+    × ((t : Table) → climb d (walkOf (record { path = path; depth = d; marks = marks; candidate = p .candidate }) t)
+    ≡ climb (p .depth) (walkOf p t))
 
 abbrev μ-loop : tie.MeasureT-loop
 μ-loop p path₀ marks₀ d₀ path marks d = d

@@ -1,5 +1,4 @@
 -- `walk::Place::lower` meets its contract.
--- Assumes nothing.
 use Rattle.walk.proofs.Ways.{lower-is}
 use borrow.Author.Needs.{needs}
 use Rattle.walk.proofs.Place.lower.Statement.{statement}

@@ -1,5 +1,4 @@
 -- `walk::Place::mark` meets its contract.
--- Assumes nothing.
 use Rattle.walk.proofs.Ways.{mark-is}
 use borrow.Author.Needs.{needs}
 use Rattle.walk.proofs.Place.mark.Statement.{statement}

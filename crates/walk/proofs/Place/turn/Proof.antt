@@ -1,5 +1,4 @@
 -- `walk::Place::turn` meets its contract.
--- Assumes nothing.
 use Rattle.walk.proofs.Ways.{turn-is}
 use borrow.Author.Needs.{needs}
 use Rattle.walk.proofs.Place.turn.Statement.{statement}

@@ -1,5 +1,4 @@
 -- `wire::arrays::take_64` meets its contract.
--- Assumes nothing.
 use Rattle.wire.proofs.arrays.Ways.{taken}
 use borrow.Author.Needs.{needs}
 use Rattle.wire.proofs.arrays.take_64.Statement.{statement}
