@@ -27,16 +27,6 @@ fn head(command: u8, flags: u8, address: u32) -> Head
     }
 }
 
-// A flag that is set, or none.
-fn flag(on: bool, value: u8) -> u8
-    ensures { λ r. ⌜ r ≡ cond on value 0 ⌝ }
-{
-    if on {
-        return value;
-    }
-    0
-}
-
 pub fn write_info(buf: &mut [u8]) -> Placed
     ensures { λ r. ⌜ record { answer = r; bytes = now (buf .exit) }
         ≡ placed (frameBytes (demandFrame infoRequest [])) (now (buf .entry)) ⌝ }
@@ -64,7 +54,7 @@ pub fn write_write(info: Info, offset: u64, image: &[u8], buf: &mut [u8]) -> Pla
     let n = image.len();
     let size = image::writes::size(info, n, offset);
     let held = image::writes::image_bytes(n, offset, size);
-    let flags = flag(image::writes::last(info, n, offset), wire::FLUSH);
+    let flags = wire::flag(image::writes::last(info, n, offset), wire::FLUSH);
     let part = image::writes::part(image, offset, size);
     frame::place_frame(
         head(wire::WRITE, flags, (offset % 0x1_0000_0000) as u32),
@@ -92,7 +82,7 @@ pub fn write_verify(n: usize, buf: &mut [u8]) -> Placed
 fn reset_flags(reset: Reset) -> u8
     ensures { λ r. ⌜ r ≡ flagsOf reset ⌝ }
 {
-    flag(reset.bootloader, wire::BOOTLOADER) + flag(reset.given, wire::BAUD)
+    wire::flag(reset.bootloader, wire::BOOTLOADER) + wire::flag(reset.given, wire::BAUD)
 }
 
 // The baud to store, or 0.

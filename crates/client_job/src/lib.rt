@@ -148,11 +148,13 @@ fn wrote(info: Info, offset: u64, image: &[u8]) -> Next
     }
 }
 
-// A Write answered with status 3 is repeated, 16 times at most.
+// A Write answered with status 3 is repeated, at most so many times.
+const RETRIES: u8 = 16;
+
 fn repeated(n: usize, info: Info, offset: u64, retries: u8) -> Then
     ensures { λ r. ⌜ r ≡ repeated n info offset retries ⌝ }
 {
-    if retries < 16 {
+    if retries < RETRIES {
         return Then::On(Job::Writing(n, info, offset, retries + 1));
     }
     Then::Refused(Refusal::RetriesSpent)

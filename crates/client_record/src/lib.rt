@@ -126,7 +126,7 @@ fn walked(f: Front, m: Move, at: usize) -> Verdict
 fn probed(f: Front, h: Heard, id: Id, at: usize) -> Verdict
     ensures { λ r. ⌜ ((w : Walk) → toldOf r w ≡ probed (clientOf f w) h id at) ⌝ }
 {
-    if walk_step::long(h) {
+    if hearing::long(h) {
         return f.stops(Says::Refused(Refusal::LongId), at);
     }
     f.over(Says::Over(Outcome::Heard(h)), id, false, at)

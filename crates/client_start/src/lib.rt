@@ -60,7 +60,7 @@ fn bad_prefix(f: Front) -> Opening
 pub fn open_select(f: Front, prefix: &[u8], bits: usize) -> Opening
     ensures { λ r. ⌜ ((w : Walk) → startedOf r w ≡ startSelect (clientOf f w) (now (prefix .entry)) bits) ⌝ }
 {
-    if 16 < prefix.len() {
+    if ids::MAX_BYTES < prefix.len() {
         return bad_prefix(f);
     }
     if 8 * prefix.len() < bits {
@@ -119,7 +119,7 @@ pub fn start_attach(c: Client) -> Started
 pub fn open_attach_to(f: Front, prefix: &[u8]) -> Opening
     ensures { λ r. ⌜ ((w : Walk) → startedOf r w ≡ startAttachTo (clientOf f w) (now (prefix .entry))) ⌝ }
 {
-    if 16 < prefix.len() {
+    if ids::MAX_BYTES < prefix.len() {
         return bad_prefix(f);
     }
     starts(
@@ -142,7 +142,7 @@ pub fn start_attach_to(c: Client, prefix: &[u8]) -> Started
 pub fn open_discover(f: Front, prefix: &[u8]) -> Opening
     ensures { λ r. ⌜ ((w : Walk) → startedOf r w ≡ startDiscover (clientOf f w) (now (prefix .entry))) ⌝ }
 {
-    if 16 < prefix.len() {
+    if ids::MAX_BYTES < prefix.len() {
         return bad_prefix(f);
     }
     starts(

@@ -88,10 +88,10 @@ pub fn write_frame(head: Head, bytes: &[u8], pad: usize, buf: &mut [u8]) -> Writ
         ≡ written (frameOf head (now (bytes .entry) ++ replicate pad 0xFF)) (now (buf .entry)) ⌝ }
 {
     let m = bytes.len();
-    if 1024 < m {
+    if wire::MAX_PAYLOAD < m {
         return Written::TooLong;
     }
-    if 1024 - m < pad {
+    if wire::MAX_PAYLOAD - m < pad {
         return Written::TooLong;
     }
     answer_of(place_frame(head, bytes, pad, buf))

@@ -1,6 +1,6 @@
 -- What a record says, as the code's values.
 use Prim.Native.Nat.{ℕ, _+_, _-_, _≤_}
-use mathlib.Core.Bool.{cond}
+use mathlib.Core.Bool.{Bool, true, false, cond}
 use mathlib.Core.List.{List}
 use lib.Dec.{ltb, eqb}
 use lib.ListN.{length, take, drop}
@@ -26,6 +26,10 @@ onHeard Heard.One n o t u g = o
 onHeard TooLong n o t u g = t
 onHeard Unaddressed n o t u g = u
 onHeard Garble n o t u g = g
+
+-- An id over 16 bytes was heard.
+unfoldable pub long : Heard → Bool
+long h = onHeard h false false true false false
 
 abbrev pub onReplies {ℓ} : {A : Type ℓ} → Replies → A → (Frame → A) → A → A
 onReplies None none this many = none

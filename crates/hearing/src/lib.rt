@@ -7,7 +7,7 @@ ghost use Prim.Native.Nat.{_+_, _≤_};
 ghost use lib.ListN.{length, take, drop};
 ghost use Rattle.paper.specs.Hearing.{hear};
 ghost use Rattle.paper.specs.Answers.{answer, rest};
-ghost use Rattle.hearing.specs.Heard.{Within, heardAs, noted, oneHeard, concluded, shownHeard, repliedBy};
+ghost use Rattle.hearing.specs.Heard.{long, Within, heardAs, noted, oneHeard, concluded, shownHeard, repliedBy};
 ghost use Rattle.hearing.specs.Heard.{shownAnswer};
 
 // What one Select heard. An id over 16 bytes is TooLong.
@@ -66,7 +66,7 @@ fn one_heard(bytes: &[u8], at: usize, len: usize) -> Hearing
     requires { ⌜ at + len ≤ length (now bytes) ⌝ }
     ensures { λ r. ⌜ r ≡ oneHeard (take len (drop at (now (bytes .entry)))) ⌝ }
 {
-    if 16 < len {
+    if ids::MAX_BYTES < len {
         return heard_as(Heard::TooLong);
     }
     let e = at + len;
@@ -161,5 +161,18 @@ pub fn rest(bytes: &[u8], at: usize) -> &[u8]
         &bytes[at..]
     } else {
         &bytes[..0]
+    }
+}
+
+// An id over 16 bytes was heard.
+pub fn long(h: Heard) -> bool
+    ensures { λ r. ⌜ r ≡ long h ⌝ }
+{
+    match h {
+        Heard::Nothing => false,
+        Heard::One => false,
+        Heard::TooLong => true,
+        Heard::Unaddressed => false,
+        Heard::Garble => false,
     }
 }

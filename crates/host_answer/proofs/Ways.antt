@@ -18,8 +18,9 @@ use Rattle.walk_table.specs.Rows as Rows
 use Rattle.walk_table.proofs.Rows.{Sized, count-puts}
 use Rattle.walk_table.proofs.Ways.{table-in}
 use Rattle.client.specs.declared.Progress.{Progress}
-use Rattle.host_turn_bytes.specs.TurnBytes.{flag, savedInfo}
-use Rattle.host_turn_bytes.proofs.Ways.{info-length}
+use Rattle.image.specs.InfoBytes.{savedInfo}
+use Rattle.host_turn_bytes.specs.TurnBytes.{flag}
+use Rattle.image.proofs.info_bytes.Ways.{info-length}
 use Rattle.host_state.specs.State as State
 use Rattle.host_state.specs.State.{savedId, savedTable, loadedTable, loadedWalk, loaded}
 use Rattle.host_state.proofs.Laws.{table-zero}

@@ -8,7 +8,8 @@ use Rattle.ids.specs.declared.Id.{Id}
 use Rattle.walk_table.specs.declared.Table.{Table}
 use Rattle.client.specs.declared.Says.{Says}
 use Rattle.client.specs.declared.Progress.{Progress}
-use Rattle.host_turn_bytes.specs.TurnBytes.{flag, savedInfo}
+use Rattle.image.specs.InfoBytes.{savedInfo}
+use Rattle.host_turn_bytes.specs.TurnBytes.{flag}
 use Rattle.host_state.specs.State.{savedId, savedTable}
 use Rattle.host_answer.specs.declared.numbers.Note.{Note}
 use Rattle.host_answer.specs.declared.numbers.Gain.{Gain}

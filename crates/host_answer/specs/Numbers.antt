@@ -21,7 +21,7 @@ use Rattle.client.specs.declared.Progress.the-variants.{None, Made}
 use Rattle.client.specs.declared.Says.{Says}
 use Rattle.client.specs.declared.Says.the-variants.{Granted, Closing, Onward, Over, Refused}
 use Rattle.client.specs.Numbers.{numberOf}
-use Rattle.host_turn.specs.Turns.{noInfo}
+use Rattle.image.specs.InfoBytes.{noInfo}
 use Rattle.host_answer.specs.declared.numbers.Note.{Note}
 use Rattle.host_answer.specs.declared.numbers.Gain.{Gain}
 

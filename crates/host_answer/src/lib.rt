@@ -26,11 +26,11 @@ fn write_tags(n: Note, g: Gain, out: &mut [u8])
     requires { ⌜ size ≤ length (now out) ⌝ }
     ensures { λ _. ⌜ now (out .exit) ≡ tagged n g ++ drop 8 (now (out .entry)) ⌝ }
 {
-    let any = host_turn_bytes::flag(n.any);
-    let made = host_turn_bytes::flag(g.made);
-    let key = host_turn_bytes::flag(n.key);
+    let any = wire::flag(n.any, 1);
+    let made = wire::flag(g.made, 1);
+    let key = wire::flag(n.key, 1);
     let x = [n.number, n.says, n.outcome, n.heard, any, made, key, 0];
-    wire::arrays::put_8(out, 0, x);
+    wire::arrays::put_8_bytes(out, 0, x);
 }
 
 // The four numbers of 8 bytes, from 8 on.
@@ -62,7 +62,7 @@ fn write_numbers(n: Note, g: Gain, rest: usize, out: &mut [u8])
     write_tags(n, g, out);
     write_sizes(n, g, rest, out);
     write_pair(n, out);
-    host_turn_bytes::save_info(out, 48, info);
+    image::info_bytes::save(out, 48, info);
 }
 
 // The answer but for its list: the numbers and the id.
@@ -90,7 +90,7 @@ pub fn write_list(bytes: &[u8], out: &mut [u8])
     ensures { λ _. ⌜ now (out .exit) ≡ listed (giving (loadedTable 239 (now (bytes .entry)))) (now (out .entry)) ⌝ }
 {
     let n = host_state::count(bytes);
-    if 64 < n {
+    if walk_table::ROWS < n {
         no_list(out);
         return;
     }

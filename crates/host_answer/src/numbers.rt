@@ -36,7 +36,7 @@ pub struct Gain {
 fn going(says: u8, length: u64) -> Note
     ensures { λ r. ⌜ r ≡ going says length ⌝ }
 {
-    let info = host_turn::no_info();
+    let info = image::info_bytes::none();
     Note {
         number: 0,
         says,
@@ -73,7 +73,7 @@ fn ending(number: u8, outcome: u8, heard: u8, any: bool, info: Info) -> Note
 fn refusing(number: u8, key: bool, length: u64, first: u32, second: u32) -> Note
     ensures { λ r. ⌜ r ≡ refusing number key length first second ⌝ }
 {
-    let info = host_turn::no_info();
+    let info = image::info_bytes::none();
     Note {
         number,
         says: 3,
@@ -129,12 +129,12 @@ fn outcome_note(o: Outcome) -> Note
     ensures { λ r. ⌜ r ≡ outcomeNote o ⌝ }
 {
     match o {
-        Outcome::Quiet => ending(0, 0, 0, false, host_turn::no_info()),
-        Outcome::Heard(h) => ending(0, 1, heard_tag(h), false, host_turn::no_info()),
-        Outcome::Attached(any) => ending(0, 2, 0, any, host_turn::no_info()),
-        Outcome::Found => ending(0, 3, 0, false, host_turn::no_info()),
+        Outcome::Quiet => ending(0, 0, 0, false, image::info_bytes::none()),
+        Outcome::Heard(h) => ending(0, 1, heard_tag(h), false, image::info_bytes::none()),
+        Outcome::Attached(any) => ending(0, 2, 0, any, image::info_bytes::none()),
+        Outcome::Found => ending(0, 3, 0, false, image::info_bytes::none()),
         Outcome::Knows(info) => ending(0, 4, 0, false, info),
-        Outcome::Unaddressed => ending(23, 5, 0, false, host_turn::no_info()),
+        Outcome::Unaddressed => ending(23, 5, 0, false, image::info_bytes::none()),
     }
 }
 

@@ -15,7 +15,7 @@ use Rattle.walk_table.specs.Rows.{noTable, giving}
 use Rattle.walk.specs.declared.Walk.{Walk}
 use Rattle.paper.proofs.Fields.{behind}
 use Rattle.hearing.specs.declared.Heard.{Heard}
-use Rattle.walk_step.specs.Steps.{long}
+use Rattle.hearing.specs.Heard.{long}
 use Rattle.client.specs.declared.Outcome.the-variants as Outcome
 use Rattle.client.specs.declared.Refusal.the-variants.{LongId}
 use Rattle.client.specs.declared.Progress.the-variants.{None}

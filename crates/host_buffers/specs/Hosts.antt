@@ -9,7 +9,7 @@ use Rattle.ids.specs.Ids.{noId}
 use Rattle.walk_table.specs.Rows.{noTable}
 use Rattle.hearing.specs.declared.Heard.{Heard}
 use Rattle.hearing.specs.declared.Hearing.{Hearing}
-use Rattle.walk_step.specs.Steps.{long}
+use Rattle.hearing.specs.Heard.{long}
 use Rattle.client.specs.declared.Client.{Client}
 use Rattle.client.specs.declared.Outcome.the-variants as Outcome
 use Rattle.client.specs.declared.Refusal.the-variants.{LongId}

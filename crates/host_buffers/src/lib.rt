@@ -119,7 +119,7 @@ pub fn shows(says: Says, id: Id, answer: &mut [u8]) -> u64
 pub fn said_of(h: Heard) -> Says
     ensures { λ r. ⌜ r ≡ saidOf h ⌝ }
 {
-    if walk_step::long(h) {
+    if hearing::long(h) {
         return Says::Refused(Refusal::LongId);
     }
     Says::Over(Outcome::Heard(h))

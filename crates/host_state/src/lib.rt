@@ -28,7 +28,7 @@ fn load_id(bytes: &[u8], at: usize) -> Id
     requires { ⌜ at + 17 ≤ length (now bytes) ⌝ }
     ensures { λ r. ⌜ r ≡ loadedId at (now (bytes .entry)) ⌝ }
 {
-    let b = wire::arrays::take_16(bytes, at);
+    let b = wire::arrays::take_16_bytes(bytes, at);
     Id {
         bytes: b,
         len: bytes[at + 16],
@@ -59,8 +59,8 @@ pub fn load_place(bytes: &[u8]) -> Place
     requires { ⌜ size ≤ length (now bytes) ⌝ }
     ensures { λ r. ⌜ r ≡ placeOf (loaded (now (bytes .entry)) .walk) ⌝ }
 {
-    let path = wire::arrays::take_16(bytes, 87);
-    let marks = wire::arrays::take_128(bytes, 111);
+    let path = wire::arrays::take_16_bytes(bytes, 87);
+    let marks = wire::arrays::take_128_bytes(bytes, 111);
     let candidate = load_id(bytes, 1335);
     Place {
         path,
@@ -85,7 +85,7 @@ pub fn save_id(bytes: &mut [u8], at: usize, x: Id)
     ensures { λ _. ⌜ length (savedId x) ≡ 17 ⌝ }
 {
     let b = x.bytes;
-    wire::arrays::put_16(bytes, at, b);
+    wire::arrays::put_16_bytes(bytes, at, b);
     wire::put8(bytes, at + 16, x.len);
 }
 
@@ -99,7 +99,7 @@ fn save_head(f: Front, bytes: &mut [u8])
     let turn = f.turn;
     let x = host_turn::flat_of(turn);
     wire::put8(bytes, 0, f.seed);
-    wire::put8(bytes, 1, host_turn_bytes::flag(f.attached));
+    wire::put8(bytes, 1, wire::flag(f.attached, 1));
     save_id(bytes, 2, id);
     host_turn_bytes::save_flat(bytes, 19, x);
 }
@@ -124,9 +124,9 @@ fn save_place(p: Place, bytes: &mut [u8])
     let path = p.path;
     let marks = p.marks;
     let candidate = p.candidate;
-    wire::arrays::put_16(bytes, 87, path);
+    wire::arrays::put_16_bytes(bytes, 87, path);
     wire::put64(bytes, 103, p.depth as u64);
-    wire::arrays::put_128(bytes, 111, marks);
+    wire::arrays::put_128_bytes(bytes, 111, marks);
     save_id(bytes, 1335, candidate);
 }
 
@@ -138,7 +138,7 @@ fn keep(entry: Entry, bytes: &mut [u8])
         ≡ withTable (keeping (loadedTable 239 (now (bytes .entry))) entry) (now (bytes .entry)) ⌝ }
 {
     let n = count(bytes);
-    if 64 <= n {
+    if walk_table::ROWS <= n {
         return;
     }
     walk_table::set_row(&mut bytes[239..], n, entry);

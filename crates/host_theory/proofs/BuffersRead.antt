@@ -9,9 +9,10 @@ use Rattle.paper.specs.Frame.{le, byte, field}
 use Rattle.paper.proofs.Fields.{joined-length, spread, field-at, byte-in}
 use Rattle.client.specs.declared.Told.{Told}
 use Rattle.client.specs.Numbers.{saysOf}
-use Rattle.host_turn_bytes.specs.TurnBytes.{savedInfo}
-use Rattle.host_turn_bytes.proofs.Ways.{info-length}
-use Rattle.host_turn_bytes.proofs.Laws.{flag-back, info-back}
+use Rattle.image.specs.InfoBytes.{savedInfo}
+use Rattle.image.proofs.info_bytes.Ways.{info-length}
+use Rattle.image.proofs.info_bytes.Laws.{info-back}
+use Rattle.host_turn_bytes.proofs.Laws.{flag-back}
 use Rattle.refinement.specs.Calls.{codeAnswer}
 use Rattle.host_state.specs.State as State
 use Rattle.host_state.specs.State.{savedId, savedTable, loaded, loadedId, loadedTable}

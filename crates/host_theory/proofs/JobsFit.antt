@@ -39,7 +39,8 @@ use Rattle.client_job.specs.declared.Then.{Then}
 use Rattle.client_job.specs.declared.Then.the-variants.{On, Over, Refused}
 use Rattle.client_job.specs.Job.{quietly, refusing, onInformed, onErase, erases, judged, prepared, informed, writes}
 use Rattle.client_job.specs.Job.{cleared, erased, wrote, repeated, verified, accepted, declined}
-use Rattle.host_turn.specs.Turns.{noInfo, sizeOf, InfoFits}
+use Rattle.image.specs.InfoBytes.{noInfo, InfoFits}
+use Rattle.host_turn.specs.Turns.{sizeOf}
 use Rattle.host_turn.proofs.Laws.{no-info-fits}
 use Rattle.host_answer.specs.Numbers.{keyOr0, outcomeNote, refusalNote, noteOf}
 use Rattle.host_theory.proofs.ByteArrays.{chosen}

@@ -6,7 +6,7 @@ use Rattle.image.specs.declared.Info.{Info}
 use Rattle.client.specs.declared.Progress.{Progress}
 use Rattle.client.specs.declared.Progress.the-variants.{None, Made}
 use Rattle.client.specs.declared.Says.{Says}
-use Rattle.host_turn.specs.Turns.{noInfo, InfoFits}
+use Rattle.image.specs.InfoBytes.{noInfo, InfoFits}
 use Rattle.host_turn.proofs.Laws.{no-info-fits}
 use Rattle.host_answer.specs.declared.numbers.Note.{Note}
 use Rattle.host_answer.specs.declared.numbers.Gain.{Gain}

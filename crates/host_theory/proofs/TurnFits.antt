@@ -13,8 +13,10 @@ use Rattle.client.specs.declared.Phase.{Phase}
 use Rattle.client.specs.declared.Phase.the-variants.{Select, Demand, Leave}
 use Rattle.client.specs.declared.Turn.{Turn}
 use Rattle.client.specs.declared.Turn.the-variants.{Idle, Ready, Waiting}
-use Rattle.host_turn.specs.Turns.{noInfo, noReset, demanding, leaving, tagOf, sizeOf, walkingOf, searchFlat, jobFlat}
-use Rattle.host_turn.specs.Turns.{phaseFlat, flatOf, InfoFits, FlatFits}
+use Rattle.image.specs.InfoBytes.{noInfo}
+use Rattle.host_turn.specs.Turns.{noReset, demanding, leaving, tagOf, sizeOf, walkingOf, searchFlat, jobFlat}
+use Rattle.image.specs.InfoBytes.{InfoFits}
+use Rattle.host_turn.specs.Turns.{phaseFlat, flatOf, FlatFits}
 use Rattle.host_turn.proofs.Laws.{selecting-fits, no-info-fits, demanding-fits, leaving-fits}
 
 abbrev pub PurposeFits : Purpose → Type 0

@@ -17,7 +17,8 @@ use Rattle.client_record.specs.Record as CodeRecord
 use Rattle.refinement.specs.Calls.{Call, startSelect, startDeselect, startAttach, startDiscover, startInfo, startErase}
 use Rattle.refinement.specs.Calls.{startFlash, startReset, startSetBaud, request, record′, linkFailed, Good, Answer}
 use Rattle.refinement.specs.Calls.{codeAnswer}
-use Rattle.host_turn_bytes.specs.TurnBytes.{flagged, loadedInfo}
+use Rattle.image.specs.InfoBytes.{loadedInfo}
+use Rattle.host_turn_bytes.specs.TurnBytes.{flagged}
 use Rattle.host_state.specs.State as State
 use Rattle.host_state.specs.State.{loaded, loadedId, loadedTable}
 use Rattle.host_answer.specs.declared.numbers.Note.{Note}

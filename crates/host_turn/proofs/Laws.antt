@@ -20,9 +20,11 @@ use Rattle.client.specs.declared.Phase.the-variants.{Select, Demand, Leave}
 use Rattle.client.specs.declared.Turn.{Turn}
 use Rattle.client.specs.declared.Turn.the-variants.{Idle, Ready, Waiting}
 use Rattle.host_turn.specs.declared.Flat.{Flat}
-use Rattle.host_turn.specs.Turns.{noInfo, noReset, jobless, selecting, demanding, leaving, tagOf, sizeOf}
+use Rattle.image.specs.InfoBytes.{noInfo}
+use Rattle.host_turn.specs.Turns.{noReset, jobless, selecting, demanding, leaving, tagOf, sizeOf}
 use Rattle.host_turn.specs.Turns.{walkingOf, searchFlat, jobFlat, phaseFlat, flatOf, purposeOf, stepOf, searchOf}
-use Rattle.host_turn.specs.Turns.{jobOf, phaseOf, turnOf, InfoFits, FlatFits}
+use Rattle.image.specs.InfoBytes.{InfoFits}
+use Rattle.host_turn.specs.Turns.{jobOf, phaseOf, turnOf, FlatFits}
 
 purpose-of-flat : (why : Purpose) → purposeOf (tagOf why) (sizeOf why) ≡ why
 unfolding purposeOf tagOf sizeOf

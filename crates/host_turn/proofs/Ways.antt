@@ -7,7 +7,8 @@ use Rattle.image.specs.declared.Info.{Info}
 use Rattle.client.specs.declared.Reset.{Reset}
 use Rattle.client.specs.declared.Turn.{Turn}
 use Rattle.host_turn.specs.declared.Flat.{Flat}
-use Rattle.host_turn.specs.Turns.{noInfo, noReset, jobless, selecting, demanding, flatOf}
+use Rattle.image.specs.InfoBytes.{noInfo}
+use Rattle.host_turn.specs.Turns.{noReset, jobless, selecting, demanding, flatOf}
 
 -- A number that is one case's is no other's.
 pub other-case : (x n m : ℕ) → x ≡ n → eqb n m ≡ false → eqb x m ≡ false

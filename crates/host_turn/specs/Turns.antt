@@ -5,6 +5,7 @@ use lib.Dec.{eqb}
 use Rattle.walk.specs.declared.Phase as Walk
 use Rattle.walk.specs.declared.Phase.the-variants.{Asked, Mine, Other, Leaving}
 use Rattle.image.specs.declared.Info.{Info}
+use Rattle.image.specs.InfoBytes.{noInfo, InfoFits}
 use Rattle.client.specs.declared.Search.{Search}
 use Rattle.client.specs.declared.Search.the-variants.{Probing, Parting, Seeking, Backing, Walking}
 use Rattle.client.specs.declared.Purpose.{Purpose}
@@ -17,18 +18,6 @@ use Rattle.client.specs.declared.Phase.the-variants.{Select, Demand, Leave}
 use Rattle.client.specs.declared.Turn.{Turn}
 use Rattle.client.specs.declared.Turn.the-variants.{Idle, Ready, Waiting}
 use Rattle.host_turn.specs.declared.Flat.{Flat}
-
-unfoldable pub noInfo : Info
-noInfo = record {
-  capacity = 0;
-  «erase_size» = 0;
-  «boot_version» = 0;
-  «app_version» = 0;
-  mode = 0;
-  «boot_baud» = 0;
-  compat = 0;
-  «max_payload» = 0;
-}
 
 unfoldable pub noReset : Reset
 noReset = record { bootloader = false; given = false; baud = 0 }
@@ -146,16 +135,6 @@ unfoldable pub turnOf : Flat → Turn
 turnOf f = cond (eqb (f .turn) 1) (Ready (phaseOf f)) (cond (eqb (f .turn) 2) (Waiting (phaseOf f)) Idle)
 
 -- What the types of the fields give.
-pub record InfoFits (i : Info) : Type 0 where
-  pub capacity : i .capacity < 2 ^ 32
-  pub erase : i .«erase_size» < 2 ^ 16
-  pub boot : i .«boot_version» < 2 ^ 16
-  pub app : i .«app_version» < 2 ^ 16
-  pub mode : i .mode < 2 ^ 8
-  pub baud : i .«boot_baud» < 2 ^ 8
-  pub compat : i .compat < 2 ^ 32
-  pub payload : i .«max_payload» < 2 ^ 16
-
 pub record FlatFits (f : Flat) : Type 0 where
   pub turn : f .turn < 2 ^ 8
   pub kind : f .kind < 2 ^ 8

@@ -8,7 +8,7 @@ use client::Search;
 use client::Turn;
 use image::Info;
 ghost use mathlib.Core.Path.{_≡_};
-ghost use Rattle.host_turn.specs.Turns.{noInfo, noReset, jobless, selecting, demanding, leaving, tagOf, sizeOf};
+ghost use Rattle.host_turn.specs.Turns.{noReset, jobless, selecting, demanding, leaving, tagOf, sizeOf};
 ghost use Rattle.host_turn.specs.Turns.{walkingOf, searchFlat, jobFlat, phaseFlat, flatOf, purposeOf, stepOf};
 ghost use Rattle.host_turn.specs.Turns.{searchOf, jobOf, phaseOf, turnOf};
 
@@ -30,21 +30,6 @@ pub struct Flat {
     pub reset: Reset,
 }
 
-pub fn no_info() -> Info
-    ensures { λ r. ⌜ r ≡ noInfo ⌝ }
-{
-    Info {
-        capacity: 0,
-        erase_size: 0,
-        boot_version: 0,
-        app_version: 0,
-        mode: 0,
-        boot_baud: 0,
-        compat: 0,
-        max_payload: 0,
-    }
-}
-
 pub fn no_reset() -> Reset
     ensures { λ r. ⌜ r ≡ noReset ⌝ }
 {
@@ -59,7 +44,7 @@ pub fn no_reset() -> Reset
 fn jobless(turn: u8, kind: u8, search: u8, given: bool, step: u8, other: bool, reset: Reset) -> Flat
     ensures { λ r. ⌜ r ≡ jobless turn kind search given step other reset ⌝ }
 {
-    let info = no_info();
+    let info = image::info_bytes::none();
     Flat {
         turn,
         kind,
@@ -174,7 +159,7 @@ fn job_flat(turn: u8, job: Job) -> Flat
             0,
             tag_of(why),
             size_of(why),
-            no_info(),
+            image::info_bytes::none(),
             0,
             0,
             0,
@@ -203,7 +188,17 @@ fn job_flat(turn: u8, job: Job) -> Flat
             no_reset(),
         ),
         Job::Verifying(n, info) => demanding(turn, 3, 0, n, info, 0, 0, 0, no_reset()),
-        Job::Resetting(reset) => demanding(turn, 4, 0, 0, no_info(), 0, 0, 0, reset),
+        Job::Resetting(reset) => demanding(
+            turn,
+            4,
+            0,
+            0,
+            image::info_bytes::none(),
+            0,
+            0,
+            0,
+            reset,
+        ),
     }
 }
 

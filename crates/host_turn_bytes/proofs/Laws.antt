@@ -8,13 +8,14 @@ use lib.ListN.{length, take, drop, replicate}
 use Rattle.paper.specs.Frame.{le}
 use Rattle.paper.proofs.Fields.{spread, field-at, byte-in, byte-at, byte-below, field-below}
 use Rattle.paper.proofs.Words.{Bytes, le-length}
-use Rattle.image.specs.declared.Info.{Info}
+use Rattle.image.specs.InfoBytes.{noInfo, geometry, savedInfo}
+use Rattle.image.proofs.info_bytes.Ways.{info-length}
+use Rattle.image.proofs.info_bytes.Laws.{info-back, info-fits}
 use Rattle.client.specs.declared.Reset.{Reset}
 use Rattle.host_turn.specs.declared.Flat.{Flat}
-use Rattle.host_turn.specs.Turns.{noInfo, noReset, selecting, InfoFits, FlatFits}
-use Rattle.host_turn_bytes.specs.TurnBytes.{flag, flagged, tags, geometry, savedInfo, savedReset, work, savedFlat}
-use Rattle.host_turn_bytes.specs.TurnBytes.{loadedInfo, loadedReset, loadedFlat}
-use Rattle.host_turn_bytes.proofs.Ways.{geometry-length, info-length, reset-length, work-length}
+use Rattle.host_turn.specs.Turns.{noReset, selecting, FlatFits}
+use Rattle.host_turn_bytes.specs.TurnBytes.{flag, flagged, tags, savedReset, work, savedFlat, loadedReset, loadedFlat}
+use Rattle.host_turn_bytes.proofs.Ways.{reset-length, work-length}
 
 pub flag-back : (b : Bool) → flagged (flag b) ≡ b
 flag-back true = refl
@@ -25,26 +26,6 @@ unfolding savedFlat tags savedInfo geometry work savedReset le
 flat-length f = refl
 
 module _ (at : ℕ) (b : List ℕ) where
-  pub info-back : (i : Info) → InfoFits i → take 18 (drop at b) ≡ savedInfo i → loadedInfo at b ≡ i
-  unfolding savedInfo geometry loadedInfo
-  info-back i h e =
-      let s = spread at b ((1, i .mode ∷ []) ∷ (1, i .«boot_baud» ∷ []) ∷ (4, le 4 (i .compat))
-      ∷ (2, le 2 (i .«max_payload»)) ∷ []) (geometry i) 10 (geometry-length i)
-      (refl, (refl, (le-length 4 (i .compat), (le-length 2 (i .«max_payload»), tt)))) e in
-      let g = spread at b ((2, le 2 (i .«erase_size»)) ∷ (2, le 2 (i .«boot_version»)) ∷ (2, le 2 (i .«app_version»))
-      ∷ []) (le 4 (i .capacity)) 4 (le-length 4 (i .capacity))
-      (le-length 2 (i .«erase_size»), (le-length 2 (i .«boot_version»), (le-length 2 (i .«app_version»), tt))) (s .0) in
-      rw (
-        field-at at 4 (i .capacity) b (h .capacity) (g .0),
-        field-at (at + 4) 2 (i .«erase_size») b (h .erase) (g .1 .0),
-        field-at (at + 6) 2 (i .«boot_version») b (h .boot) (g .1 .1 .0),
-        field-at (at + 8) 2 (i .«app_version») b (h .app) (g .1 .1 .1 .0),
-        byte-at (at + 10) 1 (i .mode ∷ []) b (omega arith) (s .1 .0),
-        byte-at (at + 11) 1 (i .«boot_baud» ∷ []) b (omega arith) (s .1 .1 .0),
-        field-at (at + 12) 4 (i .compat) b (h .compat) (s .1 .1 .1 .0),
-        field-at (at + 16) 2 (i .«max_payload») b (h .payload) (s .1 .1 .1 .1 .0),
-      )
-
   reset-back : (z : Reset) → take 3 (drop at b) ≡ savedReset z → loadedReset at b ≡ z
   unfolding savedReset loadedReset
   reset-back z e =
@@ -56,21 +37,8 @@ module _ (at : ℕ) (b : List ℕ) where
         flag-back (z .given),
       )
 
-  -- What bytes hold fits.
-  info-fits : Bytes b → InfoFits (loadedInfo at b)
-  unfolding loadedInfo
-  info-fits h = record {
-    capacity = field-below 4 at b h;
-    erase = field-below 2 (at + 4) b h;
-    boot = field-below 2 (at + 6) b h;
-    app = field-below 2 (at + 8) b h;
-    mode = byte-below b (at + 10) h;
-    baud = byte-below b (at + 11) h;
-    compat = field-below 4 (at + 12) b h;
-    payload = field-below 2 (at + 16) b h;
-  }
-
 module _ (at : ℕ) (b : List ℕ) where
+  -- What bytes hold fits.
   pub flat-fits : Bytes b → FlatFits (loadedFlat at b)
   unfolding loadedFlat loadedReset
   flat-fits h = record {

@@ -4,7 +4,7 @@ use mathlib.Core.Bool.{Bool, cond}
 use mathlib.Core.List.{List, [], _∷_, _++_}
 use lib.Dec.{eqb}
 use Rattle.paper.specs.Frame.{le, byte, field}
-use Rattle.image.specs.declared.Info.{Info}
+use Rattle.image.specs.InfoBytes.{savedInfo, loadedInfo}
 use Rattle.client.specs.declared.Reset.{Reset}
 use Rattle.host_turn.specs.declared.Flat.{Flat}
 
@@ -18,12 +18,6 @@ flagged n = eqb n 1
 unfoldable pub tags : Flat → List ℕ
 tags f = f .turn ∷ f .kind ∷ f .search ∷ flag (f .given) ∷ f .step ∷ flag (f .other) ∷ f .job ∷ f .purpose ∷ []
 
-unfoldable pub geometry : Info → List ℕ
-geometry i = le 4 (i .capacity) ++ le 2 (i .«erase_size») ++ le 2 (i .«boot_version») ++ le 2 (i .«app_version»)
-
-unfoldable pub savedInfo : Info → List ℕ
-savedInfo i = geometry i ++ (i .mode ∷ []) ++ (i .«boot_baud» ∷ []) ++ le 4 (i .compat) ++ le 2 (i .«max_payload»)
-
 unfoldable pub savedReset : Reset → List ℕ
 savedReset z = (flag (z .bootloader) ∷ []) ++ (flag (z .given) ∷ []) ++ (z .baud ∷ [])
 
@@ -32,18 +26,6 @@ work f = le 4 (f .address) ++ le 8 (f .offset) ++ (f .retries ∷ []) ++ savedRe
 
 unfoldable pub savedFlat : Flat → List ℕ
 savedFlat f = tags f ++ le 8 (f .size) ++ savedInfo (f .info) ++ work f
-
-unfoldable pub loadedInfo : ℕ → List ℕ → Info
-loadedInfo at b = record {
-  capacity = field at 4 b;
-  «erase_size» = field (at + 4) 2 b;
-  «boot_version» = field (at + 6) 2 b;
-  «app_version» = field (at + 8) 2 b;
-  mode = byte (at + 10) b;
-  «boot_baud» = byte (at + 11) b;
-  compat = field (at + 12) 4 b;
-  «max_payload» = field (at + 16) 2 b;
-}
 
 unfoldable pub loadedReset : ℕ → List ℕ → Reset
 loadedReset at b = record {

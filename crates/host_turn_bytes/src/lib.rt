@@ -1,35 +1,11 @@
 // A turn's numbers in 50 bytes: saved at a place of a buffer, and loaded from one.
 use client::Reset;
 use host_turn::Flat;
-use image::Info;
 ghost use mathlib.Core.Path.{_≡_};
 ghost use mathlib.Core.List.{_++_};
 ghost use Prim.Native.Nat.{_+_, _≤_};
 ghost use lib.ListN.{length, take, drop};
-ghost use Rattle.host_turn_bytes.specs.TurnBytes.{flag, tags, geometry, savedInfo, savedReset, work, savedFlat};
-ghost use Rattle.host_turn_bytes.specs.TurnBytes.{loadedInfo, loadedReset, loadedFlat};
-
-pub fn flag(b: bool) -> u8
-    ensures { λ r. ⌜ r ≡ flag b ⌝ }
-{
-    if b { 1 } else { 0 }
-}
-
-fn load_info(bytes: &[u8], at: usize) -> Info
-    requires { ⌜ at + 18 ≤ length (now bytes) ⌝ }
-    ensures { λ r. ⌜ r ≡ loadedInfo at (now (bytes .entry)) ⌝ }
-{
-    Info {
-        capacity: wire::get32(bytes, at),
-        erase_size: wire::get16(bytes, at + 4),
-        boot_version: wire::get16(bytes, at + 6),
-        app_version: wire::get16(bytes, at + 8),
-        mode: bytes[at + 10],
-        boot_baud: bytes[at + 11],
-        compat: wire::get32(bytes, at + 12),
-        max_payload: wire::get16(bytes, at + 16),
-    }
-}
+ghost use Rattle.host_turn_bytes.specs.TurnBytes.{tags, savedReset, work, savedFlat, loadedReset, loadedFlat};
 
 fn load_reset(bytes: &[u8], at: usize) -> Reset
     requires { ⌜ at + 3 ≤ length (now bytes) ⌝ }
@@ -46,7 +22,7 @@ pub fn load_flat(bytes: &[u8], at: usize) -> Flat
     requires { ⌜ at + 50 ≤ length (now bytes) ⌝ }
     ensures { λ r. ⌜ r ≡ loadedFlat at (now (bytes .entry)) ⌝ }
 {
-    let info = load_info(bytes, at + 16);
+    let info = image::info_bytes::load(bytes, at + 16);
     let reset = load_reset(bytes, at + 47);
     Flat {
         turn: bytes[at],
@@ -71,8 +47,8 @@ fn save_tags(bytes: &mut [u8], at: usize, f: Flat)
     ensures { λ _. ⌜ now (bytes .exit)
         ≡ take at (now (bytes .entry)) ++ tags f ++ drop (at + 8) (now (bytes .entry)) ⌝ }
 {
-    let given = flag(f.given);
-    let other = flag(f.other);
+    let given = wire::flag(f.given, 1);
+    let other = wire::flag(f.other, 1);
     let x = [
         f.turn,
         f.kind,
@@ -83,31 +59,7 @@ fn save_tags(bytes: &mut [u8], at: usize, f: Flat)
         f.job,
         f.purpose,
     ];
-    wire::arrays::put_8(bytes, at, x);
-}
-
-// The capacity, the erase size and the versions.
-fn save_geometry(bytes: &mut [u8], at: usize, i: Info)
-    requires { ⌜ at + 10 ≤ length (now bytes) ⌝ }
-    ensures { λ _. ⌜ now (bytes .exit)
-        ≡ take at (now (bytes .entry)) ++ geometry i ++ drop (at + 10) (now (bytes .entry)) ⌝ }
-{
-    wire::put32(bytes, at, i.capacity);
-    wire::put16(bytes, at + 4, i.erase_size);
-    wire::put16(bytes, at + 6, i.boot_version);
-    wire::put16(bytes, at + 8, i.app_version);
-}
-
-pub fn save_info(bytes: &mut [u8], at: usize, i: Info)
-    requires { ⌜ at + 18 ≤ length (now bytes) ⌝ }
-    ensures { λ _. ⌜ now (bytes .exit)
-        ≡ take at (now (bytes .entry)) ++ savedInfo i ++ drop (at + 18) (now (bytes .entry)) ⌝ }
-{
-    save_geometry(bytes, at, i);
-    wire::put8(bytes, at + 10, i.mode);
-    wire::put8(bytes, at + 11, i.boot_baud);
-    wire::put32(bytes, at + 12, i.compat);
-    wire::put16(bytes, at + 16, i.max_payload);
+    wire::arrays::put_8_bytes(bytes, at, x);
 }
 
 fn save_reset(bytes: &mut [u8], at: usize, z: Reset)
@@ -115,8 +67,8 @@ fn save_reset(bytes: &mut [u8], at: usize, z: Reset)
     ensures { λ _. ⌜ now (bytes .exit)
         ≡ take at (now (bytes .entry)) ++ savedReset z ++ drop (at + 3) (now (bytes .entry)) ⌝ }
 {
-    wire::put8(bytes, at, flag(z.bootloader));
-    wire::put8(bytes, at + 1, flag(z.given));
+    wire::put8(bytes, at, wire::flag(z.bootloader, 1));
+    wire::put8(bytes, at + 1, wire::flag(z.given, 1));
     wire::put8(bytes, at + 2, z.baud);
 }
 
@@ -141,6 +93,6 @@ pub fn save_flat(bytes: &mut [u8], at: usize, f: Flat)
     let info = f.info;
     save_tags(bytes, at, f);
     wire::put64(bytes, at + 8, f.size as u64);
-    save_info(bytes, at + 16, info);
+    image::info_bytes::save(bytes, at + 16, info);
     save_work(bytes, at + 34, f);
 }

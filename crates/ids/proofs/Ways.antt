@@ -13,7 +13,6 @@ use borrow.Author.Tests.{lt-ltb, le-ltb, lt-leb, le-leb, eq-eqb, ne-eqb}
 use Rattle.paper.specs.Walk.{sameId}
 use Rattle.paper.specs.Hearing.{bit, bitsOf, before}
 use Rattle.lore.proofs.Lists.{drop-replicate}
-use Rattle.lore.proofs.Copy.{copy-done}
 use Rattle.paper.proofs.Bits.{bits-length, bits-at}
 use Rattle.ids.specs.Ids.{bitOf, idFrom}
 
@@ -45,10 +44,6 @@ pub id-is : (id out : List ℕ) (i : ℕ) → i ≡ length id → out ≡ id ++ 
     → record { bytes = out; len = i } ≡ idFrom id
 unfolding idFrom
 id-is id out i e f = rw (e, f, drop-replicate {A = ℕ} 16 0 (length id))
-
-pub copied : (id out : List ℕ) (i : ℕ) → i ≤ length id → length id ≤ i → out ≡ take i id ++ drop i (replicate 16 0)
-    → record { bytes = out; len = i } ≡ idFrom id
-copied id out i h g e = id-is id out i (omega arith) (copy-done id (replicate 16 0) out i e h g)
 
 -- As much of the bytes as the id has is the id.
 pub sized : (bytes : List ℕ) (len n : ℕ) → n ≡ length (take len bytes) → take n bytes ≡ take len bytes

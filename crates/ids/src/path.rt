@@ -1,5 +1,6 @@
 // A path of up to 128 bits in 16 bytes: cut at a bit, and compared with an id.
 use crate::Id;
+use crate::MAX_BYTES;
 ghost use mathlib.Core.Path.{_≡_};
 ghost use Prim.Native.Nat.{_%_, _^_, _≤_, _<_};
 ghost use mathlib.Core.Bool.{Bool·beq};
@@ -17,7 +18,7 @@ pub fn low_bits(x: u8, j: usize) -> u8
 }
 
 // The first k bits, the rest of the byte at k zero.
-pub fn cut(bytes: [u8; 16], k: usize) -> [u8; 16]
+pub fn cut(bytes: [u8; MAX_BYTES], k: usize) -> [u8; MAX_BYTES]
     requires { ⌜ k < 128 ⌝ }
     ensures { λ r. ⌜ r ≡ cut bytes k ⌝ }
 {
@@ -28,7 +29,7 @@ pub fn cut(bytes: [u8; 16], k: usize) -> [u8; 16]
 }
 
 // Bit k is the same in both.
-pub fn agree(x: [u8; 16], y: [u8; 16], k: usize) -> bool
+pub fn agree(x: [u8; MAX_BYTES], y: [u8; MAX_BYTES], k: usize) -> bool
     requires { ⌜ k < 128 ⌝ }
     ensures { λ r. ⌜ r ≡ Bool·beq (bit x k) (bit y k) ⌝ }
 {
@@ -38,7 +39,7 @@ pub fn agree(x: [u8; 16], y: [u8; 16], k: usize) -> bool
 }
 
 // The id begins with the first bits of the path.
-pub fn begins(id: Id, path: [u8; 16], bits: usize) -> bool
+pub fn begins(id: Id, path: [u8; MAX_BYTES], bits: usize) -> bool
     requires { ⌜ bits ≤ 128 ⌝ }
     ensures { λ r. ⌜ r ≡ begins (take bits (bitsOf path)) (bitsOf (idOf id)) ⌝ }
 {

@@ -19,7 +19,8 @@ use Rattle.image.specs.declared.Informed.the-variants.{Sound, BadInfo}
 use Rattle.image.specs.declared.Compat.{Compat}
 use Rattle.image.specs.declared.Compat.the-variants.{Key, Missing}
 use Rattle.image.specs.declared.Erase.the-variants.{At, Done}
-use Rattle.image.specs.Images.{paperInfo, infoOf, shownInfo, shownKey, eraseAfter}
+use Rattle.image.specs.InfoBytes.{loadedInfo}
+use Rattle.image.specs.Images.{paperInfo, shownInfo, shownKey, eraseAfter}
 
 module _ (i : Paper.Info) where
   pub no-size : i .eraseSize ≡ 0 → false ≡ sound i
@@ -79,33 +80,17 @@ module _ (i : Paper.Info) (a : ℕ) where
         go (no l) = rw (below-nil (i .eraseSize) (i .capacity) a (omega arith))
 
 module _ (p : List ℕ) where
-  pub fields-are : (c e b a m u k x : ℕ) → c ≡ field 0 4 p → e ≡ field 4 2 p → b ≡ field 6 2 p → a ≡ field 8 2 p
-      → m ≡ getD p 10 0 → u ≡ getD p 11 0
-      → k ≡ field 12 4 p → x ≡ field 16 2 p
-      → _≡_ {A = Info} (record {
-        capacity = c;
-        «erase_size» = e;
-        «boot_version» = b;
-        «app_version» = a;
-        mode = m;
-        «boot_baud» = u;
-        compat = k;
-        «max_payload» = x;
-      }) (infoOf p)
-  unfolding infoOf Paper.infoOf
-  fields-are c e b a m u k x ec ee eb ea em eu ek ex = rw (ec, ee, eb, ea, em, eu, ek, ex)
-
   pub short-info : length p < 18 → BadInfo ≡ shownInfo (informed p)
   unfolding informed
   short-info h = rw (lt-leb 18 (length p) h)
 
-  module _ (h : 18 ≤ length p) (i : Info) (ei : i ≡ infoOf p) (t : Bool) (et : t ≡ sound (paperInfo i)) where
+  module _ (h : 18 ≤ length p) (i : Info) (ei : i ≡ loadedInfo 0 p) (t : Bool) (et : t ≡ sound (paperInfo i)) where
     rule : sound (Paper.infoOf p) ≡ t
-    unfolding infoOf
+    unfolding loadedInfo Paper.infoOf
     rule = sym (et ∙ ap (λ (j : Info). sound (paperInfo j)) ei)
 
     pub sound-info : t ≡ true → Sound i ≡ shownInfo (informed p)
-    unfolding informed infoOf
+    unfolding informed loadedInfo Paper.infoOf
     sound-info e = rw (le-leb 18 (length p) h, rule, e) (ap Sound ei)
 
     pub unsound-info : t ≡ false → BadInfo ≡ shownInfo (informed p)

@@ -38,9 +38,6 @@ codeInfo i = record {
   «max_payload» = i .maxPayload;
 }
 
-unfoldable pub infoOf : List ℕ → Info
-infoOf payload = codeInfo (Paper.infoOf payload)
-
 abbrev pub shownInfo : Option Paper.Info → Informed
 shownInfo o = onSome o BadInfo (λ i. Sound (codeInfo i))
 

@@ -1,2 +1,3 @@
 pub mod Images
 pub mod Pieces
+pub mod InfoBytes

@@ -1,4 +1,5 @@
 // The device information and the rules on images: key, chunk, padding, size, erase addresses.
+pub mod info_bytes;
 pub mod writes;
 
 ghost use mathlib.Core.Path.{_≡_};
@@ -6,7 +7,7 @@ ghost use Prim.Native.Nat.{_+_, _≤_};
 ghost use lib.ListN.{length};
 ghost use Rattle.paper.specs.Answers.{sound, informed, spansTooFar, tooLarge, reported, key, incompatible, chunk};
 ghost use Rattle.paper.specs.Answers.{padding};
-ghost use Rattle.image.specs.Images.{infoOf, shownInfo, paperInfo, shownKey, eraseAfter};
+ghost use Rattle.image.specs.Images.{shownInfo, paperInfo, shownKey, eraseAfter};
 
 // Device geometry from an Info response.
 pub struct Info {
@@ -37,23 +38,6 @@ pub enum Erase {
     Done,
 }
 
-// The eight fields of a payload of 18 bytes or more.
-fn fields(payload: &[u8]) -> Info
-    requires { ⌜ 18 ≤ length (now payload) ⌝ }
-    ensures { λ r. ⌜ r ≡ infoOf (now (payload .entry)) ⌝ }
-{
-    Info {
-        capacity: wire::get32(payload, 0),
-        erase_size: wire::get16(payload, 4),
-        boot_version: wire::get16(payload, 6),
-        app_version: wire::get16(payload, 8),
-        mode: payload[10],
-        boot_baud: payload[11],
-        compat: wire::get32(payload, 12),
-        max_payload: wire::get16(payload, 16),
-    }
-}
-
 // The information of an Info response: 5 for a short payload and for one that breaks the Info rule.
 pub fn device_info(payload: &[u8]) -> Informed
     ensures { λ r. ⌜ r ≡ shownInfo (informed (now (payload .entry))) ⌝ }
@@ -61,7 +45,7 @@ pub fn device_info(payload: &[u8]) -> Informed
     if payload.len() < 18 {
         return Informed::BadInfo;
     }
-    let i = fields(payload);
+    let i = info_bytes::load(payload, 0);
     if i.sound() {
         return Informed::Sound(i);
     }
@@ -152,7 +136,11 @@ impl Info {
         ensures { λ r. ⌜ r ≡ chunk (self .«max_payload») ⌝ }
     {
         let m = self.max_payload as usize;
-        if m <= 1024 { m / 4 * 4 } else { 1024 }
+        if m <= wire::MAX_PAYLOAD {
+            m / 4 * 4
+        } else {
+            wire::MAX_PAYLOAD
+        }
     }
 
     // The address that follows in the row 0, e, 2e .. below the capacity.

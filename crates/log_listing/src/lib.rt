@@ -80,7 +80,11 @@ fn used(found: Table) -> usize
     ensures { λ r. ⌜ r ≤ 64 ⌝ }
 {
     let n = found.count;
-    if n < 64 { n } else { 64 }
+    if n < walk_table::ROWS {
+        n
+    } else {
+        walk_table::ROWS
+    }
 }
 
 fn put_all(answer: Answer, out: &mut [u8]) -> usize

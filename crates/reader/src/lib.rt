@@ -70,7 +70,7 @@ fn read_sized(s: &[u8], base: usize, n: u16) -> Reading
 {
     let len = n as usize;
     let size = 12 + len;
-    if 1024 < len {
+    if wire::MAX_PAYLOAD < len {
         return Reading::TooLong;
     }
     if s.len() < size {

@@ -34,7 +34,7 @@ fn put_bit(dst: &mut [u8], x: u8, k: usize)
 
 // The first so many bits, in as few bytes as hold them: those zero at first, then bit after bit. A byte that is zero
 // has no bit to put, and there is none after the sixteenth.
-fn put_bits(dst: &mut [u8], bits: [u8; 16], count: u8)
+fn put_bits(dst: &mut [u8], bits: [u8; ids::MAX_BYTES], count: u8)
     requires { ⌜ bytesFor count ≤ length (now dst) ⌝ }
     ensures { λ _. ⌜ now (dst .exit)
         ≡ packed (bytesFor count) (asked bits count) ++ drop (bytesFor count) (now (dst .entry)) ⌝ }
@@ -42,7 +42,7 @@ fn put_bits(dst: &mut [u8], bits: [u8; 16], count: u8)
     wire::fill(dst, bytes_for(count), 0);
     let mut k = 0;
     while k < count as usize {
-        if 128 <= k {
+        if ids::MAX_BITS <= k {
             return;
         }
         let x = bits[k / 8];
@@ -64,7 +64,7 @@ fn put_pair(dst: &mut [u8], a: u8, b: u8)
 }
 
 // The payload writer: seed, bit count, then the bits in as few bytes as hold them, spare bits 0.
-fn put_select(dst: &mut [u8], seed: u8, bits: [u8; 16], count: u8)
+fn put_select(dst: &mut [u8], seed: u8, bits: [u8; ids::MAX_BYTES], count: u8)
     requires { ⌜ 2 + bytesFor count ≤ length (now dst) ⌝ }
     ensures { λ _. ⌜ now (dst .exit)
         ≡ selectPayload seed (asked bits count) ++ drop (2 + bytesFor count) (now (dst .entry)) ⌝ }
@@ -74,7 +74,7 @@ fn put_select(dst: &mut [u8], seed: u8, bits: [u8; 16], count: u8)
 }
 
 // A Select of the first so many bits, those after the sixteenth byte zero.
-pub fn write_select(seed: u8, bits: [u8; 16], count: u8, buf: &mut [u8]) -> Placed
+pub fn write_select(seed: u8, bits: [u8; ids::MAX_BYTES], count: u8, buf: &mut [u8]) -> Placed
     ensures { λ r. ⌜ record { answer = r; bytes = now (buf .exit) }
         ≡ placed (frameBytes (selectFrame seed (asked bits count))) (now (buf .entry)) ⌝ }
 {

@@ -76,7 +76,7 @@ pub fn uid_hex(id: &[u8], text: &mut [u8]) -> Written
     ensures { λ r. ⌜ record { answer = r; bytes = now (text .exit) } ≡ written (now (id .entry)) (now (text .entry)) ⌝ }
 {
     let n = id.len();
-    if 16 < n {
+    if ids::MAX_BYTES < n {
         return Written::TooLong;
     }
     if text.len() < 2 * n {
@@ -91,7 +91,7 @@ pub fn parse_uid(text: &[u8]) -> Parsed
     ensures { λ r. ⌜ r ≡ parsed (parseUid (now (text .entry))) ⌝ }
 {
     let n = text.len();
-    let mut out = [0u8; 16];
+    let mut out = [0u8; ids::MAX_BYTES];
     if 32 < n {
         return bad_text();
     }

@@ -11,18 +11,18 @@ ghost use Rattle.walk.specs.Moves.{placeOf, walkOf, noWalk, begin, markA
 ghost use Rattle.walk.specs.Moves.{nobody, child, asks};
 
 pub struct Walk {
-    pub path: [u8; 16],
+    pub path: [u8; ids::MAX_BYTES],
     pub depth: usize,
-    pub marks: [u8; 128],
+    pub marks: [u8; ids::MAX_BITS],
     pub found: Table,
     pub candidate: Id,
 }
 
 // All of a walk but its list. A contract on a place holds of the walk there with any list.
 pub struct Place {
-    pub path: [u8; 16],
+    pub path: [u8; ids::MAX_BYTES],
     pub depth: usize,
-    pub marks: [u8; 128],
+    pub marks: [u8; ids::MAX_BITS],
     pub candidate: Id,
 }
 
@@ -36,7 +36,7 @@ pub enum Phase {
 
 // A Select's bits: the first 128, those after them are zero; and how many.
 pub struct Ask {
-    pub bits: [u8; 16],
+    pub bits: [u8; ids::MAX_BYTES],
     pub count: usize,
 }
 
@@ -59,8 +59,8 @@ pub fn walk_of(p: Place, found: Table) -> Walk
 pub fn no_place() -> Place
     ensures { λ r. ⌜ walkOf r noTable ≡ noWalk ⌝ }
 {
-    let path = [0u8; 16];
-    let marks = [0u8; 128];
+    let path = [0u8; ids::MAX_BYTES];
+    let marks = [0u8; ids::MAX_BITS];
     let candidate = Id::none();
     Place {
         path,
@@ -85,7 +85,7 @@ pub fn begin(prefix: Id) -> Place
 pub fn nobody() -> Ask
     ensures { λ r. ⌜ r ≡ nobody ⌝ }
 {
-    let bits = [0u8; 16];
+    let bits = [0u8; ids::MAX_BYTES];
     Ask { bits, count: 129 }
 }
 
@@ -193,7 +193,7 @@ impl Place {
         if !bit {
             return Ask { bits, count };
         }
-        if 128 <= d {
+        if ids::MAX_BITS <= d {
             return Ask { bits, count };
         }
         let more = ids::set_bit(bits, d);
@@ -205,7 +205,7 @@ impl Place {
         ensures { λ r. ⌜ ((t : Table) → r ≡ asks (walkOf self t) p) ⌝ }
     {
         let d = self.depth;
-        if 128 < d {
+        if ids::MAX_BITS < d {
             return nobody();
         }
         let x = self.candidate;

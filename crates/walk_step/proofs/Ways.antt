@@ -27,7 +27,8 @@ use Rattle.walk_step.specs.declared.Way.the-variants as Way
 use Rattle.walk_step.specs.declared.Going.{Going}
 use Rattle.walk_step.specs.declared.Move.{Move}
 use Rattle.walk_step.specs.Steps.{Next, going, stopped, descend, onward, leave, silent, kept, confirming, hears}
-use Rattle.walk_step.specs.Steps.{mine, other, long, settled, done, tell, step}
+use Rattle.hearing.specs.Heard.{long}
+use Rattle.walk_step.specs.Steps.{mine, other, settled, done, tell, step}
 use Rattle.walk_step.specs.Joined.{joined}
 
 pub on-is : (s : Phase) (p : Place) (x : Id) (t : Table)

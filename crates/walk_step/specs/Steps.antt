@@ -88,10 +88,6 @@ other w good h = onHeard h (settled w good) (settled w false) (stopped LongId) (
 unfoldable pub tell : Walk → Phase → Heard → Id → Next
 tell w p h x = onPhase p (hears w h x) (mine w h x) (λ good. other w good h) (done w)
 
--- An id over 16 bytes was heard.
-unfoldable pub long : Heard → Bool
-long h = onHeard h false false true false false
-
 -- The step of any record: one that holds more levels or rows than there are ends at once.
 unfoldable pub step : Walk → Phase → Heard → Id → Next
 step w p h x = cond (leb (w .depth) 128 && leb (w .found .count) 64) (tell w p h x) (stopped DuplicateUid)

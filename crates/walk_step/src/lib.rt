@@ -13,7 +13,7 @@ ghost use Rattle.walk_table.specs.declared.Table.{Table};
 ghost use Rattle.walk.specs.declared.Phase.the-variants.{Other};
 ghost use Rattle.walk.specs.Moves.{walkOf};
 ghost use Rattle.walk_step.specs.Steps.{going, stopped, descend, leave, silent, kept, confirming, hears, mine};
-ghost use Rattle.walk_step.specs.Steps.{other, long, settled, tell, step};
+ghost use Rattle.walk_step.specs.Steps.{other, settled, tell, step};
 ghost use Rattle.walk_step.specs.Joined.{joined};
 
 // How a walk ends before its time: document 01's 12, 14 and 15, and its outcome 23.
@@ -79,7 +79,7 @@ fn stopped(end: End) -> Move
 fn descend(p: Place) -> Move
     ensures { λ r. ⌜ ((t : Table) → joined r t ≡ descend (walkOf p t)) ⌝ }
 {
-    if 128 <= p.depth {
+    if ids::MAX_BITS <= p.depth {
         return stopped(End::DuplicateUid);
     }
     let place = p.lower();
@@ -124,7 +124,7 @@ fn kept(p: Place, count: usize, id: Id) -> Move
     requires { ⌜ p .depth ≤ 128 ⌝ }
     ensures { λ r. ⌜ ((t : Table) → t .count ≡ count → joined r t ≡ kept (walkOf p t) id) ⌝ }
 {
-    if 64 <= count {
+    if walk_table::ROWS <= count {
         return stopped(End::TableFull);
     }
     let g = leave(p);
@@ -215,7 +215,7 @@ fn holds(h: Heard, nothing: bool, one: bool) -> bool
 fn mine(p: Place, h: Heard, id: Id) -> Move
     ensures { λ r. ⌜ ((t : Table) → joined r t ≡ mine (walkOf p t) h id) ⌝ }
 {
-    if long(h) {
+    if hearing::long(h) {
         return stopped(End::LongId);
     }
     let x = p.candidate;
@@ -227,7 +227,7 @@ fn other(p: Place, count: usize, good: bool, h: Heard) -> Move
     requires { ⌜ p .depth ≤ 128 ⌝ }
     ensures { λ r. ⌜ ((t : Table) → t .count ≡ count → joined r t ≡ other (walkOf p t) good h) ⌝ }
 {
-    if long(h) {
+    if hearing::long(h) {
         return stopped(End::LongId);
     }
     settled(p, count, holds(h, good, false))
@@ -246,27 +246,14 @@ fn tell(p: Place, count: usize, phase: Phase, h: Heard, id: Id) -> Move
     }
 }
 
-// An id over 16 bytes was heard.
-pub fn long(h: Heard) -> bool
-    ensures { λ r. ⌜ r ≡ long h ⌝ }
-{
-    match h {
-        Heard::Nothing => false,
-        Heard::One => false,
-        Heard::TooLong => true,
-        Heard::Unaddressed => false,
-        Heard::Garble => false,
-    }
-}
-
 // The whole step, of a walk at any place, with a list of any count, in any phase, on anything heard.
 pub fn step(p: Place, count: usize, phase: Phase, h: Heard, id: Id) -> Move
     ensures { λ r. ⌜ ((t : Table) → t .count ≡ count → joined r t ≡ step (walkOf p t) phase h id) ⌝ }
 {
-    if 128 < p.depth {
+    if ids::MAX_BITS < p.depth {
         return stopped(End::DuplicateUid);
     }
-    if 64 < count {
+    if walk_table::ROWS < count {
         return stopped(End::DuplicateUid);
     }
     tell(p, count, phase, h, id)

@@ -4,7 +4,7 @@ ghost use mathlib.Core.List.{_++_};
 ghost use Prim.Native.Nat.{_+_, _≤_};
 ghost use lib.ListN.{length, take, drop};
 
-pub fn take_16(s: &[u8], at: usize) -> [u8; 16]
+pub fn take_16_bytes(s: &[u8], at: usize) -> [u8; 16]
     requires { ⌜ at + 16 ≤ length (now s) ⌝ }
     ensures { λ r. ⌜ r ≡ take 16 (drop at (now (s .entry))) ⌝ }
 {
@@ -14,7 +14,7 @@ pub fn take_16(s: &[u8], at: usize) -> [u8; 16]
     out
 }
 
-pub fn take_64(s: &[u8], at: usize) -> [u8; 64]
+pub fn take_64_bytes(s: &[u8], at: usize) -> [u8; 64]
     requires { ⌜ at + 64 ≤ length (now s) ⌝ }
     ensures { λ r. ⌜ r ≡ take 64 (drop at (now (s .entry))) ⌝ }
 {
@@ -24,7 +24,7 @@ pub fn take_64(s: &[u8], at: usize) -> [u8; 64]
     out
 }
 
-pub fn take_128(s: &[u8], at: usize) -> [u8; 128]
+pub fn take_128_bytes(s: &[u8], at: usize) -> [u8; 128]
     requires { ⌜ at + 128 ≤ length (now s) ⌝ }
     ensures { λ r. ⌜ r ≡ take 128 (drop at (now (s .entry))) ⌝ }
 {
@@ -34,7 +34,7 @@ pub fn take_128(s: &[u8], at: usize) -> [u8; 128]
     out
 }
 
-pub fn take_1024(s: &[u8], at: usize) -> [u8; 1024]
+pub fn take_1024_bytes(s: &[u8], at: usize) -> [u8; 1024]
     requires { ⌜ at + 1024 ≤ length (now s) ⌝ }
     ensures { λ r. ⌜ r ≡ take 1024 (drop at (now (s .entry))) ⌝ }
 {
@@ -44,7 +44,7 @@ pub fn take_1024(s: &[u8], at: usize) -> [u8; 1024]
     out
 }
 
-pub fn put_8(buf: &mut [u8], at: usize, x: [u8; 8])
+pub fn put_8_bytes(buf: &mut [u8], at: usize, x: [u8; 8])
     requires { ⌜ at + 8 ≤ length (now buf) ⌝ }
     ensures { λ _. ⌜ now (buf .exit) ≡ take at (now (buf .entry)) ++ x ++ drop (at + 8) (now (buf .entry)) ⌝ }
     ensures { λ _. ⌜ length x ≡ 8 ⌝ }
@@ -52,7 +52,7 @@ pub fn put_8(buf: &mut [u8], at: usize, x: [u8; 8])
     crate::paste(buf, at, &x);
 }
 
-pub fn put_16(buf: &mut [u8], at: usize, x: [u8; 16])
+pub fn put_16_bytes(buf: &mut [u8], at: usize, x: [u8; 16])
     requires { ⌜ at + 16 ≤ length (now buf) ⌝ }
     ensures { λ _. ⌜ now (buf .exit) ≡ take at (now (buf .entry)) ++ x ++ drop (at + 16) (now (buf .entry)) ⌝ }
     ensures { λ _. ⌜ length x ≡ 16 ⌝ }
@@ -60,7 +60,7 @@ pub fn put_16(buf: &mut [u8], at: usize, x: [u8; 16])
     crate::paste(buf, at, &x);
 }
 
-pub fn put_64(buf: &mut [u8], at: usize, x: [u8; 64])
+pub fn put_64_bytes(buf: &mut [u8], at: usize, x: [u8; 64])
     requires { ⌜ at + 64 ≤ length (now buf) ⌝ }
     ensures { λ _. ⌜ now (buf .exit) ≡ take at (now (buf .entry)) ++ x ++ drop (at + 64) (now (buf .entry)) ⌝ }
     ensures { λ _. ⌜ length x ≡ 64 ⌝ }
@@ -68,7 +68,7 @@ pub fn put_64(buf: &mut [u8], at: usize, x: [u8; 64])
     crate::paste(buf, at, &x);
 }
 
-pub fn put_128(buf: &mut [u8], at: usize, x: [u8; 128])
+pub fn put_128_bytes(buf: &mut [u8], at: usize, x: [u8; 128])
     requires { ⌜ at + 128 ≤ length (now buf) ⌝ }
     ensures { λ _. ⌜ now (buf .exit) ≡ take at (now (buf .entry)) ++ x ++ drop (at + 128) (now (buf .entry)) ⌝ }
     ensures { λ _. ⌜ length x ≡ 128 ⌝ }
@@ -76,7 +76,7 @@ pub fn put_128(buf: &mut [u8], at: usize, x: [u8; 128])
     crate::paste(buf, at, &x);
 }
 
-pub fn put_1024(buf: &mut [u8], at: usize, x: [u8; 1024])
+pub fn put_1024_bytes(buf: &mut [u8], at: usize, x: [u8; 1024])
     requires { ⌜ at + 1024 ≤ length (now buf) ⌝ }
     ensures { λ _. ⌜ now (buf .exit) ≡ take at (now (buf .entry)) ++ x ++ drop (at + 1024) (now (buf .entry)) ⌝ }
     ensures { λ _. ⌜ length x ≡ 1024 ⌝ }

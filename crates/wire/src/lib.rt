@@ -3,10 +3,14 @@
 pub mod arrays;
 
 ghost use mathlib.Core.Path.{_≡_};
+ghost use mathlib.Core.Bool.{cond};
 ghost use mathlib.Core.List.{[], _∷_, _++_};
 ghost use Prim.Native.Nat.{_+_, _≤_, _<_};
 ghost use lib.ListN.{length, take, drop, replicate};
 ghost use Rattle.paper.specs.Frame.{le, field};
+
+// The longest payload of a frame, in bytes.
+pub const MAX_PAYLOAD: usize = 1024;
 
 // The commands.
 pub const INFO: u8 = 0;
@@ -70,6 +74,16 @@ pub fn wide64(x: u32) -> u64
     ensures { λ r. ⌜ r < 0x1_0000_0000 ⌝ }
 {
     x as u64
+}
+
+// A value where it is set, or 0.
+pub fn flag(on: bool, value: u8) -> u8
+    ensures { λ r. ⌜ r ≡ cond on value 0 ⌝ }
+{
+    if on {
+        return value;
+    }
+    0
 }
 
 pub fn get16(s: &[u8], at: usize) -> u16

@@ -5,7 +5,7 @@ use mathlib.Core.Path.{_≡_}
 use Rattle.image.specs.declared.Info.{Info}
 use Rattle.client.specs.declared.Refusal.{Refusal}
 use Rattle.client.specs.Numbers.{numberOf}
-use Rattle.host_turn.specs.Turns.{noInfo}
+use Rattle.image.specs.InfoBytes.{noInfo}
 use Rattle.host_answer.specs.declared.numbers.Note.{Note}
 use Rattle.host_answer.specs.Numbers.{going, ending, refusing, refusalNote}
 

@@ -13,8 +13,8 @@ write-sizes-requires c κs = search needs
 write-pair-requires : tie.Need-write-pair-requires
 write-pair-requires c κs = search needs
 
-save-info-requires : tie.Need-save-info-requires
-save-info-requires c κs = search needs
+save-requires : tie.Need-save-requires
+save-requires c κs = search needs
 
 same-length : tie.Need-same-length
 same-length c = search needs
@@ -29,6 +29,6 @@ write-numbers-spec =
     write-tags-requires
     write-sizes-requires
     write-pair-requires
-    save-info-requires
+    save-requires
     same-length
     returns)

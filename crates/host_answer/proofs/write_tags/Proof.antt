@@ -13,8 +13,8 @@ flag-requires-2 c κs = search needs
 flag-requires-3 : tie.Need-flag-requires-3
 flag-requires-3 c κs = search needs
 
-put-8-requires : tie.Need-put-8-requires
-put-8-requires c κs = search needs
+put-8-bytes-requires : tie.Need-put-8-bytes-requires
+put-8-bytes-requires c κs = search needs
 
 same-length : tie.Need-same-length
 same-length c = search needs
@@ -25,4 +25,4 @@ returns c = search (put-tags, needs)
 pub write-tags-spec : {M : Type 1} → statement M
 write-tags-spec =
     tie.close
-    (tie.spec flag-requires flag-requires-2 flag-requires-3 put-8-requires same-length returns)
+    (tie.spec flag-requires flag-requires-2 flag-requires-3 put-8-bytes-requires same-length returns)

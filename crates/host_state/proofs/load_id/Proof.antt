@@ -4,8 +4,8 @@ use borrow.Author.Needs.{needs}
 use Rattle.host_state.proofs.load_id.Statement.{statement}
 use Rattle.host_state.proofs.load_id.Tie as tie
 
-take-16-requires : tie.Need-take-16-requires
-take-16-requires c κs = search needs
+take-16-bytes-requires : tie.Need-take-16-bytes-requires
+take-16-bytes-requires c κs = search needs
 
 add-t4 : tie.Need-add-t4
 add-t4 c = search needs
@@ -17,4 +17,4 @@ returns : tie.Need-returns
 returns c = search (id-loaded, needs)
 
 pub load-id-spec : {M : Type 1} → statement M
-load-id-spec = tie.close (tie.spec take-16-requires add-t4 shared-slice-read-t6 returns)
+load-id-spec = tie.close (tie.spec take-16-bytes-requires add-t4 shared-slice-read-t6 returns)

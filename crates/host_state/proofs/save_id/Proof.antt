@@ -4,8 +4,8 @@ use borrow.Author.Needs.{needs}
 use Rattle.host_state.proofs.save_id.Statement.{statement}
 use Rattle.host_state.proofs.save_id.Tie as tie
 
-put-16-requires : tie.Need-put-16-requires
-put-16-requires c κs = search needs
+put-16-bytes-requires : tie.Need-put-16-bytes-requires
+put-16-bytes-requires c κs = search needs
 
 add-put8 : tie.Need-add-put8
 add-put8 c = search needs
@@ -20,4 +20,4 @@ returns : tie.Need-returns
 returns c = search (put-id, id-length, needs)
 
 pub save-id-spec : {M : Type 1} → statement M
-save-id-spec = tie.close (tie.spec put-16-requires add-put8 put8-requires same-length returns)
+save-id-spec = tie.close (tie.spec put-16-bytes-requires add-put8 put8-requires same-length returns)

@@ -4,14 +4,14 @@ use borrow.Author.Needs.{needs}
 use Rattle.host_state.proofs.save_place.Statement.{statement}
 use Rattle.host_state.proofs.save_place.Tie as tie
 
-put-16-requires : tie.Need-put-16-requires
-put-16-requires c κs = search needs
+put-16-bytes-requires : tie.Need-put-16-bytes-requires
+put-16-bytes-requires c κs = search needs
 
 put64-requires : tie.Need-put64-requires
 put64-requires c κs = search needs
 
-put-128-requires : tie.Need-put-128-requires
-put-128-requires c κs = search needs
+put-128-bytes-requires : tie.Need-put-128-bytes-requires
+put-128-bytes-requires c κs = search needs
 
 save-id-requires : tie.Need-save-id-requires
 save-id-requires c κs = search needs
@@ -25,4 +25,4 @@ returns c = search (put-place, needs)
 pub save-place-spec : {M : Type 1} → statement M
 save-place-spec =
     tie.close
-    (tie.spec put-16-requires put64-requires put-128-requires save-id-requires same-length returns)
+    (tie.spec put-16-bytes-requires put64-requires put-128-bytes-requires save-id-requires same-length returns)

@@ -14,8 +14,8 @@ tag-of-requires c κs = search needs
 size-of-requires : tie.Need-size-of-requires
 size-of-requires c κs = search needs
 
-no-info-requires : tie.Need-no-info-requires
-no-info-requires c κs = search needs
+none-requires : tie.Need-none-requires
+none-requires c κs = search needs
 
 no-reset-requires : tie.Need-no-reset-requires
 no-reset-requires c κs = search needs
@@ -59,8 +59,8 @@ demanding-requires-4 c κs = search needs
 enum-known-job-5 : tie.Need-enum-known-job-5
 enum-known-job-5 c = search needs
 
-no-info-requires-2 : tie.Need-no-info-requires-2
-no-info-requires-2 c κs = search needs
+none-requires-2 : tie.Need-none-requires-2
+none-requires-2 c κs = search needs
 
 demanding-requires-5 : tie.Need-demanding-requires-5
 demanding-requires-5 c κs = search needs
@@ -92,7 +92,7 @@ job-flat-spec =
     enum-known-job
     tag-of-requires
     size-of-requires
-    no-info-requires
+    none-requires
     no-reset-requires
     demanding-requires
     enum-known-job-2
@@ -107,7 +107,7 @@ job-flat-spec =
     no-reset-requires-4
     demanding-requires-4
     enum-known-job-5
-    no-info-requires-2
+    none-requires-2
     demanding-requires-5
     returns
     returns-2

@@ -7,8 +7,8 @@ use Rattle.host_turn_bytes.proofs.load_flat.Tie as tie
 add-load-info : tie.Need-add-load-info
 add-load-info c = search needs
 
-load-info-requires : tie.Need-load-info-requires
-load-info-requires c κs = search needs
+load-requires : tie.Need-load-requires
+load-requires c κs = search needs
 
 add-load-reset : tie.Need-add-load-reset
 add-load-reset c = search needs
@@ -93,7 +93,7 @@ load-flat-spec =
     tie.close
     (tie.spec
     add-load-info
-    load-info-requires
+    load-requires
     add-load-reset
     load-reset-requires
     shared-slice-read-t7

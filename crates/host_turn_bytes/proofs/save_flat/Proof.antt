@@ -16,8 +16,8 @@ put64-requires c κs = search needs
 add-save-info : tie.Need-add-save-info
 add-save-info c = search needs
 
-save-info-requires : tie.Need-save-info-requires
-save-info-requires c κs = search needs
+save-requires : tie.Need-save-requires
+save-requires c κs = search needs
 
 add-save-work : tie.Need-add-save-work
 add-save-work c = search needs
@@ -39,7 +39,7 @@ save-flat-spec =
     add-put64
     put64-requires
     add-save-info
-    save-info-requires
+    save-requires
     add-save-work
     save-work-requires
     same-length

@@ -10,8 +10,8 @@ flag-requires c κs = search needs
 flag-requires-2 : tie.Need-flag-requires-2
 flag-requires-2 c κs = search needs
 
-put-8-requires : tie.Need-put-8-requires
-put-8-requires c κs = search needs
+put-8-bytes-requires : tie.Need-put-8-bytes-requires
+put-8-bytes-requires c κs = search needs
 
 same-length : tie.Need-same-length
 same-length c = search needs
@@ -21,4 +21,4 @@ returns c = search (put-tags, needs)
 
 pub save-tags-spec : {M : Type 1} → statement M
 save-tags-spec =
-    tie.close (tie.spec flag-requires flag-requires-2 put-8-requires same-length returns)
+    tie.close (tie.spec flag-requires flag-requires-2 put-8-bytes-requires same-length returns)

@@ -7,8 +7,8 @@ use Rattle.image.proofs.device_info.Tie as tie
 returns : tie.Need-returns
 returns c = search (short-info, needs)
 
-fields-requires : tie.Need-fields-requires
-fields-requires c κs = search needs
+load-requires : tie.Need-load-requires
+load-requires c κs = search needs
 
 sound-requires : tie.Need-sound-requires
 sound-requires c κs = search needs
@@ -20,4 +20,4 @@ returns-3 : tie.Need-returns-3
 returns-3 c = search (unsound-info, needs)
 
 pub device-info-spec : {M : Type 1} → statement M
-device-info-spec = tie.close (tie.spec returns fields-requires sound-requires returns-2 returns-3)
+device-info-spec = tie.close (tie.spec returns load-requires sound-requires returns-2 returns-3)

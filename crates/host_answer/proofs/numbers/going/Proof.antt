@@ -4,11 +4,11 @@ use borrow.Author.Needs.{needs}
 use Rattle.host_answer.proofs.numbers.going.Statement.{statement}
 use Rattle.host_answer.proofs.numbers.going.Tie as tie
 
-no-info-requires : tie.Need-no-info-requires
-no-info-requires c κs = search needs
+none-requires : tie.Need-none-requires
+none-requires c κs = search needs
 
 returns : tie.Need-returns
 returns c = search (going-is, needs)
 
 pub going-spec : {M : Type 1} → statement M
-going-spec = tie.close (tie.spec no-info-requires returns)
+going-spec = tie.close (tie.spec none-requires returns)

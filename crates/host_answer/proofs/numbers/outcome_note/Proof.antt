@@ -9,8 +9,8 @@ use Rattle.host_answer.proofs.numbers.outcome_note.Tie as tie
 enum-told : tie.Need-enum-told
 enum-told c = search needs
 
-no-info-requires : tie.Need-no-info-requires
-no-info-requires c κs = search needs
+none-requires : tie.Need-none-requires
+none-requires c κs = search needs
 
 ending-requires : tie.Need-ending-requires
 ending-requires c κs = search needs
@@ -21,8 +21,8 @@ enum-known-o c = search needs
 heard-tag-requires : tie.Need-heard-tag-requires
 heard-tag-requires c κs = search needs
 
-no-info-requires-2 : tie.Need-no-info-requires-2
-no-info-requires-2 c κs = search needs
+none-requires-2 : tie.Need-none-requires-2
+none-requires-2 c κs = search needs
 
 ending-requires-2 : tie.Need-ending-requires-2
 ending-requires-2 c κs = search needs
@@ -30,8 +30,8 @@ ending-requires-2 c κs = search needs
 enum-known-o-2 : tie.Need-enum-known-o-2
 enum-known-o-2 c = search needs
 
-no-info-requires-3 : tie.Need-no-info-requires-3
-no-info-requires-3 c κs = search needs
+none-requires-3 : tie.Need-none-requires-3
+none-requires-3 c κs = search needs
 
 ending-requires-3 : tie.Need-ending-requires-3
 ending-requires-3 c κs = search needs
@@ -39,8 +39,8 @@ ending-requires-3 c κs = search needs
 enum-told-2 : tie.Need-enum-told-2
 enum-told-2 c = search needs
 
-no-info-requires-4 : tie.Need-no-info-requires-4
-no-info-requires-4 c κs = search needs
+none-requires-4 : tie.Need-none-requires-4
+none-requires-4 c κs = search needs
 
 ending-requires-4 : tie.Need-ending-requires-4
 ending-requires-4 c κs = search needs
@@ -54,8 +54,8 @@ ending-requires-5 c κs = search needs
 enum-told-3 : tie.Need-enum-told-3
 enum-told-3 c = search needs
 
-no-info-requires-5 : tie.Need-no-info-requires-5
-no-info-requires-5 c κs = search needs
+none-requires-5 : tie.Need-none-requires-5
+none-requires-5 c κs = search needs
 
 ending-requires-6 : tie.Need-ending-requires-6
 ending-requires-6 c κs = search needs
@@ -89,22 +89,22 @@ outcome-note-spec =
     tie.close
     (tie.spec
     enum-told
-    no-info-requires
+    none-requires
     ending-requires
     enum-known-o
     heard-tag-requires
-    no-info-requires-2
+    none-requires-2
     ending-requires-2
     enum-known-o-2
-    no-info-requires-3
+    none-requires-3
     ending-requires-3
     enum-told-2
-    no-info-requires-4
+    none-requires-4
     ending-requires-4
     enum-known-o-3
     ending-requires-5
     enum-told-3
-    no-info-requires-5
+    none-requires-5
     ending-requires-6
     returns
     returns-2
