@@ -1,18 +1,20 @@
 /* Random and hostile bytes against every exported call: `hostile SEED CALLS [heap]`.
  *
- * Eight clients, each on a wire of its own: pods that answer as they should, that are silent, garble, or answer anything. Their operations
- * are driven to their ends; between, calls are made out of turn, with buffers of any length, and on states that no call left. Each call is
- * tried by trial.c, between closed pages; with `heap`, for valgrind and the sanitizers, on allocations of its exact lengths.
+ * First every call is made with every choice of its buffers empty. Then eight clients run, each on a wire of its own,
+ * whose pods answer correctly, are silent, garble, or answer with anything. Their operations are driven to the end. In
+ * between there are calls out of turn, calls with buffers of any length, and calls on states that no call has produced.
+ * trial.c makes and checks each call: between closed pages, or with `heap` (for valgrind and the sanitizers) on
+ * allocations of the exact lengths.
  *
- * Exit 1 at the first fault, with the call that showed it; else the codes met, by call. From a million calls on, a code that fahireky.h
- * allows a call and that was not met is a fault too. */
+ * Prints the numbers met, for each call. Exits with 1 at the first fault, and prints the call. From a million calls on
+ * it is a fault, too, if a number that fahireky.h lists for a call was not met. */
 #include "trial.h"
 
 #include <stdio.h>
 #include <stdlib.h>
 #include <string.h>
 
-/* Chance. */
+/* Random numbers: SplitMix64. */
 
 static uint64_t seed;
 
@@ -35,7 +37,7 @@ static void scatter(uint8_t *bytes, size_t n)
     }
 }
 
-/* A length around one that counts: most often that length itself. */
+/* A length near n, most often n itself. */
 static size_t around(size_t n, size_t most)
 {
     switch (below(24)) {
@@ -47,24 +49,25 @@ static size_t around(size_t n, size_t most)
     }
 }
 
-/* The wires, and the clients on them. */
+/* The wires and their clients. */
 
 #define PODS 70
 #define IMAGE 5000
-#define LIFE 5000 /* the calls after which a wire begins anew */
+#define LIFE 5000 /* after so many calls a wire gets a new client */
 
 enum temper { HONEST, SILENT, GARBLED, UNADDRESSED, LONG_ID, STUBBORN, BAD_VERIFY, HOSTILE, TEMPERS };
 enum phase { IDLE, READY, WAITING };
 
 struct wire {
-    uint8_t state[FAHIREKY_STATE]; /* as the last call left it */
-    bool open;                     /* it takes what calls make of states that none left; the others never do */
-    bool pure;
-    bool hasty; /* links fail, and honest pods slip */
+    uint8_t state[FAHIREKY_STATE];
+    bool open;  /* may take over what a call makes of a state that no call has produced */
+    bool pure;  /* as in struct call */
+    bool hasty; /* the link sometimes fails, and honest pods sometimes answer with anything */
     enum phase phase;
-    unsigned age; /* calls since it was all zero */
+    unsigned age; /* calls since the state was all zero */
     uint8_t request[FAHIREKY_REQUEST];
-    size_t request_len, lacked;
+    size_t request_len;
+    size_t needed; /* the length that the last request needed, if its buffer was too short */
     enum temper temper;
     size_t pods, id_len;
     uint8_t ids[PODS][16], info[18], image[IMAGE];
@@ -83,10 +86,12 @@ static size_t image_length(void)
     }
 }
 
-/* Device information that passes, most of the time, for the image of this wire. */
+/* Device information that usually fits the image of this wire. */
 static void inform(struct wire *w)
 {
-    uint32_t capacity = (uint32_t)(one_in(16) ? below(w->image_len + 2) : one_in(16) ? 0xFFFFFFFF - below(64) : w->image_len + below(3000));
+    uint32_t capacity = (uint32_t)(one_in(16)   ? below(w->image_len + 2)
+                                   : one_in(16) ? 0xFFFFFFFF - below(64)
+                                                : w->image_len + below(3000));
     uint16_t erase = (uint16_t)(one_in(24) ? 0 : 64 + below(one_in(8) ? 65000 : 2000));
     uint16_t payload = (uint16_t)(one_in(24) ? below(4) : 4 + below(one_in(2) ? 1100 : 60));
     scatter(w->info, sizeof w->info);
@@ -100,7 +105,7 @@ static void inform(struct wire *w)
         memcpy(w->info + 12, &k, 4);
 }
 
-/* Another wire for the next operation. */
+/* Other pods and another image for the next operation. */
 static void rewire(struct wire *w)
 {
     static const size_t few[] = {0, 1, 1, 1, 2, 3, 5};
@@ -117,7 +122,7 @@ static void rewire(struct wire *w)
     inform(w);
 }
 
-/* A frame with a right check: its length. The number says how long its payload is, whatever it is. */
+/* Writes a frame with a correct check, and a random payload if none is given. Returns its length. */
 static size_t frame(uint8_t *out, uint8_t command, uint8_t status, const uint8_t *payload, size_t n)
 {
     scatter(out, 10);
@@ -145,6 +150,7 @@ static bool matches(const struct wire *w, const uint8_t *id)
     return true;
 }
 
+/* The answer to a Select: one pod's id, or noise from several. */
 static size_t selected(const struct wire *w, uint8_t *out)
 {
     size_t speakers = 0, last = 0;
@@ -158,7 +164,7 @@ static size_t selected(const struct wire *w, uint8_t *out)
     return speakers ? frame(out, 5, 1, w->ids[last], w->id_len) : 0;
 }
 
-/* What the pods of a wire say to the request that is out. */
+/* The pods' answer to the last request. */
 static size_t replied(const struct wire *w, uint8_t *out)
 {
     uint8_t command = w->request[1], two[2];
@@ -184,7 +190,8 @@ static size_t replied(const struct wire *w, uint8_t *out)
     }
 }
 
-/* A piece of a record: an echo, a frame of any status and length, one cut short or with a wrong check, or noise. */
+/* A piece of a record: an echo, an answer, a frame of any status and length, a frame that is cut short or has a wrong
+ * check, or noise. */
 static size_t piece(const struct wire *w, uint8_t *out)
 {
     static const uint8_t statuses[] = {1, 1, 1, 1, 0, 2, 3};
@@ -214,6 +221,7 @@ static size_t piece(const struct wire *w, uint8_t *out)
     }
 }
 
+/* A record: the answer, perhaps after the echo; on a hostile wire any pieces. */
 static size_t record(const struct wire *w, uint8_t *out)
 {
     size_t n = 0;
@@ -229,23 +237,25 @@ static size_t record(const struct wire *w, uint8_t *out)
     return n;
 }
 
-/* The choice of a call, and of what it is lent. */
+/* The choice of a call and of its arguments. */
 
+/* Usually the call that is in turn. */
 static int chosen(const struct wire *w)
 {
     if (one_in(6)) {
         int what = (int)below(EXPORTS);
-        return what == LINK_FAILED && w->phase == WAITING && !w->hasty ? TOLD : what;
+        return what == LINK_FAILED && w->phase == WAITING && !w->hasty ? TAKE : what;
     }
     switch (w->phase) {
     case IDLE: return (int)below(REQUEST);
     case READY: return REQUEST;
-    default: return w->hasty && one_in(100) ? LINK_FAILED : TOLD;
+    default: return w->hasty && one_in(100) ? LINK_FAILED : TAKE;
     }
 }
 
-/* The state of the wire's client, or one that no call left: whether what becomes of it is the wire's. */
-static bool lend_state(const struct wire *w)
+/* Passes the state of the wire's client, or another one. Returns whether the wire's client gets the state after the
+ * call. */
+static bool pass_state(const struct wire *w)
 {
     uint8_t *s = call.bytes[STATE];
     size_t kind = one_in(8) ? 1 + below(6) : 0;
@@ -258,7 +268,7 @@ static bool lend_state(const struct wire *w)
     case 3: scatter(s, FAHIREKY_STATE); break;
     default: memcpy(s, w->state, FAHIREKY_STATE); break;
     }
-    if (kind == 3 && one_in(2)) { /* a turn that stands for something, also for a flash of the wire's image */
+    if (kind == 3 && one_in(2)) { /* random, but with a turn that has a meaning, such as a flash of the wire's image */
         for (size_t k = 19; k < 27; k++)
             s[k] = (uint8_t)below(5);
         memcpy(s + 27, &w->image_len, 8);
@@ -269,45 +279,45 @@ static bool lend_state(const struct wire *w)
     return kind == 0 || (w->open && one_in(4));
 }
 
-static void lend_image(const struct wire *w)
+static void pass_image(const struct wire *w)
 {
     bool other = one_in(32);
-    call.len[GIVEN] = other ? image_length() : w->image_len;
-    memcpy(call.bytes[GIVEN], w->image, call.len[GIVEN]);
+    call.len[INPUT] = other ? image_length() : w->image_len;
+    memcpy(call.bytes[INPUT], w->image, call.len[INPUT]);
 }
 
-static void lend_prefix(const struct wire *w)
+static void pass_prefix(const struct wire *w)
 {
-    call.len[GIVEN] = one_in(2) ? 0 : one_in(2) ? below(3) : below(20);
-    scatter(call.bytes[GIVEN], call.len[GIVEN]);
-    if (one_in(2) && call.len[GIVEN] <= 16)
-        memcpy(call.bytes[GIVEN], w->ids[0], call.len[GIVEN]);
-    size_t bits = 8 * call.len[GIVEN];
+    call.len[INPUT] = one_in(2) ? 0 : one_in(2) ? below(3) : below(20);
+    scatter(call.bytes[INPUT], call.len[INPUT]);
+    if (one_in(2) && call.len[INPUT] <= 16)
+        memcpy(call.bytes[INPUT], w->ids[0], call.len[INPUT]);
+    size_t bits = 8 * call.len[INPUT];
     call.count = one_in(16) ? (size_t)chance() : one_in(8) ? bits + below(300) : below(bits + 1);
 }
 
-static void lend_text(void)
+static void pass_text(void)
 {
-    call.len[GIVEN] = below(40);
-    for (size_t i = 0; i < call.len[GIVEN]; i++)
-        call.bytes[GIVEN][i] = (uint8_t)"0123456789abcdefABCDEF"[below(22)];
-    if (call.len[GIVEN] && one_in(3))
-        call.bytes[GIVEN][below(call.len[GIVEN])] = (uint8_t)chance();
+    call.len[INPUT] = below(40);
+    for (size_t i = 0; i < call.len[INPUT]; i++)
+        call.bytes[INPUT][i] = (uint8_t)"0123456789abcdefABCDEF"[below(22)];
+    if (call.len[INPUT] && one_in(3))
+        call.bytes[INPUT][below(call.len[INPUT])] = (uint8_t)chance();
 }
 
-static void lend_inputs(const struct wire *w)
+static void pass_inputs(const struct wire *w)
 {
     switch (call.what) {
-    case SELECT: case ATTACH_TO: case DISCOVER: lend_prefix(w); break;
-    case FLASH: case REQUEST: case TOLD: case IMAGE_COMPAT: case CRC16: lend_image(w); break;
+    case SELECT: case ATTACH_TO: case DISCOVER: pass_prefix(w); break;
+    case FLASH: case REQUEST: case TAKE: case IMAGE_COMPAT: case CRC16: pass_image(w); break;
     case UID_HEX:
-        call.len[GIVEN] = below(20);
-        scatter(call.bytes[GIVEN], call.len[GIVEN]);
+        call.len[INPUT] = below(20);
+        scatter(call.bytes[INPUT], call.len[INPUT]);
         break;
-    case PARSE_UID: lend_text(); break;
+    case PARSE_UID: pass_text(); break;
     default: break;
     }
-    if (call.what == TOLD || call.what == HEAR || call.what == REST)
+    if (call.what == TAKE || call.what == HEAR || call.what == REST)
         call.len[RECORD] = record(w, call.bytes[RECORD]);
     if (call.what == REST)
         call.count = one_in(8) ? (size_t)chance() : below(call.len[RECORD] + 3);
@@ -317,44 +327,46 @@ static void lend_inputs(const struct wire *w)
     call.in_boot = !one_in(4);
 }
 
-static void lend_outputs(const struct wire *w)
+static void pass_outputs(const struct wire *w)
 {
     call.len[ANSWER] = around(FAHIREKY_ANSWER, 1300);
     scatter(call.bytes[ANSWER], call.len[ANSWER]);
     if (call.what != REQUEST)
-        call.len[OUT] = below(40);
-    else if (w->lacked)
-        call.len[OUT] = w->lacked - 1 + below(3);
+        call.len[OUTPUT] = below(40);
+    else if (w->needed)
+        call.len[OUTPUT] = w->needed - 1 + below(3);
     else
-        call.len[OUT] = one_in(8) ? below(60) : FAHIREKY_REQUEST + below(1100 - FAHIREKY_REQUEST + 1);
-    scatter(call.bytes[OUT], call.len[OUT]);
+        call.len[OUTPUT] = one_in(8) ? below(60) : FAHIREKY_REQUEST + below(1100 - FAHIREKY_REQUEST + 1);
+    scatter(call.bytes[OUTPUT], call.len[OUTPUT]);
 }
 
-/* What the wire knows of its client, from what came of the call. */
+/* Takes the state after a call, and what the result says about the client's phase. */
 static void learn(struct wire *w, const struct outcome *x)
 {
     unsigned number = FAHIREKY_NUMBER(x->code), says = x->bytes[ANSWER][FAHIREKY_AT_SAYS];
     memcpy(w->state, x->bytes[STATE], FAHIREKY_STATE);
     w->pure = call.pure;
-    w->lacked = call.what == REQUEST && number == 16 ? FAHIREKY_LENGTH(x->code) : 0;
+    w->needed = call.what == REQUEST && number == FAHIREKY_SHORT_BUFFER ? FAHIREKY_LENGTH(x->code) : 0;
     if (call.what == FLASH && number == 0)
-        w->image_len = call.len[GIVEN];
-    if (number == 20 && call.len[GIVEN] == w->image_len) /* no image of this wire's will do */
+        w->image_len = call.len[INPUT];
+    if (number == FAHIREKY_OTHER_IMAGE && call.len[INPUT] == w->image_len) /* it waits for an image that is lost */
         w->age = LIFE;
-    if (number == 21) { /* where it was not in the phase that it was taken to be in, in another */
+    if (number == FAHIREKY_OUT_OF_TURN) { /* it is not in the phase assumed: assume the next one */
         static const enum phase next[] = {[IDLE] = READY, [READY] = WAITING, [WAITING] = IDLE};
         enum phase of = call.what < REQUEST ? IDLE : call.what == REQUEST ? READY : WAITING;
         w->phase = w->phase == of ? next[of] : w->phase;
     }
-    if (number == 13 || number == 16 || number == 20 || number == 21)
+    if (number == FAHIREKY_BAD_PREFIX || number == FAHIREKY_SHORT_BUFFER || number == FAHIREKY_OTHER_IMAGE ||
+        number == FAHIREKY_OUT_OF_TURN)
         return;
     w->phase = says == FAHIREKY_ONWARD ? READY : says == FAHIREKY_GRANTED ? WAITING : IDLE;
     if (says == FAHIREKY_GRANTED) {
         w->request_len = FAHIREKY_LENGTH(x->code);
-        memcpy(w->request, x->bytes[OUT], w->request_len);
+        memcpy(w->request, x->bytes[OUTPUT], w->request_len);
     }
 }
 
+/* One call on a wire's client. */
 static void step(struct wire *w)
 {
     if (++w->age > LIFE) {
@@ -366,13 +378,41 @@ static void step(struct wire *w)
     if (w->phase == IDLE && one_in(2))
         rewire(w);
     call.what = chosen(w);
-    bool kept = lend_state(w);
-    lend_inputs(w);
-    lend_outputs(w);
+    bool kept = pass_state(w);
+    pass_inputs(w);
+    pass_outputs(w);
     const struct outcome *x = tried(one_in(2));
-    bool lent = call.len[STATE] >= FAHIREKY_STATE && call.len[ANSWER] >= FAHIREKY_ANSWER;
-    if (kept && lent && call.what <= LINK_FAILED)
+    bool long_enough = call.len[STATE] >= FAHIREKY_STATE && call.len[ANSWER] >= FAHIREKY_ANSWER;
+    if (kept && long_enough && call.what <= LINK_FAILED)
         learn(w, x);
+}
+
+/* Every call with every choice of its buffers empty: these are NULL in one of the two calls of the trial. The other
+ * arguments are 0. */
+static void try_empty(const uint8_t state[FAHIREKY_STATE])
+{
+    static const size_t full[BUFFERS] = {FAHIREKY_STATE, FAHIREKY_ANSWER, 4, 4, FAHIREKY_REQUEST};
+    call.pure = true;
+    for (call.what = 0; call.what < EXPORTS; call.what++)
+        for (unsigned empty = 0; empty < 1u << BUFFERS; empty++) {
+            for (int i = 0; i < BUFFERS; i++) {
+                call.len[i] = empty >> i & 1 ? 0 : full[i];
+                memset(call.bytes[i], '1', full[i]);
+            }
+            memcpy(call.bytes[STATE], state, FAHIREKY_STATE);
+            tried(true);
+        }
+}
+
+/* For a new client, for one that has started a flash of an empty image, and for one that waits for a record. */
+static void try_empty_in_turn(void)
+{
+    uint8_t state[FAHIREKY_STATE] = {0}, request[FAHIREKY_REQUEST], answer[FAHIREKY_ANSWER];
+    try_empty(state);
+    fahireky_start_flash(state, sizeof state, NULL, 0, answer, sizeof answer);
+    try_empty(state);
+    fahireky_request(state, sizeof state, NULL, 0, request, sizeof request, answer, sizeof answer);
+    try_empty(state);
 }
 
 int main(int argc, char **argv)
@@ -384,6 +424,7 @@ int main(int argc, char **argv)
     seed = strtoull(argv[1], NULL, 10);
     uint64_t calls = strtoull(argv[2], NULL, 10);
     prepare(argc == 4);
+    try_empty_in_turn();
     for (size_t i = 0; i < 8; i++) {
         wires[i].open = i >= 4;
         wires[i].age = LIFE;
@@ -391,6 +432,7 @@ int main(int argc, char **argv)
     for (uint64_t n = 0; n < calls; n++)
         step(&wires[below(8)]);
     bool all = report();
-    printf("%llu calls, each twice: no fault%s\n", (unsigned long long)calls, all ? ", every code met" : "; some code of the header was not met");
+    printf("%llu random calls, each made twice: no fault%s\n", (unsigned long long)calls,
+           all ? ", every number met" : "; some number that the header lists was not met");
     return all || calls < 1000000 ? 0 : 1;
 }

@@ -1,9 +1,9 @@
-/* One trial of an exported call: it is made twice on the same bytes, and everything that fahireky.h says of what it returns, writes and
- * leaves is looked at.
+/* A trial of one exported call. The call is made twice on the same bytes, and everything that fahireky.h says about
+ * what it returns and writes is checked.
  *
- * Every lent buffer ends exactly at a page that may not be touched in the one, and begins right after such a page in the other; or each is
- * an allocation of its exact length. What the call writes must be the same in both, though what it overwrites, and what stands after that,
- * is the complement in the second. */
+ * In one of the two calls every buffer ends right before a page that must not be touched, in the other every buffer
+ * begins right after such a page; or every buffer is an allocation of its exact length. Before the second call the
+ * bytes that are to be overwritten, and those after them, are complemented: the same bytes must be written. */
 #define _DEFAULT_SOURCE
 #include "trial.h"
 
@@ -13,66 +13,82 @@
 #include <string.h>
 #include <sys/mman.h>
 
-/* The exports: the buffers that each is lent, those that it may write, and the numbers that the header gives it. */
+/* The exports: the buffers that each is passed, those that it may write, and the numbers that the header lists. */
 
 #define S (1u << STATE)
 #define A (1u << ANSWER)
-#define G (1u << GIVEN)
+#define I (1u << INPUT)
 #define R (1u << RECORD)
-#define O (1u << OUT)
+#define O (1u << OUTPUT)
 #define N(n) (1u << (n))
 #define STARTS (N(0) | N(16) | N(21))
 #define KEEPING (N(13) | N(16) | N(20) | N(21) | N(22)) /* the refusals that change nothing */
-#define ENDING (0x7FFFFE & ~KEEPING)                    /* those that end the operation */
+#define ENDING (0x7FFFFE & ~KEEPING)                    /* the refusals that end the operation */
 
 static const struct {
     const char *name;
-    unsigned lent, written;
+    unsigned passed, written;
     uint32_t numbers;
 } exports[EXPORTS] = {
-    [SELECT] = {"start_select", S | G | A, S | A, STARTS | N(13)},
+    [SELECT] = {"start_select", S | I | A, S | A, STARTS | N(13)},
     [DESELECT] = {"start_deselect", S | A, S | A, STARTS},
     [ATTACH] = {"start_attach", S | A, S | A, STARTS},
-    [ATTACH_TO] = {"start_attach_to", S | G | A, S | A, STARTS | N(13)},
-    [DISCOVER] = {"start_discover", S | G | A, S | A, STARTS | N(13)},
+    [ATTACH_TO] = {"start_attach_to", S | I | A, S | A, STARTS | N(13)},
+    [DISCOVER] = {"start_discover", S | I | A, S | A, STARTS | N(13)},
     [INFO] = {"start_info", S | A, S | A, STARTS},
     [ERASE] = {"start_erase", S | A, S | A, STARTS},
-    [FLASH] = {"start_flash", S | G | A, S | A, STARTS},
+    [FLASH] = {"start_flash", S | I | A, S | A, STARTS},
     [RESET] = {"start_reset", S | A, S | A, STARTS},
     [SET_BAUD] = {"start_set_baud", S | A, S | A, STARTS},
-    [REQUEST] = {"request", S | G | O | A, S | O | A, N(0) | N(16) | N(20) | N(21)},
-    [TOLD] = {"record", S | G | R | A, S | A, N(0) | N(16) | N(20) | N(21) | N(23) | ENDING},
+    [REQUEST] = {"request", S | I | O | A, S | O | A, N(0) | N(16) | N(20) | N(21)},
+    [TAKE] = {"record", S | I | R | A, S | A, N(0) | N(16) | N(20) | N(21) | N(23) | ENDING},
     [LINK_FAILED] = {"link_failed", S | A, S | A, N(1) | N(16) | N(21)},
     [ATTACHED] = {"attached", S | A, A, N(0) | N(16)},
     [HEAR] = {"hear", R | A, A, N(0) | N(14) | N(16)},
     [REST] = {"rest", R, 0, N(0)},
-    [UID_HEX] = {"uid_hex", G | O, O, N(0) | N(13) | N(16)},
-    [PARSE_UID] = {"parse_uid", G | O, O, N(0) | N(16) | N(22)},
-    [IMAGE_COMPAT] = {"image_compat", G, 0, N(0)},
-    [CRC16] = {"crc16", G, 0, N(0)},
+    [UID_HEX] = {"uid_hex", I | O, O, N(0) | N(13) | N(16)},
+    [PARSE_UID] = {"parse_uid", I | O, O, N(0) | N(16) | N(22)},
+    [IMAGE_COMPAT] = {"image_compat", I, 0, N(0)},
+    [CRC16] = {"crc16", I, 0, N(0)},
     [STATE_SIZE] = {"state_size", 0, 0, N(0)},
     [ANSWER_SIZE] = {"answer_size", 0, 0, N(0)},
 };
 
+static const char *const buffers[BUFFERS] = {
+    [STATE] = "state", [ANSWER] = "answer", [INPUT] = "input", [RECORD] = "record", [OUTPUT] = "output",
+};
+
 struct call call;
-/* Of the calls made: the codes met, the requests granted by their command, and what records ended with. */
-static uint64_t made, met[EXPORTS][24], granted[6], ended[6];
+
+/* Counts over all trials: themselves, the numbers met, the buffers passed as NULL, the requests granted by their
+ * command, and the outcomes. */
+static uint64_t trials, met[EXPORTS][24], nulls[EXPORTS][BUFFERS], granted[6], ended[6];
 
 static void must(bool holds, const char *what, uint64_t code)
 {
     if (holds)
         return;
-    printf("fault: %s, at call %llu, fahireky_%s: code %llx (number %u, length %zu)\n", what, (unsigned long long)made,
-           exports[call.what].name, (unsigned long long)code, FAHIREKY_NUMBER(code), FAHIREKY_LENGTH(code));
-    printf("lengths: state %zu, answer %zu, given %zu, record %zu, out %zu; count %zu\n", call.len[STATE], call.len[ANSWER],
-           call.len[GIVEN], call.len[RECORD], call.len[OUT], call.count);
+    printf("fault: %s, at call %llu, fahireky_%s: code %llx (number %u, length %zu)\n", what,
+           (unsigned long long)trials, exports[call.what].name, (unsigned long long)code, FAHIREKY_NUMBER(code),
+           FAHIREKY_LENGTH(code));
+    printf("lengths: state %zu, answer %zu, input %zu, record %zu, output %zu; count %zu\n", call.len[STATE],
+           call.len[ANSWER], call.len[INPUT], call.len[RECORD], call.len[OUTPUT], call.count);
     exit(1);
 }
 
-/* Lending. */
+static bool passes(int i) { return exports[call.what].passed >> i & 1; }
 
-static bool heaped;
-static uint8_t *ground[BUFFERS]; /* MOST bytes between two pages that may not be touched */
+/* Whether the state or the answer buffer is too short, so that the call must write nothing. */
+static bool too_short(void)
+{
+    return (passes(STATE) && call.len[STATE] < FAHIREKY_STATE) ||
+           (passes(ANSWER) && call.len[ANSWER] < FAHIREKY_ANSWER);
+}
+
+/* The buffers of a call. */
+
+static bool on_heap;
+static uint8_t *room[BUFFERS]; /* MOST bytes between closed pages */
 
 static void touched(int signal)
 {
@@ -82,7 +98,7 @@ static void touched(int signal)
 
 void prepare(bool heap)
 {
-    heaped = heap;
+    on_heap = heap;
     if (heap)
         return;
     signal(SIGSEGV, touched);
@@ -93,23 +109,28 @@ void prepare(bool heap)
             perror("hostile");
             exit(2);
         }
-        ground[i] = at + MOST;
+        room[i] = at + MOST;
     }
 }
 
-/* Where buffer i lies: low, right after a closed page, or high, up to one. Of an empty one no byte may be read: NULL, or a closed page. */
-static uint8_t *lend(int i, bool low, uint8_t **freed)
+/* Buffer i with its content: right after a closed page if low, otherwise right before one. An empty one is NULL, or a
+ * place where no byte can be read. */
+static uint8_t *placed(int i, bool low, uint8_t **allocation)
 {
     size_t n = call.len[i];
     uint8_t *at;
-    *freed = NULL;
+    *allocation = NULL;
     if (n == 0 && low)
         return NULL;
-    if (heaped) {
-        *freed = malloc(n ? n : 1);
-        at = n ? *freed : *freed + 1;
+    if (on_heap) {
+        *allocation = malloc(n ? n : 1);
+        if (!*allocation) {
+            perror("hostile");
+            exit(2);
+        }
+        at = n ? *allocation : *allocation + 1;
     } else {
-        at = low ? ground[i] : ground[i] + MOST - n;
+        at = low ? room[i] : room[i] + MOST - n;
     }
     if (n)
         memcpy(at, call.bytes[i], n);
@@ -118,29 +139,30 @@ static uint8_t *lend(int i, bool low, uint8_t **freed)
 
 static uint64_t invoke(uint8_t *const at[BUFFERS])
 {
-    uint8_t *s = at[STATE], *a = at[ANSWER], *g = at[GIVEN], *r = at[RECORD], *o = at[OUT];
-    size_t sn = call.len[STATE], an = call.len[ANSWER], gn = call.len[GIVEN], rn = call.len[RECORD], on = call.len[OUT];
+    uint8_t *s = at[STATE], *a = at[ANSWER], *i = at[INPUT], *r = at[RECORD], *o = at[OUTPUT];
+    size_t sn = call.len[STATE], an = call.len[ANSWER], in = call.len[INPUT], rn = call.len[RECORD];
+    size_t on = call.len[OUTPUT];
     switch (call.what) {
-    case SELECT: return fahireky_start_select(s, sn, g, gn, call.count, a, an);
+    case SELECT: return fahireky_start_select(s, sn, i, in, call.count, a, an);
     case DESELECT: return fahireky_start_deselect(s, sn, a, an);
     case ATTACH: return fahireky_start_attach(s, sn, a, an);
-    case ATTACH_TO: return fahireky_start_attach_to(s, sn, g, gn, a, an);
-    case DISCOVER: return fahireky_start_discover(s, sn, g, gn, a, an);
+    case ATTACH_TO: return fahireky_start_attach_to(s, sn, i, in, a, an);
+    case DISCOVER: return fahireky_start_discover(s, sn, i, in, a, an);
     case INFO: return fahireky_start_info(s, sn, a, an);
     case ERASE: return fahireky_start_erase(s, sn, a, an);
-    case FLASH: return fahireky_start_flash(s, sn, g, gn, a, an);
+    case FLASH: return fahireky_start_flash(s, sn, i, in, a, an);
     case RESET: return fahireky_start_reset(s, sn, call.bootloader, call.in_boot, a, an);
     case SET_BAUD: return fahireky_start_set_baud(s, sn, call.baud, call.bootloader, call.in_boot, a, an);
-    case REQUEST: return fahireky_request(s, sn, g, gn, o, on, a, an);
-    case TOLD: return fahireky_record(s, sn, g, gn, r, rn, a, an);
+    case REQUEST: return fahireky_request(s, sn, i, in, o, on, a, an);
+    case TAKE: return fahireky_record(s, sn, i, in, r, rn, a, an);
     case LINK_FAILED: return fahireky_link_failed(s, sn, a, an);
     case ATTACHED: return fahireky_attached(s, sn, a, an);
     case HEAR: return fahireky_hear(r, rn, a, an);
     case REST: return fahireky_rest(r, rn, call.count);
-    case UID_HEX: return fahireky_uid_hex(g, gn, o, on);
-    case PARSE_UID: return fahireky_parse_uid(g, gn, o, on);
-    case IMAGE_COMPAT: return fahireky_image_compat(g, gn);
-    case CRC16: return fahireky_crc16(call.start, g, gn);
+    case UID_HEX: return fahireky_uid_hex(i, in, o, on);
+    case PARSE_UID: return fahireky_parse_uid(i, in, o, on);
+    case IMAGE_COMPAT: return fahireky_image_compat(i, in);
+    case CRC16: return fahireky_crc16(call.start, i, in);
     case STATE_SIZE: return fahireky_state_size();
     default: return fahireky_answer_size();
     }
@@ -148,22 +170,27 @@ static uint64_t invoke(uint8_t *const at[BUFFERS])
 
 static void make(bool low, struct outcome *x)
 {
-    uint8_t *at[BUFFERS] = {NULL}, *freed[BUFFERS] = {NULL};
+    uint8_t *at[BUFFERS] = {NULL}, *allocation[BUFFERS] = {NULL};
     for (int i = 0; i < BUFFERS; i++)
-        if (exports[call.what].lent >> i & 1)
-            at[i] = lend(i, low, &freed[i]);
+        if (passes(i)) {
+            at[i] = placed(i, low, &allocation[i]);
+            /* an input counts only where the call gets as far as to look at it */
+            if (!at[i] && (i == STATE || i == ANSWER || !too_short()))
+                nulls[call.what][i]++;
+        }
     x->code = invoke(at);
     for (int i = 0; i < BUFFERS; i++) {
         if (at[i] && call.len[i])
             memcpy(x->bytes[i], at[i], call.len[i]);
-        free(freed[i]);
+        free(allocation[i]);
     }
 }
 
-/* The rules of the small calls, written down once more. */
+/* The rules of the small calls, written independently of the library. */
 
-uint16_t check(uint16_t c, const uint8_t *bytes, size_t n)
+uint16_t check(uint16_t start, const uint8_t *bytes, size_t n)
 {
+    uint16_t c = start;
     for (size_t i = 0; i < n; i++) {
         c ^= (uint16_t)(bytes[i] << 8);
         for (int k = 0; k < 8; k++)
@@ -187,38 +214,42 @@ uint64_t key(const uint8_t *image, size_t n)
 
 static int digit(uint8_t c)
 {
-    return c >= '0' && c <= '9' ? c - '0' : c >= 'a' && c <= 'f' ? c - 'a' + 10 : c >= 'A' && c <= 'F' ? c - 'A' + 10 : -1;
+    if (c >= '0' && c <= '9')
+        return c - '0';
+    if (c >= 'a' && c <= 'f')
+        return c - 'a' + 10;
+    return c >= 'A' && c <= 'F' ? c - 'A' + 10 : -1;
 }
 
-/* n bytes go out, or the buffer is too short for them. */
-static uint64_t room(size_t n) { return (uint64_t)n << 8 | (call.len[OUT] < n ? 16 : 0); }
+/* The code of a call that writes n bytes, or is refused because they do not fit. */
+static uint64_t fitted(size_t n) { return (uint64_t)n << 8 | (call.len[OUTPUT] < n ? 16 : 0); }
 
-/* The code of a call without a state, and of any whose buffers are too short; what it writes, to the front of out. Else false. */
+/* The code of a call that has no state, or whose state or answer buffer is too short; `out` gets the bytes that it must
+ * write. False for all other calls. */
 static bool predicted(uint64_t *code, uint8_t *out)
 {
-    const uint8_t *g = call.bytes[GIVEN];
-    size_t n = call.len[GIVEN];
-    unsigned lent = exports[call.what].lent;
-    if ((lent & S) && call.len[STATE] < FAHIREKY_STATE)
+    const uint8_t *in = call.bytes[INPUT];
+    size_t n = call.len[INPUT];
+    if (passes(STATE) && call.len[STATE] < FAHIREKY_STATE)
         return *code = FAHIREKY_STATE << 8 | 16, true;
-    if ((lent & A) && call.len[ANSWER] < FAHIREKY_ANSWER)
+    if (passes(ANSWER) && call.len[ANSWER] < FAHIREKY_ANSWER)
         return *code = FAHIREKY_ANSWER << 8 | 16, true;
     switch (call.what) {
     case REST: return *code = call.count < call.len[RECORD] ? call.count : call.len[RECORD], true;
     case UID_HEX:
         for (size_t i = 0; i < 2 * n; i++)
-            out[i] = (uint8_t)"0123456789abcdef"[i % 2 ? g[i / 2] & 15 : g[i / 2] >> 4];
-        return *code = n > 16 ? 13 : room(2 * n), true;
+            out[i] = (uint8_t)"0123456789abcdef"[i % 2 ? in[i / 2] & 15 : in[i / 2] >> 4];
+        return *code = n > 16 ? 13 : fitted(2 * n), true;
     case PARSE_UID: {
         bool bad = n % 2 || n > 32;
         for (size_t i = 0; i < n && !bad; i += 2) {
-            bad = digit(g[i]) < 0 || digit(g[i + 1]) < 0;
-            out[i / 2] = (uint8_t)(digit(g[i]) * 16 + digit(g[i + 1]));
+            bad = digit(in[i]) < 0 || digit(in[i + 1]) < 0;
+            out[i / 2] = (uint8_t)(digit(in[i]) * 16 + digit(in[i + 1]));
         }
-        return *code = bad ? 22 : room(n / 2), true;
+        return *code = bad ? 22 : fitted(n / 2), true;
     }
-    case IMAGE_COMPAT: return *code = key(g, n), true;
-    case CRC16: return *code = check(call.start, g, n), true;
+    case IMAGE_COMPAT: return *code = key(in, n), true;
+    case CRC16: return *code = check(call.start, in, n), true;
     case STATE_SIZE: return *code = FAHIREKY_STATE, true;
     case ANSWER_SIZE: return *code = FAHIREKY_ANSWER, true;
     default: return false;
@@ -227,45 +258,60 @@ static bool predicted(uint64_t *code, uint8_t *out)
 
 /* What must hold after a call. */
 
-static bool plain(int what) { return what == REST || what >= IMAGE_COMPAT; } /* what it returns is no code */
-static bool zero(const uint8_t *bytes, size_t n) { return n == 0 || (bytes[0] == 0 && memcmp(bytes, bytes + 1, n - 1) == 0); }
+/* Whether the call returns something other than a code. */
+static bool codeless(int what) { return what == REST || what >= IMAGE_COMPAT; }
 
-/* How many bytes at the front of buffer i the call may have changed: of a state, also one that no call left, none where the refusal is
- * one that changes nothing. */
+static bool zero(const uint8_t *bytes, size_t n)
+{
+    return n == 0 || (bytes[0] == 0 && memcmp(bytes, bytes + 1, n - 1) == 0);
+}
+
+/* How many bytes at the front of buffer i the call may have written. */
 static size_t written(int i, uint64_t code)
 {
-    unsigned w = exports[call.what].written, lent = exports[call.what].lent;
-    bool lacks = ((lent & S) && call.len[STATE] < FAHIREKY_STATE) || ((lent & A) && call.len[ANSWER] < FAHIREKY_ANSWER);
-    if (lacks || !(w >> i & 1))
+    if (too_short() || !(exports[call.what].written >> i & 1))
         return 0;
-    if (i == OUT)
+    if (i == OUTPUT)
         return FAHIREKY_NUMBER(code) == 0 ? FAHIREKY_LENGTH(code) : 0;
     if (i == STATE)
         return KEEPING >> FAHIREKY_NUMBER(code) & 1 ? 0 : FAHIREKY_STATE;
     return FAHIREKY_ANSWER;
 }
 
-/* The answer says what the code says, and has nothing that it should not have. */
+/* The answer agrees with the code, and every field that it must not have is zero. */
 static void judge_answer(const uint8_t *a, uint64_t code)
 {
     unsigned number = FAHIREKY_NUMBER(code), says = a[FAHIREKY_AT_SAYS], outcome = a[FAHIREKY_AT_OUTCOME];
+    unsigned heard = a[FAHIREKY_AT_HEARD];
+    bool unaddressed = says == FAHIREKY_ENDED && outcome == FAHIREKY_OUTCOME_UNADDRESSED;
     uint64_t rest = number_at(a + FAHIREKY_AT_REST, 8);
-    must(a[FAHIREKY_AT_NUMBER] == number && number_at(a + FAHIREKY_AT_LENGTH, 8) == FAHIREKY_LENGTH(code), "the answer's code", code);
-    must(says == FAHIREKY_REFUSED ? number >= 1 && number <= 22 : number == (says == FAHIREKY_ENDED && outcome == 5 ? 23 : 0), "what the answer says", code);
-    must(says <= FAHIREKY_CLOSING && outcome <= 5 && (says == FAHIREKY_ENDED || outcome == 0), "says", code);
-    must((says == FAHIREKY_GRANTED || says == FAHIREKY_CLOSING) == (call.what == REQUEST && number == 0), "says of a request", code);
-    must(call.what == TOLD ? rest <= call.len[RECORD] : rest == 0, "the rest", code);
-    must(call.what != TOLD || number != 1 || rest == call.len[RECORD], "the rest after 1", code);
+    must(a[FAHIREKY_AT_NUMBER] == number, "the answer's number", code);
+    must(number_at(a + FAHIREKY_AT_LENGTH, 8) == FAHIREKY_LENGTH(code), "the answer's length", code);
+    if (says == FAHIREKY_REFUSED)
+        must(number >= 1 && number <= 22, "the number of a refusal", code);
+    else
+        must(number == (unaddressed ? FAHIREKY_UNADDRESSED : 0), "the number of no refusal", code);
+    must(says <= FAHIREKY_CLOSING && outcome <= FAHIREKY_OUTCOME_UNADDRESSED, "what the answer says", code);
+    must(says == FAHIREKY_ENDED || outcome == 0, "an outcome without an end", code);
+    must((says == FAHIREKY_GRANTED || says == FAHIREKY_CLOSING) == (call.what == REQUEST && number == 0),
+         "what the answer says about a request", code);
+    must(call.what == TAKE ? rest <= call.len[RECORD] : rest == 0, "the rest", code);
+    must(call.what != TAKE || number != FAHIREKY_IO || rest == call.len[RECORD], "the rest after 1", code);
     must(!(KEEPING >> number & 1) || rest == 0, "the rest after a refusal that changes nothing", code);
-    must(a[FAHIREKY_AT_HEARD] <= (outcome == 1 ? 4 : 0) && a[FAHIREKY_AT_HEARD] != 2, "what was heard", code);
-    must(a[FAHIREKY_AT_ANY] <= (outcome == 2) && a[7] == 0, "any, or the byte that is not used", code);
+    must(heard <= (outcome == FAHIREKY_OUTCOME_HEARD ? FAHIREKY_HEARD_GARBLE : 0) && heard != 2, "what was heard",
+         code);
+    must(a[FAHIREKY_AT_ANY] <= (outcome == FAHIREKY_OUTCOME_ATTACHED), "whether an id is attached", code);
+    must(a[7] == 0, "the byte without a use", code);
     must(a[FAHIREKY_AT_MADE] <= 1 && (a[FAHIREKY_AT_MADE] || zero(a + FAHIREKY_AT_DONE, 16)), "progress", code);
-    must((N(number) & (N(2) | N(3) | N(4) | N(6))) || (zero(a + FAHIREKY_AT_FIRST, 8) && a[FAHIREKY_AT_KEY] == 0), "what it carries", code);
-    must(outcome == 4 || zero(a + FAHIREKY_AT_INFO, 18), "device information", code);
-    must(outcome == 3 || zero(a + FAHIREKY_AT_IDS, FAHIREKY_ANSWER - FAHIREKY_AT_IDS), "ids found", code);
+    must((N(number) & (N(2) | N(3) | N(4) | N(6))) || (zero(a + FAHIREKY_AT_FIRST, 8) && a[FAHIREKY_AT_KEY] == 0),
+         "what the refusal carries", code);
+    must(outcome == FAHIREKY_OUTCOME_INFO || zero(a + FAHIREKY_AT_INFO, 18), "device information", code);
+    must(outcome == FAHIREKY_OUTCOME_FOUND || zero(a + FAHIREKY_AT_IDS, FAHIREKY_ANSWER - FAHIREKY_AT_IDS),
+         "ids found", code);
 }
 
-/* The ids in an answer: at most 64, and, but of states that no call left, of 16 bytes at most and zero where there is none. */
+/* The ids of an answer: at most 64. If only calls have changed the state, each is at most 16 bytes long, and zero after
+ * its length. */
 static void judge_ids(const uint8_t *a, uint64_t code)
 {
     unsigned number = FAHIREKY_NUMBER(code);
@@ -274,52 +320,59 @@ static void judge_ids(const uint8_t *a, uint64_t code)
     if (!call.pure && call.what != HEAR)
         return;
     const uint8_t *id = a + FAHIREKY_AT_ID;
-    bool has = number == 9 || number == 10 || a[FAHIREKY_AT_HEARD] == 1 || a[FAHIREKY_AT_ANY];
-    must(id[16] <= (has ? 16 : 0) && zero(id + id[16], 16u - id[16]), "the id", code);
+    bool has = number == FAHIREKY_NO_SUCH_UID || number == FAHIREKY_AMBIGUOUS_UID ||
+               a[FAHIREKY_AT_HEARD] == FAHIREKY_HEARD_ONE || a[FAHIREKY_AT_ANY];
+    size_t id_len = a[FAHIREKY_AT_ID_LENGTH];
+    must(id_len <= (has ? 16 : 0) && zero(id + id_len, 16 - id_len), "the id", code);
     for (size_t i = 0; i < 64; i++) {
-        size_t length = a[FAHIREKY_AT_LENGTHS + i];
-        must(length <= (i < count ? 16 : 0) && zero(a + FAHIREKY_AT_IDS + 16 * i + length, 16 - length), "an id found", code);
+        size_t len = a[FAHIREKY_AT_LENGTHS + i];
+        must(len <= (i < count ? 16 : 0) && zero(a + FAHIREKY_AT_IDS + 16 * i + len, 16 - len), "an id found", code);
     }
 }
 
-/* A granted request is a frame: its start, status, length and check. */
+/* A granted request is a frame: its start byte, command, status, length and check. */
 static void judge_request(const uint8_t *frame, uint64_t code)
 {
     size_t n = FAHIREKY_LENGTH(code);
-    must(n >= 12 && n <= FAHIREKY_REQUEST && n <= call.len[OUT], "the request's length", code);
-    must(frame[0] == 0xA5 && frame[1] <= 5 && frame[2] == 0 && number_at(frame + 8, 2) == n - 12, "the request's head", code);
+    must(n >= 12 && n <= FAHIREKY_REQUEST && n <= call.len[OUTPUT], "the request's length", code);
+    must(frame[0] == 0xA5 && frame[1] <= 5 && frame[2] == 0 && number_at(frame + 8, 2) == n - 12, "the request's head",
+         code);
     must(number_at(frame + n - 2, 2) == check(0xFFFF, frame, n - 2), "the request's check", code);
 }
 
-/* The operation of a state has ended. */
+/* No operation is running in a state. */
 static void judge_ended(const uint8_t *state, uint64_t code)
 {
     uint8_t copy[FAHIREKY_STATE], answer[FAHIREKY_ANSWER];
     memcpy(copy, state, sizeof copy);
-    must(fahireky_link_failed(copy, sizeof copy, answer, sizeof answer) == 21, "an operation that has ended runs", code);
-    must(memcmp(copy, state, sizeof copy) == 0, "out of turn changes a state", code);
+    must(fahireky_link_failed(copy, sizeof copy, answer, sizeof answer) == FAHIREKY_OUT_OF_TURN,
+         "an operation that has ended is running", code);
+    must(memcmp(copy, state, sizeof copy) == 0, "refusal 21 changes a state", code);
 }
 
-/* A refusal that ends the operation leaves the seed, and the attached id but where it deselected. */
+/* A refusal that ends the operation keeps the seed, and the attached id unless the operation has deselected. */
 static void judge_refused(const struct outcome *x)
 {
-    static uint8_t one[FAHIREKY_ANSWER], two[FAHIREKY_ANSWER];
+    static uint8_t before[FAHIREKY_ANSWER], after[FAHIREKY_ANSWER];
     unsigned number = FAHIREKY_NUMBER(x->code);
     must(x->bytes[STATE][0] == call.bytes[STATE][0], "a refusal changes the seed", x->code);
-    fahireky_attached(call.bytes[STATE], FAHIREKY_STATE, one, sizeof one);
-    fahireky_attached(x->bytes[STATE], FAHIREKY_STATE, two, sizeof two);
-    if (number == 8 || number == 10)
-        must(two[FAHIREKY_AT_ANY] == 0 && zero(two + FAHIREKY_AT_ID, 17), "an id is attached after a deselect", x->code);
+    fahireky_attached(call.bytes[STATE], FAHIREKY_STATE, before, sizeof before);
+    fahireky_attached(x->bytes[STATE], FAHIREKY_STATE, after, sizeof after);
+    if (number == FAHIREKY_SEVERAL_DEVICES || number == FAHIREKY_AMBIGUOUS_UID)
+        must(after[FAHIREKY_AT_ANY] == 0 && zero(after + FAHIREKY_AT_ID, 17), "an id is attached after a deselect",
+             x->code);
     else
-        must(memcmp(one, two, sizeof one) == 0, "a refusal changes the attached id", x->code);
+        must(memcmp(before, after, sizeof before) == 0, "a refusal changes the attached id", x->code);
 }
 
+/* No byte has changed outside those that the call may write. */
 static void judge_bytes(const struct outcome *x)
 {
     for (int i = 0; i < BUFFERS; i++) {
         size_t from = written(i, x->code);
-        if ((exports[call.what].lent >> i & 1) && from < call.len[i])
-            must(memcmp(x->bytes[i] + from, call.bytes[i] + from, call.len[i] - from) == 0, "a byte outside what it may write", x->code);
+        if (passes(i) && from < call.len[i])
+            must(memcmp(x->bytes[i] + from, call.bytes[i] + from, call.len[i] - from) == 0,
+                 "a byte outside those that it may write has changed", x->code);
     }
 }
 
@@ -328,24 +381,28 @@ static void judge(const struct outcome *x)
     static uint8_t out[2 * MOST];
     uint64_t code = x->code, expected;
     unsigned number = FAHIREKY_NUMBER(code);
-    must(plain(call.what) || (number < 24 && (exports[call.what].numbers >> number & 1)), "a number that the header does not give", code);
+    must(codeless(call.what) || (number < 24 && (exports[call.what].numbers >> number & 1)),
+         "a number that the header does not list", code);
     bool known = predicted(&expected, out);
     must(!known || code == expected, "another code than the rules give", code);
     judge_bytes(x);
     if (known) {
-        must(written(OUT, code) == 0 || memcmp(x->bytes[OUT], out, written(OUT, code)) == 0, "another text or id", code);
+        size_t n = written(OUTPUT, code);
+        must(n == 0 || memcmp(x->bytes[OUTPUT], out, n) == 0, "another text or id than the rules give", code);
         return;
     }
-    must(FAHIREKY_LENGTH(code) == 0 || (call.what == REQUEST && (number == 0 || number == 16)), "a length that is none", code);
+    must(FAHIREKY_LENGTH(code) == 0 || (call.what == REQUEST && (number == 0 || number == FAHIREKY_SHORT_BUFFER)),
+         "a length where there is none", code);
     judge_answer(x->bytes[ANSWER], code);
     judge_ids(x->bytes[ANSWER], code);
     uint8_t says = x->bytes[ANSWER][FAHIREKY_AT_SAYS];
     if (call.what == REQUEST && number == 0) {
-        judge_request(x->bytes[OUT], code);
-        must(says != FAHIREKY_CLOSING || x->bytes[OUT][1] == 4, "a request that is not awaited and no reset", code);
+        judge_request(x->bytes[OUTPUT], code);
+        must(says != FAHIREKY_CLOSING || x->bytes[OUTPUT][1] == 4, "a closing request that is no reset", code);
     }
-    if (call.what == REQUEST && number == 16)
-        must(FAHIREKY_LENGTH(code) > call.len[OUT] && FAHIREKY_LENGTH(code) <= FAHIREKY_REQUEST, "the length lacked", code);
+    if (call.what == REQUEST && number == FAHIREKY_SHORT_BUFFER)
+        must(FAHIREKY_LENGTH(code) > call.len[OUTPUT] && FAHIREKY_LENGTH(code) <= FAHIREKY_REQUEST,
+             "the length needed", code);
     if (!(exports[call.what].written & S))
         return;
     if (ENDING >> number & 1)
@@ -354,7 +411,7 @@ static void judge(const struct outcome *x)
         judge_ended(x->bytes[STATE], code);
 }
 
-/* The bytes of buffer i from a place on, each its complement. */
+/* Complements the bytes of buffer i from a place on. */
 static void complement(int i, size_t from)
 {
     for (size_t k = from; k < call.len[i]; k++)
@@ -363,26 +420,29 @@ static void complement(int i, size_t from)
 
 const struct outcome *tried(bool low)
 {
-    static struct outcome one, two;
-    made++;
-    make(low, &one);
-    judge(&one);
+    static struct outcome first, second;
+    trials++;
+    make(low, &first);
+    judge(&first);
     complement(STATE, FAHIREKY_STATE);
     complement(ANSWER, 0);
-    complement(OUT, 0);
-    make(!low, &two);
-    must(one.code == two.code, "another code on the same bytes", two.code);
-    judge_bytes(&two);
+    complement(OUTPUT, 0);
+    make(!low, &second);
+    must(first.code == second.code, "another code on the same bytes", second.code);
+    judge_bytes(&second);
     for (int i = 0; i < BUFFERS; i++)
-        must(memcmp(one.bytes[i], two.bytes[i], written(i, one.code)) == 0, "other bytes on the same bytes", one.code);
-    met[call.what][plain(call.what) ? 0 : FAHIREKY_NUMBER(one.code)]++;
-    if (call.what == REQUEST && FAHIREKY_NUMBER(one.code) == 0)
-        granted[one.bytes[OUT][1]]++;
-    if (call.what == TOLD && written(ANSWER, one.code) && one.bytes[ANSWER][FAHIREKY_AT_SAYS] == FAHIREKY_ENDED)
-        ended[one.bytes[ANSWER][FAHIREKY_AT_OUTCOME]]++;
-    return &one;
+        must(memcmp(first.bytes[i], second.bytes[i], written(i, first.code)) == 0,
+             "other bytes written on the same bytes", first.code);
+    unsigned number = codeless(call.what) ? 0 : FAHIREKY_NUMBER(first.code);
+    met[call.what][number]++;
+    if (call.what == REQUEST && number == 0)
+        granted[first.bytes[OUTPUT][1]]++;
+    if (call.what == TAKE && written(ANSWER, first.code) && first.bytes[ANSWER][FAHIREKY_AT_SAYS] == FAHIREKY_ENDED)
+        ended[first.bytes[ANSWER][FAHIREKY_AT_OUTCOME]]++;
+    return &first;
 }
 
+/* Prints some counts. False if one of them is 0. */
 static bool counted(const char *name, const uint64_t *counts, uint32_t which)
 {
     bool all = true;
@@ -392,15 +452,24 @@ static bool counted(const char *name, const uint64_t *counts, uint32_t which)
             printf(" %d:%llu", n, (unsigned long long)counts[n]);
             all = all && counts[n];
         }
-    printf("\n");
     return all;
 }
 
 bool report(void)
 {
     bool all = true;
-    for (int e = 0; e < EXPORTS; e++)
-        all = counted(exports[e].name, met[e], exports[e].numbers) && all;
-    all = counted("commands asked", granted, 0x3F) && all;
-    return counted("records' ends", ended, 0x3F) && all;
+    for (call.what = 0; call.what < EXPORTS; call.what++) {
+        all = counted(exports[call.what].name, met[call.what], exports[call.what].numbers) && all;
+        for (int i = 0; i < BUFFERS; i++)
+            if (passes(i)) {
+                printf(", %s NULL:%llu", buffers[i], (unsigned long long)nulls[call.what][i]);
+                must(nulls[call.what][i] > 0, "this buffer was never NULL", 0);
+            }
+        printf("\n");
+    }
+    all = counted("commands", granted, 0x3F) && all;
+    printf("\n");
+    all = counted("outcomes", ended, 0x3F) && all;
+    printf("\n");
+    return all;
 }

@@ -1,31 +1,34 @@
-/* One trial of an exported call, for hostile.c: which calls there are, what they are lent, and what came of them. */
+/* A trial of one exported call, for hostile.c: the calls, what they are passed, and what they return and write. */
 #ifndef TRIAL_H
 #define TRIAL_H
 
-#include "../fahireky.h"
+#include <fahireky.h>
 
-enum { STATE, ANSWER, GIVEN, RECORD, OUT, BUFFERS }; /* GIVEN: a prefix, image, id or text; OUT: a request, text or id to be written */
+/* The buffers passed to a call. INPUT is a prefix, an image, an id or a text to read; OUTPUT is the buffer for a
+ * request, a text or an id. */
+enum { STATE, ANSWER, INPUT, RECORD, OUTPUT, BUFFERS };
 
+/* The exported calls, in the header's order. TAKE is fahireky_record. */
 enum {
-    SELECT, DESELECT, ATTACH, ATTACH_TO, DISCOVER, INFO, ERASE, FLASH, RESET, SET_BAUD, REQUEST, TOLD, LINK_FAILED, ATTACHED, HEAR,
-    REST, UID_HEX, PARSE_UID, IMAGE_COMPAT, CRC16, STATE_SIZE, ANSWER_SIZE, EXPORTS
+    SELECT, DESELECT, ATTACH, ATTACH_TO, DISCOVER, INFO, ERASE, FLASH, RESET, SET_BAUD, REQUEST, TAKE, LINK_FAILED,
+    ATTACHED, HEAR, REST, UID_HEX, PARSE_UID, IMAGE_COMPAT, CRC16, STATE_SIZE, ANSWER_SIZE, EXPORTS
 };
 
-#define MOST 65536 /* the longest buffer; a multiple of the page size */
+#define MOST 65536 /* the longest buffer, a multiple of the page size */
 
-/* The call that is tried, with what its buffers hold before it. */
+/* The call to try. */
 struct call {
     int what;
     size_t len[BUFFERS];
-    uint8_t bytes[BUFFERS][MOST];
-    size_t count; /* of bits, or a place */
+    uint8_t bytes[BUFFERS][MOST]; /* the content of its buffers before the call */
+    size_t count;                 /* a number of bits, or a place */
     uint16_t start;
     uint8_t baud;
     bool bootloader, in_boot;
-    bool pure; /* nothing but calls has changed it since it was all zero */
+    bool pure; /* only calls have changed the state since it was all zero */
 };
 
-/* What came of it. */
+/* Its result: the code, and the content of its buffers after the call. */
 struct outcome {
     uint64_t code;
     uint8_t bytes[BUFFERS][MOST];
@@ -33,16 +36,21 @@ struct outcome {
 
 extern struct call call;
 
-/* The buffers lent on the heap (or else between closed pages), and the first call ready to be made. */
+/* Must come first. With `heap` each buffer is an allocation; otherwise each lies between two closed pages. */
 void prepare(bool heap);
-/* The call made twice and judged; a fault ends the program. `low` says at which end the first lies at a closed page. */
+/* Makes the call twice and checks both results; a fault ends the program. With `low` the buffers of the first call
+ * begin right after a closed page (an empty one is NULL), and those of the second end right before one; without `low`
+ * it is the other way round. */
 const struct outcome *tried(bool low);
-/* The codes met, by call; false where there is one that the header allows a call and that was not met. */
+/* Prints how often each number was met, for each call. False if a number that the header lists for a call was not met.
+ * A buffer that was never passed as NULL is a fault. */
 bool report(void);
 
+/* CRC-16/IBM-3740, written independently of the library. */
 uint16_t check(uint16_t start, const uint8_t *bytes, size_t n);
+/* A little-endian number. */
 uint64_t number_at(const uint8_t *bytes, size_t width);
-/* The key of an image, with bit 32 set, or 0. */
+/* The compatibility key of an image, with bit 32 set, or 0. */
 uint64_t key(const uint8_t *image, size_t n);
 
 #endif
