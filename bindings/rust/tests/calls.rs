@@ -1,4 +1,4 @@
-//! The calls as a user meets them: refusals in their order, what they leave, and a state that is kept and taken up again.
+//! The calls as a user meets them: refusals in their order, what they leave, and a state that is kept and resumed.
 
 use fahireky::{Client, Heard, Id, Next, Outcome, Refusal, Request, STATE};
 
@@ -79,11 +79,21 @@ fn a_state_is_kept_and_taken_up() {
 }
 
 #[test]
-fn texts() {
-    assert_eq!(Id::parse("0aFf").unwrap().text(), "0aff");
-    for bad in ["0", "0g", "+f", &"00".repeat(17)] {
-        assert_eq!(Id::parse(bad), Err(Refusal::BadText));
-    }
+fn a_client_is_printed_in_words() {
+    let mut c = Client::new();
+    assert_eq!(format!("{c:?}"), "Client { attached: None, seed: 0, running: false, .. }");
+    assert!(!c.is_running());
+    c.start_attach(None).unwrap();
+    assert!(c.is_running());
+    c.request(&[], &mut [0; 64]).unwrap();
+    assert_eq!(format!("{c:?}"), "Client { attached: None, seed: 1, running: true, .. }");
+    c.record(&[], &reply(1, &[0x0A, 0xFF])).answer.unwrap();
+    assert_eq!(format!("{c:?}"), "Client { attached: Some(Id(0aff)), seed: 1, running: false, .. }");
+    assert_eq!(Client::default(), Client::new());
+}
+
+#[test]
+fn leaves() {
     assert_eq!(fahireky::image_compat(&[0x78, 0x56, 0x34, 0x12, 0xAA, 0xBB]), Some(0x1234_5678));
     assert_eq!(fahireky::rest(&[1, 2, 3], 5), []);
 }

@@ -1,7 +1,8 @@
-//! Random and hostile bytes through the safe crate: any record, image, text and state. Nothing panics, the same call on the same bytes
-//! gives the same again, and a refusal leaves what it should. FAHIREKY_CALLS is the number of steps, each of a few calls.
+//! Random and hostile bytes through the safe crate: any record, image, text and state. Nothing panics, the same call on
+//! the same bytes gives the same answer again, and a refusal leaves what it should. FAHIREKY_CALLS is the number of
+//! steps, each of a few calls.
 
-use fahireky::{Client, Heard, Id, Next, Outcome, REQUEST, Refusal, STATE, Told};
+use fahireky::{Client, Heard, Id, Link, Next, Outcome, REQUEST, Refusal, RunError, STATE, Told};
 
 struct Chance(u64);
 
@@ -111,7 +112,11 @@ impl Side {
     }
 
     /// A call on the client: a clone gives the same, and a refusal that changes nothing leaves the client.
-    fn calls<T: PartialEq + std::fmt::Debug>(&mut self, call: impl Fn(&mut Client) -> T, refusal: impl Fn(&T) -> Option<Refusal>) -> T {
+    fn calls<T: PartialEq + std::fmt::Debug>(
+        &mut self,
+        call: impl Fn(&mut Client) -> T,
+        refusal: impl Fn(&T) -> Option<Refusal>,
+    ) -> T {
         let before = self.client.clone();
         let mut twin = before.clone();
         let told = call(&mut self.client);
@@ -193,6 +198,37 @@ impl Side {
     }
 }
 
+/// A copy of the client, run over a link that returns some records and then fails: how it ended, as a place in a count.
+fn run(c: &mut Chance, side: &mut Side) -> usize {
+    let (mut client, image, request) = (side.client.clone(), side.image.clone(), side.request.clone());
+    let mut left = c.below(30);
+    let mut link = Link::new(|request: &[u8]| {
+        side.request = request.to_vec();
+        left = left.checked_sub(1).ok_or(())?;
+        Ok(side.record(c))
+    });
+    let ended = client.run(&image, &mut link, |_, _| {});
+    let unread = link.unread().len();
+    let before = std::mem::replace(&mut side.request, request);
+    match ended {
+        Err(RunError::Refused(Refusal::OutOfTurn | Refusal::OtherImage)) => {
+            assert!(
+                client == side.client && side.request == before,
+                "a run that was refused at once changed something"
+            );
+            return 0;
+        }
+        Err(RunError::Link(())) => assert_eq!(unread, 0),
+        _ => {}
+    }
+    assert!(!client.is_running());
+    match ended {
+        Err(RunError::Link(())) => 1,
+        Err(RunError::Refused(_)) => 2,
+        Ok(_) => 3,
+    }
+}
+
 /// The calls without a client.
 fn small(c: &mut Chance, side: &Side) {
     let id = c.some(20);
@@ -205,10 +241,15 @@ fn small(c: &mut Chance, side: &Side) {
             assert_eq!(text, id.iter().map(|b| format!("{b:02x}")).collect::<String>());
             assert_eq!(Id::parse(text).unwrap().bytes(), &*id);
         }
-        Err(r) => assert_eq!((text, r), (before, if id.len() > 16 { Refusal::BadPrefix } else { Refusal::ShortBuffer(2 * id.len()) })),
+        Err(r) => assert_eq!(
+            (text, r),
+            (before, if id.len() > 16 { Refusal::BadPrefix } else { Refusal::ShortBuffer(2 * id.len()) })
+        ),
     }
     let any = String::from_utf8_lossy(&c.some(12)).into_owned();
-    assert!(Id::parse(&any).is_ok_and(|id| id.text() == any.to_lowercase()) || Id::parse(&any) == Err(Refusal::BadText));
+    assert!(
+        Id::parse(&any).is_ok_and(|id| id.text() == any.to_lowercase()) || Id::parse(&any) == Err(Refusal::BadText)
+    );
     let record = side.record(c);
     if let Ok(Heard::One(id)) = fahireky::hear(&record) {
         assert!(id.bytes().len() <= 16);
@@ -225,13 +266,14 @@ fn nothing_panics() {
     let c = &mut Chance(1);
     let mut sides: Vec<Side> = (0..4).map(|_| Side::new(c)).collect();
     let mut numbers = [0u32; 24];
-    let mut found = 0;
+    let (mut found, mut runs) = (0, [0u32; 4]);
     for _ in 0..steps {
         let i = c.below(4);
         let side = &mut sides[i];
         side.disturb(c);
         if c.one_in(8) {
             small(c, side);
+            runs[run(c, side)] += 1;
         }
         match c.below(12) {
             0 => side.start(c),
@@ -251,6 +293,7 @@ fn nothing_panics() {
             }
         }
     }
-    println!("{found} discoveries ended; answers to records by number: {numbers:?}");
+    println!("{found} discoveries ended; answers to records by number: {numbers:?}; runs by their end: {runs:?}");
     assert!(steps < 20_000 || [0, 1, 2, 5, 14, 20, 21].iter().all(|&n| numbers[n] > 0));
+    assert!(steps < 20_000 || runs.iter().all(|&n| n > 0));
 }
