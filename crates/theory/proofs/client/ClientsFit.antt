@@ -161,7 +161,7 @@ module _ (c : Client) (f : Fits c) where
       (λ e. first (leb-true (length given) 16 e))
     where
       first : Short given → Walk.Fits (starting (bitsOf given))
-      first s = record { depth = omega (arith, bits-length given); few = omega arith; withinLongest = tt; held = tt }
+      first s = record { depth = omega (arith, bits-length given); few = omega arith; short = tt; held = tt }
 
   pub startInfo-fits : Fits (startInfo c .client)
   unfolding startInfo
