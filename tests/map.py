@@ -581,7 +581,8 @@ def taken(function, *names):
     types = dict(re.findall(r"(\w+): ([^,]+)", found[1]))
     if not set(names) <= set(types):
         wrong(f"{function} takes {', '.join(types)}, not {', '.join(names)}")
-    return ", ".join(f"{n}: {types[n].strip()}" for n in names)
+    short = {n: re.sub(r"\w+::", "", types[n].strip()) for n in names}
+    return ", ".join(f"{n}: {short[n]}" for n in names)
 
 
 def check_names(boxes):

@@ -1,5 +1,4 @@
--- The client is document 01's: any calls in any order, link failures and calls out of turn included, are answered as it
--- says.
+-- The client answers as document 01 says over any calls in any order, link failures and calls out of turn included.
 use mathlib.Core.List.{List}
 use mathlib.Core.Path.{_≡_}
 use Rattle.paper.specs.Client as Paper
@@ -9,12 +8,12 @@ use Rattle.client.specs.Clients.{fresh, attached}
 use Rattle.refinement.specs.Calls.{Call, Good, paperAnswers, codeAnswers, reached}
 use Rattle.refinement.proofs.client.CallsAreTalk as Calls
 
--- What is said, the rest's place, every byte of the buffer, the seed and the attached id: after each call as document
--- 01 has them.
+-- After each call these are document 01's: the answer, the place where the unread rest begins, every byte of the
+-- request buffer, the seed and the attached id. `Good` asks only that prefixes and records are bytes.
 pub agree : (calls : List Call) → All Good calls → codeAnswers fresh calls ≡ paperAnswers Paper.fresh calls
 agree = Calls.calls-agree
 
--- Two clients with no operation, of one seed and attached id, are equal, whatever was called before.
+-- Two clients with no operation running are equal if their seeds and attached ids are, whatever calls came before.
 pub idle-canonical : (xs ys : List Call) → All Good xs → All Good ys → reached fresh xs .turn ≡ Idle
     → reached fresh ys .turn ≡ Idle
     → reached fresh xs .seed ≡ reached fresh ys .seed → attached (reached fresh xs) ≡ attached (reached fresh ys)

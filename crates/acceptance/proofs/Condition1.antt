@@ -1,5 +1,5 @@
--- The customer's condition 1: every call takes any arguments and comes back; what is refused, in which order, and what
--- a refusal leaves. No call has a precondition, and each of these holds of every value of the client.
+-- The customer's condition 1: every call accepts any arguments and returns. The theorems say what is refused, in which
+-- order, and what a refusal leaves. No call has a precondition, and each theorem holds for every value of the client.
 use Prim.Native.Nat.{ℕ}
 use mathlib.Core.Bool.{Bool, true, false, cond}
 use mathlib.Core.List.{List}
@@ -31,8 +31,8 @@ use Rattle.refinement.proofs.refused.Records as Records
 use Rattle.refinement.proofs.refused.Requests as Requests
 
 module _ (c : Client) where
-  -- The starts. 21 where an operation runs; else 13 exactly where the arguments are bad; else it begins, with the seed
-  -- and the attached id as they were. A start that is refused changes nothing.
+  -- The starts: 21 while an operation is running; else 13 exactly where the arguments are bad; else the operation
+  -- begins. The seed and the attached id stay as they were. A refused start changes nothing.
   pub record Starts : Type 0 where
     pub select : (prefix : List ℕ) (bits : ℕ)
         → startSelect c prefix bits ≡ begins c (goodCount prefix bits)
@@ -72,16 +72,16 @@ module _ (c : Client) where
 
   module _ (image : List ℕ) where
     module _ (buffer : List ℕ) where
-      -- Asking: 21 where none runs, or a request is unanswered.
+      -- Asking for a request: 21 if no operation is running, or if the last request is still unanswered.
       pub asked-idle : c .turn ≡ Idle → request c image buffer ≡ withheld c OutOfTurn buffer
       asked-idle = Requests.asked-idle c image buffer
 
       pub asked-waiting : (p : Phase) → c .turn ≡ Waiting p → request c image buffer ≡ withheld c OutOfTurn buffer
       asked-waiting = Requests.asked-waiting c image buffer
 
-      -- Else 20 exactly where the image has another length; else 16 exactly where the buffer is shorter than the
-      -- request that would be written, carrying that length; else that request fills its own length of the buffer, and
-      -- no byte after it is changed.
+      -- Else 20 exactly where the image has another length. Else 16 exactly where the buffer is shorter than the
+      -- request, with the length needed. Else the request fills its own length of the buffer, and no byte after it is
+      -- changed.
       pub asked-ready : (p : Phase) → c .turn ≡ Ready p
           → request c image buffer ≡ cond (otherImage p (length image)) (withheld c OtherImage buffer)
           (granting c p (frameBytes (frameOf c p image)) buffer)
@@ -93,7 +93,7 @@ module _ (c : Client) where
       asked-refused = Requests.asked-refused c image buffer
 
     module _ (bytes : List ℕ) where
-      -- A record: 21, then 20, then what it says.
+      -- Handing in a record: 21 if no request is out; else 20 if the image has another length; else the record is read.
       pub told-idle : c .turn ≡ Idle → record′ c image bytes ≡ refuses c OutOfTurn
       told-idle = Records.told-idle c image bytes
 
@@ -105,13 +105,14 @@ module _ (c : Client) where
           (answeredTo c p image bytes)
       told-waiting = Records.told-waiting c image bytes
 
-      -- One that is read is refused with nothing that changes no state: 20 and 21 are given where they are due alone.
+      -- A record that is read is never refused with a number that changes no state. So 20 and 21 are given only as
+      -- above.
       pub told-due : (p : Phase) → c .turn ≡ Waiting p → otherImage p (length image) ≡ false → (r : Refusal)
           → record′ c image bytes .says ≡ Refused r → keeps r ≡ false
       told-due = Records.told-due c image bytes
 
-      -- 20 and 21 change no state, and the rest is the whole record; any other refusal ends the operation; after 1 the
-      -- rest is empty.
+      -- After 20 and 21 the client is unchanged and the unread rest is the whole record. Any other refusal ends the
+      -- operation. After 1 the rest is empty.
       pub told-refused : (r : Refusal) → record′ c image bytes .says ≡ Refused r
           → record′ c image bytes .client ≡ leaves r c
       told-refused = Records.told-refused c image bytes
@@ -123,7 +124,7 @@ module _ (c : Client) where
       pub told-lost : record′ c image bytes .says ≡ Refused Io → record′ c image bytes .rest ≡ length bytes
       told-lost = Records.told-lost c image bytes
 
-  -- A failed link: 1 where a request is out, else 21.
+  -- Reporting a failed link: 1 if a request is out, else 21.
   pub failed-idle : c .turn ≡ Idle → linkFailed c ≡ refuses c OutOfTurn
   failed-idle = Records.failed-idle c
 
@@ -133,8 +134,8 @@ module _ (c : Client) where
   pub failed-waiting : (p : Phase) → c .turn ≡ Waiting p → linkFailed c ≡ stops c (Refused Io) 0
   failed-waiting = Records.failed-waiting c
 
-  -- What a refusal that ends the operation leaves: nothing runs, the seed stays, and the attached id too, but after a
-  -- deselect.
+  -- What a refusal leaves. One that changes no state leaves the client as it was. Any other leaves no operation
+  -- running, keeps the seed, and keeps the attached id except after a deselect (8 and 10).
   module _ (r : Refusal) where
     pub leaves-kept : keeps r ≡ true → leaves r c ≡ c
     leaves-kept = Refusals.leaves-kept r c

@@ -35,7 +35,8 @@ use Rattle.refinement.specs.ClientServed.{resting}
 use Rattle.acceptance.proofs.Condition1 as Condition1
 use Rattle.acceptance.proofs.Instances.{device, wrote, image, attached, writing}
 
--- Clients in each turn: with no operation, before the second Write of a flash of 5 bytes, and after it.
+-- Clients in two of the turns: with no operation running, and before the second Write of a flash of 5 bytes. `writing`
+-- of `Instances` is the third: that Write is out.
 abbrev quietly : Client
 quietly = resting 255 attached
 
@@ -51,7 +52,7 @@ shorter = 0x10 ∷ 0x21 ∷ []
 abbrev seventeen : List ℕ
 seventeen = replicate 17 0xC1
 
--- A start that is late; one that is refused with 13; one that begins.
+-- Starts while an operation is running; starts refused with 13; starts that begin.
 pub starts-late-met :
     (startSelect ready (0x05 ∷ []) 3 ≡ refuse ready OutOfTurn)
     × ((startDeselect ready ≡ refuse ready OutOfTurn)
@@ -103,7 +104,7 @@ asked-idle-met = Condition1.asked-idle quietly image (replicate 15 0xEE) refl
 pub asked-waiting-met : request writing image (replicate 15 0xEE) ≡ withheld writing OutOfTurn (replicate 15 0xEE)
 asked-waiting-met = Condition1.asked-waiting writing image (replicate 15 0xEE) second refl
 
--- With an image of another length; a buffer a byte too short; one a byte longer than the request.
+-- With an image of another length; with a buffer one byte too short; with a buffer one byte longer than the request.
 pub asked-ready-met :
     (request ready shorter (replicate 15 0xEE) ≡ withheld ready OtherImage (replicate 15 0xEE))
     × ((request ready image (replicate 15 0xEE) ≡ withheld ready (ShortBuffer 16) (replicate 15 0xEE))
@@ -124,7 +125,7 @@ asked-ready-met = (
   ),
 )
 
--- An unawaited Reset: on handing out its request the operation has ended.
+-- A Reset whose reply is not awaited: the operation has ended once its request is handed out.
 abbrev parting : Phase
 parting = Leave (record { bootloader = true; given = false; baud = 0 })
 
@@ -160,7 +161,7 @@ told-waiting-met = (
       wrote second refl,
 )
 
--- The Write's answer cut off before its check: 1. Another image: 20.
+-- The Write's answer, cut off before its check: refused with 1. With another image: 20.
 abbrev cut-off : List ℕ
 cut-off = 0xA5 ∷ 0x02 ∷ 0x01 ∷ 0x00 ∷ 0x00 ∷ 0x00 ∷ 0x00 ∷ 0x00 ∷ 0x00 ∷ 0x00 ∷ []
 

@@ -1,4 +1,4 @@
--- The customer's condition 2, the part that is proved: frames, checks, hearing, walk and flash order against the
+-- The customer's condition 2, the part that is proved: frames, checks, hearing, walk and flash order agree with the
 -- written definitions.
 use Prim.Native.Nat.{ℕ, _*_, _<_, _≤_}
 use mathlib.Core.Bool.{Bool, true, false}
@@ -40,14 +40,14 @@ use Rattle.refinement.specs.ClientServed.{opening, resting}
 use Rattle.refinement.proofs.client.UnreadRest as EitherWay
 use Rattle.refinement.proofs.client.Operations as Operations
 
--- Frames: what is written is read whole, whatever follows.
+-- A frame that was written is read back whole, whatever bytes follow.
 pub frame-read : (f : Frame) → Fits f → (more : List ℕ) → read (frameBytes f ++ more) ≡ whole 0 f
 frame-read f fits more = Frames.read-written f fits more
 
--- Each operation, started on a client with none and driven over any records and failed links, stands where document
--- 01's conversation stands: what it says, with the progress made, where the unread rest begins, the seed and the
--- attached id, and the request that is next, byte for byte. All that it hands out on the way is what document 01's
--- client does. A buffer that holds every request; any seed; an attached id or none.
+-- Each operation is started on a client with none running and driven over any records and failed links. It then agrees
+-- with document 01's conversation: in the answer with its progress, the place where the unread rest begins, the seed,
+-- the attached id, and the next request byte for byte. Every request handed out on the way is the one of document 01's
+-- client. The buffer holds any request; the seed is any byte; an id is attached or none is.
 module _ (buffer : List ℕ) (room : 1036 ≤ length buffer) (seed : ℕ) (byte : seed < 256) (id : Option Id)
     (brief : Brief id) (rounds : List Round) where
   pub record Drives : Type 0 where
@@ -87,21 +87,21 @@ module _ (buffer : List ℕ) (room : 1036 ≤ length buffer) (seed : ℕ) (byte 
   }
 
   -- "Over any replies: no Erase before Info and image pass, no Write before the last Erase is answered, each Write's
-  -- address is the total length of Writes answered Ok so far, and on success that total is the padded length": read off
-  -- the bytes handed out, and what happened after each.
+  -- address is the total length of Writes answered Ok so far, and on success that total is the padded length": read
+  -- from the bytes handed out, and what happened after each request.
   pub flash-handed : (image : List ℕ) → All (Lends (some (length image))) rounds → All (λ r. Bytes (r .lent)) rounds
       → FlashOrder (length image) (sends buffer rounds (opening (startFlash (resting seed id) image)))
       (answerOf (driven buffer rounds (opening (startFlash (resting seed id) image))))
   flash-handed = Operations.flash-handed buffer room seed byte id brief rounds
 
--- The same of the conversation: what it has asked and been answered, over any replies; and on success the device's
--- check was that of the image lent with it.
+-- The same for the conversation, over any replies: each request is allowed after what was asked and answered before it.
+-- On success the device returned the check of the image that was lent with its reply.
 pub flash-in-order : (n : ℕ) (es : List Event)
     → Kept (Allowed n) (play (flash n) es [] .0)
     × Stands (Allowed n) (Flashed n) (play (flash n) es [] .0) (play (flash n) es [] .1)
 flash-in-order = Order.flash-in-order
 
--- The Erases handed out are a front part of the full list.
+-- The Erases handed out are the first ones of the full list, in its order.
 pub flash-erases-front : (n : ℕ) (es : List Event)
     → Fronts (play (flash n) es [] .0) (everything (play (flash n) es []))
 flash-erases-front = Order.flash-erases-front
@@ -115,7 +115,8 @@ pub flash-carries : (image : List ℕ) (es : List Event)
     → All (CarriesIn image) (everything (play (flash (length image)) es []))
 flash-carries = Carries.flash-carries
 
--- Every operation ends, after at most so many requests.
+-- Info, erase, flash and reset each end. Info and reset take one request. Erase takes at most one for the Info and one
+-- for each erase address; flash also at most 17 for each chunk, and one for the Verify.
 pub info-ends : (es : List Event) → Bounded 1 es (play informOnly es [])
 info-ends = Bound.inform-bounded
 
@@ -130,8 +131,8 @@ pub reset-ends : (bootloader : Bool) (baud : Option ℕ) (awaited : Bool) (es : 
     → Bounded 1 es (play (reset bootloader baud awaited) es [])
 reset-ends = Bound.reset-bounded
 
--- The unread rest: bytes that follow an answering frame may come with its record, or be kept and put before the next
--- one.
+-- The unread rest: bytes after an answering frame may come with its record, or later. The host puts the rest before the
+-- next record, and the result is the same.
 module _ (c : Client) (j : Job) (out : c .turn ≡ Waiting (Demand j)) (image a x : List ℕ) (r : Reply) (end : ℕ)
     (e : answer a ≡ answered r end) where
   pub record-either-way : record′ c image (a ++ x) ≡ record′ c image a
@@ -140,7 +141,7 @@ module _ (c : Client) (j : Job) (out : c .turn ≡ Waiting (Demand j)) (image a 
   pub rest-either-way : drop (record′ c image (a ++ x) .rest) (a ++ x) ≡ drop (record′ c image a .rest) a ++ x
   rest-either-way = EitherWay.rest-either-way c j out image a x r end e
 
--- Such a client and such a record there are: a Reset whose answer is awaited, and its answer.
+-- An example: a Reset whose reply is awaited, and its reply.
 abbrev resetting : Client
 resetting = turned fresh (Waiting (Demand (Resetting (record { bootloader = true; given = false; baud = 0 }))))
 

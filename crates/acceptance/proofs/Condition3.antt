@@ -1,4 +1,5 @@
--- The customer's condition 3: the discovery of the driven client, from bytes to bytes.
+-- The customer's condition 3, for a client driven over a wire of bytes: a discovery ends, and on an honest wire it
+-- finds exactly the matching ids.
 use Prim.Native.Nat.{ℕ, _+_, _-_, _*_, _≤_, _<_}
 use mathlib.Core.Bool.{false}
 use mathlib.Core.List.{List, []}
@@ -21,38 +22,40 @@ use Rattle.refinement.proofs.client.CallsAreTalk as Calls
 use Rattle.refinement.proofs.wire.DevicesHonest as Devices
 use Rattle.refinement.proofs.wire.Condition3 as Discovers
 
--- Whatever was called before: a client with no operation is of a seed and an attached id or none, and nothing else.
+-- A client with no operation running is fixed by its seed and its attached id, if any, whatever calls came before. So
+-- the theorems below, which begin with `resting seed id`, cover every such client.
 pub idle-rests : (calls : List Call) → All Good calls → reached fresh calls .turn ≡ Idle → Rests (reached fresh calls)
 idle-rests = Calls.idle-rests
 
--- A buffer that holds every Select; any seed; an attached id or none; a prefix of at most 16 bytes.
+-- For any buffer that holds every Select, any seed, an attached id or none, and any prefix of at most 16 bytes.
 module _ (buffer : List ℕ) (room : 31 ≤ length buffer) (seed : ℕ) (byte : seed < 256) (id : Option Id)
     (brief : Brief id) (given : Id) (short : length given ≤ 16) (bytes : Bytes given) where
   module _ (wire : Wire) where
-    -- Whatever the wire answers: it has ended, within the limit.
+    -- Whatever the wire returns, the discovery ends, after at most 132 + 260 * (128 - p) Selects for a prefix of p
+    -- bits.
     pub ends-within : (isOnward ((discovered buffer wire (resting seed id) given) .0 .says) ≡ false)
         × ((discovered buffer wire (resting seed id) given) .1 ≤ limit (bitsOf given))
     ends-within = Discovers.ends-within buffer room wire seed byte id brief given short bytes
 
-    -- It has ended as document 01's discovery does, after as many Selects.
+    -- It ends as document 01's discovery does, after the same number of Selects.
     pub ends-as : EndsAs seed id (run (heardBy wire seed) 0 (discover (bitsOf given)))
         (discovered buffer wire (resting seed id) given)
     ends-as = Discovers.ends-as buffer room wire seed byte id brief given short bytes
 
-    -- What it found is in order, distinct and few.
+    -- The ids found are sorted, distinct, at most 64, and each begins with the prefix.
     pub lists : (discovered buffer wire (resting seed id) given) .0 .says ≡ Over Found
         → Lists (bitsOf given) (discovered buffer wire (resting seed id) given)
     lists = Discovers.lists buffer room wire seed byte id brief given short bytes
 
-    -- On an honest wire of the ids S: it has found exactly those that match, sorted, after exactly the Selects counted,
-    -- and those are few.
+    -- On an honest wire of the ids S: it finds exactly the ids that match, sorted, after exactly the number of Selects
+    -- that document 01 counts. That number is at most 2, plus 8L - p + 2 for each id found.
     pub finds : (S : List Id) (L : ℕ) → Honest wire seed (bitsOf given) S → Pods L (matching (bitsOf given) S)
         → Finds seed (sort (matching (bitsOf given) S)) (selects S L (bitsOf given))
         (discovered buffer wire (resting seed id) given)
         × (selects S L (bitsOf given) ≤ 2 + count S (bitsOf given) * (8 * L - length (bitsOf given) + 2))
     finds = Discovers.finds buffer room wire seed byte id brief given short bytes
 
-  -- There is such a wire for any ids, whatever those are that do not match.
+  -- There is an honest wire for any ids whose matching ones are as `Pods` asks, whatever the others are.
   pub finds-devices : (S : List Id) (L : ℕ) → Pods L (matching (bitsOf given) S)
       → Finds seed (sort (matching (bitsOf given) S)) (selects S L (bitsOf given))
       (discovered buffer (devices S) (resting seed id) given)

@@ -1,5 +1,5 @@
--- What meets the premises of condition 3, of the calls and of the bench log: discoveries over wires of bytes, calls,
--- and a log.
+-- What meets the premises of condition 3, of the calls and of the bench log: discoveries over wires of bytes, lists of
+-- calls, and a log.
 use Prim.Native.Nat.{ℕ, _+_, _-_, _*_, _≤_}
 use mathlib.Core.Bool.{false}
 use mathlib.Core.List.{List, [], _∷_, _++_}
@@ -31,8 +31,8 @@ use Rattle.log_listing.specs.Listing.{text}
 use Rattle.log_run.specs.Run as Replays
 use Rattle.log_feed.specs.FeedMachine.{begun, lastLine}
 use Rattle.log_feed.specs.Pieces.{pieces, concat}
+use Rattle.hearing.specs.Heard.{isLong}
 use Rattle.hearing.specs.Heard.{oneHeard}
-use Rattle.walk_step.specs.Steps as Steps
 use Rattle.client.specs.declared.Told.{Told}
 use Rattle.client.specs.Clients as Code
 use Rattle.client.specs.Clients.{otherImage, fresh, idle, running, over}
@@ -47,7 +47,7 @@ use Rattle.acceptance.proofs.Calls as Calls
 use Rattle.acceptance.proofs.Condition3 as Condition3
 use Rattle.acceptance.proofs.Instances.{attached}
 
--- A discovery under the prefix C1, of three ids of which two match, from the last seed on.
+-- A discovery under the prefix C1 among three ids, two of which match. It starts from seed 250, so that the seed wraps.
 abbrev ids : List Id
 ids = (0xC1 ∷ 0x87 ∷ []) ∷ (0x00 ∷ 0x01 ∷ []) ∷ (0xC1 ∷ 0x07 ∷ []) ∷ []
 
@@ -75,7 +75,7 @@ pods = record {
   within16 = omega arith;
 }
 
--- No computation could sum over all prefixes: the count is what was run.
+-- Summing over all prefixes is too much to compute, so the count is taken from the run.
 takes-15 : selects ids 2 (bitsOf given) ≡ 15
 unfolding bitsOf counting bit
 takes-15 = ap (λ p. p .1) (sym
@@ -108,7 +108,7 @@ unfolding bitsOf counting
 ends-within-met = Condition3.ends-within selectRoom room₃ 250 (omega arith) attached (omega arith) given (omega arith)
     (omega arith, tt) (devices ids)
 
--- A wire that is never clear: at 128 bits the discovery ends with 12, and the attached id stays.
+-- A wire that only returns garble: at 128 bits the discovery ends with 12, and the attached id stays.
 unclear : run (heardBy (λ k bytes. 0 ∷ []) 250) 0 (discover (bitsOf given)) ≡ (stopped 12, 121)
 unfolding heardBy discover run walk judge ask long isNothing Walk._>>=_ bitsOf counting bit hear frames clean read
     readSynced skipped
@@ -123,8 +123,8 @@ pub lists-met : Lists (bitsOf given) discovers
 lists-met = Condition3.lists selectRoom room₃ 250 (omega arith) attached (omega arith) given (omega arith)
     (omega arith, tt) (devices ids) (finds-devices-met .says)
 
--- Two ways to no operation, one Select spent on each: a plain select that hears an id, and an attach whose link fails,
--- with calls out of turn.
+-- Two lists of calls that end with no operation running, each with one Select sent: a plain select that hears an id,
+-- and an attach whose link fails, with calls out of turn.
 abbrev tells-id : List ℕ
 tells-id = 0xA5 ∷ 0x05 ∷ 0x01 ∷ 0x00 ∷ 0x00 ∷ 0x00 ∷ 0x00 ∷ 0x00 ∷ 0x02 ∷ 0x00 ∷ 0xC1 ∷ 0x07 ∷ 0xF8 ∷ 0x10 ∷ []
 
@@ -170,7 +170,7 @@ unattached-good = ((omega arith, tt), (tt, (tt, (tt, (tells-bytes, tt)))))
 
 selected-rests : reached fresh selected ≡ resting 1 none
 unfolding reached codeCall fresh startSelect starts request askedFor granting searchFrame frameOf handing handed asks
-    frameBytes frameBody frameHead le otherImage record′ answeredTo hears probed Steps.long over idle oneHeard hear
+    frameBytes frameBody frameHead le otherImage record′ answeredTo hears probed isLong over idle oneHeard hear
     frames clean replies repliesHeard read readSynced readSized rightCheck skipped number check crcFrom crcByte crcBit
     selectPayload bitsOf counting bit packed binary running idFrom
 selected-rests = refl
@@ -191,8 +191,8 @@ idle-canonical-met =
 pub idle-rests-met : Rests (reached fresh unattached)
 idle-rests-met = Condition3.idle-rests unattached unattached-good (ap (λ c. c .turn) unattached-rests)
 
--- Every answer to the calls of the second way, as document 01 has them: the attach goes on; 21; the Select of C1's bits
--- with seed 1; 1; 21.
+-- Document 01's answer to each call of the second list: the attach goes on; 21; the Select of C1's bits with seed 1; 1;
+-- 21.
 abbrev answered : Says → ℕ → List ℕ → ℕ → Answer
 answered says rest buffer seed =
     record { reply = record { says = says; rest = rest; buffer = buffer }; seed = seed; id = none }
@@ -210,7 +210,7 @@ unfolding paperAnswers paperCall Paper.fresh Paper.startAttach Paper.startWith P
     ask frameBytes frameBody frameHead le check crcFrom crcByte crcBit selectPayload bitsOf counting bit packed binary
 agree-met = Calls.agree unattached unattached-good
 
--- A log of one id, in three pieces: heard at once, alone under both bits, and the deselect.
+-- A log with one id, in three pieces: the id is heard at once, it is alone under both bits, and the deselect follows.
 abbrev log : List (List ℕ)
 log = (48 ∷ 49 ∷ 10 ∷ 97 ∷ 53 ∷ 48 ∷ 53 ∷ [])
     ∷ (48 ∷ 49 ∷ 48 ∷ 48 ∷ 48 ∷ 48 ∷ 48 ∷ 48 ∷ 48 ∷ 48 ∷ 48 ∷ 48 ∷ 48 ∷ 49 ∷ 48 ∷ 48 ∷ 99 ∷ 49 ∷ 100 ∷ 102 ∷ 97 ∷ 57

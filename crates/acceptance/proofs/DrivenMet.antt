@@ -1,5 +1,4 @@
--- What meets the premises of the driven client: each operation, driven over rounds to an end, or to a request that is
--- next.
+-- What meets the premises of the driven client: each operation, driven over rounds to its end or to its next request.
 use Prim.Native.Nat.{ℕ}
 use mathlib.Core.Bool.{true, false}
 use mathlib.Core.List.{List, [], _∷_, _++_}
@@ -39,18 +38,18 @@ use Rattle.acceptance.proofs.Condition2 as Condition2
 use Rattle.acceptance.proofs.Instances.{device, informs, erased, wrote, mismatched, verified, was-reset, image}
 use Rattle.acceptance.proofs.Instances.{buffer, room, flashed}
 
--- Nothing but these bytes is heard; the link fails.
+-- Rounds in which only these bytes are heard, or the link fails.
 abbrev hears : List ℕ → Round
 hears bytes = record { lent = []; event = Order.heard [] bytes }
 
 abbrev fails : Round
 fails = record { lent = []; event = failed }
 
--- A reply to a Select with the id C1 07; a stray byte.
+-- A reply to a Select, with the id C1 07.
 abbrev replied : List ℕ
 replied = 0xA5 ∷ 0x05 ∷ 0x01 ∷ 0x00 ∷ 0x00 ∷ 0x00 ∷ 0x00 ∷ 0x00 ∷ 0x02 ∷ 0x00 ∷ 0xC1 ∷ 0x07 ∷ 0xF8 ∷ 0x10 ∷ []
 
--- From a client of seed 255 with an attached id.
+-- The client has seed 255 and an attached id.
 abbrev id : Option Id
 id = some (0xC2 ∷ [])
 
@@ -60,7 +59,7 @@ drives rounds = Condition2.drives buffer room 255 (omega arith) id (omega arith)
 abbrev driving : List Round → Started → Told
 driving rounds s = driven buffer rounds (opening s)
 
--- What is said last, where the unread rest begins, and the seed and the attached id that are left with no operation.
+-- The last answer, the place where the unread rest begins, and the seed and attached id left with no operation running.
 pub record Ends (says : Says) (rest seed : ℕ) (id : Option Id) (t : Told) : Type 0 where
   pub answer : answerOf t ≡ says
   pub unread : t .rest ≡ rest
@@ -76,14 +75,14 @@ select-met =
     let p = drives (hears replied ∷ []) .select (0x05 ∷ []) 3 (omega arith) (omega arith) .stands in
     record { answer = p .says; unread = p .rest; client = p .client }
 
--- A deselect whose sending failed: the seed is spent, the id stays.
+-- A deselect whose sending failed: the seed has advanced, the id stays.
 pub deselect-met : Ends (refused 1 []) 0 0 id (driving (fails ∷ []) (startDeselect (resting 255 id)))
 unfolding play brought readEvent unanswered restAfter seedOver idOver success idAfter deselect nobody
 deselect-met =
     let p = drives (fails ∷ []) .deselect .stands in
     record { answer = p .says; unread = p .rest; client = p .client }
 
--- Two answer at once: a deselect, then 8, with no id attached.
+-- Garble, as when two pods answer at once: a deselect, then 8, with no id attached.
 pub attach-met : Ends (refused 8 []) 0 1 none (driving (hears (0 ∷ []) ∷ hears [] ∷ []) (startAttach (resting 255 id)))
 unfolding play brought readEvent unanswered restAfter seedOver idOver success idAfter attach met deselect nobody listen
     walking Walk.ask long _>>=_ hear frames clean replies repliesHeard read readSynced readSized rightCheck skipped
@@ -101,7 +100,7 @@ attach-to-met =
     let p = drives (hears replied ∷ []) .attach-to (0xC1 ∷ []) (omega arith) .stands in
     record { answer = p .says; unread = p .rest; client = p .client }
 
--- Silence at the prefix, and the deselect.
+-- No reply under the prefix, then the deselect.
 pub discover-met : Ends (over none (found [])) 0 1 none
     (driving (hears [] ∷ hears [] ∷ []) (startDiscover (resting 255 id) (0xC1 ∷ [])))
 unfolding play brought readEvent unanswered restAfter seedOver idOver success idAfter discover Walk.discover Walk.ask
@@ -111,7 +110,7 @@ discover-met =
     let p = drives (hears [] ∷ hears [] ∷ []) .discover (0xC1 ∷ []) (omega arith) (omega arith, tt) .stands in
     record { answer = p .says; unread = p .rest; client = p .client }
 
--- With two bytes behind the answer, which stay unread.
+-- Two bytes after the reply stay unread.
 pub info-met : Ends (over none (knows device)) 30 255 id
     (driving (hears (informs ++ (0xA5 ∷ 0x05 ∷ [])) ∷ []) (startInfo (resting 255 id)))
 unfolding play brought readEvent unanswered restAfter seedOver idOver success idAfter answer answerFrom read readSynced
@@ -121,7 +120,7 @@ info-met =
     let p = drives (hears (informs ++ (0xA5 ∷ 0x05 ∷ [])) ∷ []) .info .stands in
     record { answer = p .says; unread = p .rest; client = p .client }
 
--- To its end, with the progress of the last Erase; and with a link that fails at the second.
+-- An erase to its end, with the progress of the last Erase; and an erase whose link fails at the second.
 pub erase-met : Ends (over (some (8, 6)) (knows device)) 12 255 id
     (driving (hears informs ∷ hears erased ∷ hears erased ∷ []) (startErase (resting 255 id)))
 unfolding play brought readEvent unanswered restAfter seedOver idOver success idAfter answer answerFrom read readSynced
@@ -140,7 +139,7 @@ erase-lost-met =
     let p = drives (hears informs ∷ hears erased ∷ fails ∷ []) .erase .stands in
     record { answer = p .says; unread = p .rest; client = p .client }
 
--- The image is lent with every request and every answer, and is bytes.
+-- The image is lent with every request and every reply, and consists of bytes.
 lent : All (Lends (some 5)) flashed
 lent = (
   (refl, refl),
@@ -165,7 +164,7 @@ flash-met =
     let p = drives flashed .flash image lent .stands in
     record { answer = p .says; unread = p .rest; client = p .client }
 
--- In boot, and not: then handing out its 12 bytes ends it.
+-- In boot the reply is awaited; otherwise handing out the 12 bytes ends the operation.
 pub reset-met : Ends (over none quiet) 12 255 id
     (driving (hears was-reset ∷ []) (startReset (resting 255 id) true true))
 unfolding play brought readEvent unanswered restAfter seedOver idOver success idAfter answer answerFrom read readSynced
@@ -188,7 +187,7 @@ set-baud-met =
     let p = drives (hears was-reset ∷ []) .set-baud 5 false true .stands in
     record { answer = p .says; unread = p .rest; client = p .client }
 
--- The requests of that flash, as bytes.
+-- The requests of the flash above, as bytes.
 abbrev informing : List ℕ
 informing = 0xA5 ∷ 0x00 ∷ 0x00 ∷ 0x00 ∷ 0x00 ∷ 0x00 ∷ 0x00 ∷ 0x00 ∷ 0x00 ∷ 0x00 ∷ 0x70 ∷ 0xFE ∷ []
 
@@ -209,7 +208,7 @@ writing-4 = 0xA5 ∷ 0x02 ∷ 0x00 ∷ 0x01 ∷ 0x04 ∷ 0x00 ∷ 0x00 ∷ 0x00 
 abbrev verifying : List ℕ
 verifying = 0xA5 ∷ 0x03 ∷ 0x00 ∷ 0x00 ∷ 0x05 ∷ 0x00 ∷ 0x00 ∷ 0x00 ∷ 0x00 ∷ 0x00 ∷ 0x35 ∷ 0x90 ∷ []
 
--- After the Info of an erase the first Erase is next: it is handed out before a byte that is kept.
+-- After the Info of an erase the first Erase is next. Its buffer is one byte longer, and that byte is kept.
 pub erase-next-met : request (driving (hears informs ∷ []) (startErase (resting 255 id)) .client) []
     (replicate 15 0xEE) .bytes ≡ erasing-0 ++ (0xEE ∷ [])
 unfolding play brought readEvent unanswered restAfter seedOver idOver success idAfter answer answerFrom read readSynced
@@ -219,7 +218,7 @@ unfolding play brought readEvent unanswered restAfter seedOver idOver success id
 erase-next-met = drives (hears informs ∷ []) .erase .stands .client .grants [] (replicate 15 0xEE) tt
     (omega arith) .after
 
--- What the flash hands out, and what it says.
+-- What the flash hands out, and its answer.
 abbrev handed : List Sent
 handed = sends buffer flashed (opening (startFlash (resting 255 id) image))
 
@@ -230,7 +229,7 @@ pub flash-total-met : written handed ≡ 8
 unfolding padding
 flash-total-met = flash-handed-met .total none device (flash-met .answer)
 
--- Its second Write, and all that was handed out before it.
+-- Its second Write, and everything that was handed out before it.
 abbrev then : List ℕ → List ℕ → Sent
 then request answer = record { bytes = request; then = some (Order.heard image answer) }
 
@@ -265,7 +264,7 @@ flash-cleared-met = flash-handed-met .writes first-five second-write second-hand
 pub flash-address-met : 4 ≡ written first-five
 flash-address-met = flash-handed-met .addresses first-five second-write second-handed refl
 
--- Its first Erase, after the Info alone.
+-- Its first Erase, with only the Info before it.
 abbrev first-erase : Frame
 first-erase = record { command = 1; status = 0; flags = 0; address = 0; payload = 0x04 ∷ 0x00 ∷ [] }
 

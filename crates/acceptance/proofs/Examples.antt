@@ -1,4 +1,4 @@
--- Document 01, "Examples on both sides": those marked M, as a single table.
+-- Document 01, "Examples on both sides": the examples marked M, as a single table.
 use Prim.Native.Nat.{ℕ}
 use mathlib.Core.Bool.{true, false, cond}
 use mathlib.Core.List.{List, [], _∷_, _++_, map}
@@ -18,7 +18,7 @@ use Rattle.paper.specs.Answers.{steps, apart, below, padding, eraseAddresses, e
 use Rattle.paper.specs.Walk.{discover, done, run}
 use Rattle.theory.proofs.walk.CountExamples as Discovery
 
--- A device of a capacity and an erase size.
+-- A device with this capacity and erase size.
 abbrev device : ℕ → ℕ → Info
 device capacity eraseSize = record {
   capacity = capacity;
@@ -31,17 +31,17 @@ device capacity eraseSize = record {
   maxPayload = 64;
 }
 
--- The payload of a device's Info: its capacity, erase size and max_payload, and no key.
+-- The payload of a device's Info: capacity, erase size and max_payload, with compat unset.
 abbrev says : ℕ → ℕ → ℕ → List ℕ
 says capacity eraseSize most = le 4 capacity ++ le 2 eraseSize ++ le 4 0 ++ le 2 0 ++ le 4 0xFFFFFFFF ++ le 2 most
 
--- A device that says this of itself, answers Ok to all, and has the image's check.
+-- The replies of a device with this Info: Ok to everything, and to a Verify the image's check.
 abbrev replies : List ℕ → List ℕ → ℕ → Reply
 replies info image command = cond (eqb command command-Info) (ok info)
     (cond (eqb command command-Verify) (ok (le 2 (check image))) (ok []))
 
--- A conversation with it: each request as command, address, flags and payload, each progress as two numbers, a refusal
--- with its number first.
+-- A conversation with that device, as lists of numbers: a request is its command, address, flags and payload; progress
+-- is two numbers; a refusal is its number and what it carries.
 unfoldable pub log : List ℕ → List ℕ → Talk Outcome → List (List ℕ)
 log info image (return o) = []
 log info image (stop n carries) = (n ∷ carries) ∷ []
@@ -55,7 +55,8 @@ log info image (ask (leave d) f) = []
 abbrev asks-Info : List ℕ
 asks-Info = 0 ∷ 0 ∷ 0 ∷ []
 
--- Ids of one byte on an honest wire, and a prefix: the ids found and the Selects, by the walk and by its count.
+-- Ids of one byte on an honest wire, and a prefix: the ids found, and the number of Selects, by the walk and by the
+-- count.
 abbrev Discovers : List Id → Id → List Id → ℕ → Type 0
 Discovers ids given found n = (run (honest ids) 0 (discover (bitsOf given)) ≡ (done found, n))
     × (selects ids 1 (bitsOf given) ≡ n)

@@ -1,6 +1,6 @@
 -- What meets the premises of the exported calls' promises: an attach under C1 whose link fails, with calls out of turn,
--- over buffers of zeros; refusals of a state that no call left, of buffers that are too short, of an id of 17 bytes and
--- of a text of one digit.
+-- on buffers of zeros; and refusals. These are for a state that no call could leave, buffers that are too short, an id
+-- of 17 bytes, and a text of one digit.
 use Prim.Native.Nat.{ℕ, _%_, _≤_}
 use mathlib.Core.Bool.{true}
 use mathlib.Core.List.{List, [], _∷_, _++_, map}
@@ -66,7 +66,7 @@ abbrev answered : Says → ℕ → List ℕ → ℕ → Answer
 answered says rest buffer seed =
     record { reply = record { says = says; rest = rest; buffer = buffer }; seed = seed; id = none }
 
--- The attach goes on; 21; the Select of C1's bits with seed 1, fifteen bytes; 1; 21.
+-- The answers: the attach goes on; 21; the Select of C1's bits with seed 1, fifteen bytes; 1; 21.
 pub exports-agree-met :
     map readFrom (exports (replicate State.size 0 ++ (7 ∷ [])) calls)
     ≡ answered (onward none) 0 [] 0
@@ -88,8 +88,8 @@ pub exports-behind-met : map behind (exports (replicate State.size 0 ++ (7 ∷ [
     ≡ map (λ x. (7 ∷ [], drop Answers.size (x .answer))) calls
 exports-behind-met = exports-behind (7 ∷ []) calls fair
 
--- A state that no call left: its byte 1, whether an id is attached, is 2. A discovery under 17 bytes is refused,
--- whatever runs.
+-- A state that no call could leave: its byte 1, the flag for an attached id, is 2. A discovery under a prefix of 17
+-- bytes is refused, whether or not an operation is running.
 abbrev odd : List ℕ
 odd = 0 ∷ 2 ∷ replicate 1350 0
 

@@ -1,5 +1,5 @@
--- What meets the premise of condition 3: wires that are honest in the Selects that a discovery sends before its
--- deselect, and not in all.
+-- What meets the premise of condition 3: wires that are honest for the Selects that a discovery sends before its
+-- deselect, but not for every Select.
 use Prim.Native.Nat.{ℕ, suc, _+_, _%_, _≤_}
 use mathlib.Core.Bool.{Bool, true, false, _||_, cond}
 use mathlib.Core.List.{List, [], _∷_, _++_}
@@ -28,15 +28,15 @@ use Rattle.acceptance.proofs.Condition3 as Condition3
 use Rattle.acceptance.proofs.Discoveries.{selectRoom}
 use Rattle.acceptance.proofs.Instances.{attached}
 
--- The one pod, 01, under its own bits.
+-- The only pod, 01, and its bits as the prefix.
 abbrev pod : Id
 pod = 0x01 ∷ []
 
 abbrev under : Prefix
 under = bitsOf pod
 
--- A stray byte to each Select of fewer than 8 bits, of which none is sent, and to the deselect, whose record is not
--- looked at; else that pod.
+-- Returns a stray byte for a Select of fewer than 8 bits, which is never sent, and for the deselect, whose record is
+-- ignored. Otherwise returns the pod's reply.
 unfoldable pub garbling : Wire
 garbling k bytes = cond (ltb (byte 11 bytes) 8 || ltb 128 (byte 11 bytes)) (0 ∷ []) (devices (pod ∷ []) k bytes)
 
@@ -67,7 +67,7 @@ pods S only = rw only (record {
   within16 = omega arith;
 })
 
--- Any ids of which that pod alone matches.
+-- For any ids of which only this pod matches.
 module _ (S : List Id) (only : matching under S ≡ pod ∷ []) where
   same : (q : Prefix) → begins under q ≡ true → matching q (pod ∷ []) ≡ matching q S
   same q e = ap (matching q) (sym only) ∙ matching-extends under q S e
@@ -89,7 +89,7 @@ module _ (S : List Id) (only : matching under S ≡ pod ∷ []) where
   unfolding sort insert
   found = rw only
 
-  -- The count is what was run on the wire of the one pod.
+  -- The count is that of the run on the wire of this pod.
   takes-2 : selects S 1 under ≡ 2
   unfolding honest
   takes-2 = ap (λ p. p .1) (sym (discover-exact (honest (pod ∷ [])) S 1 under (λ k q l e n. ap heardOf (same q e))
@@ -102,20 +102,20 @@ module _ (S : List Id) (only : matching under S ≡ pod ∷ []) where
       ((Condition3.finds selectRoom (omega arith) 250 (omega arith) attached (omega arith) pod (omega arith)
       (omega arith, tt) wire S 1 h (pods S only)) .0)
 
--- The pod and nothing else.
+-- With the pod alone.
 pub garbling-honest-met : Honest garbling 250 under (pod ∷ [])
 garbling-honest-met = garbling-honest (pod ∷ []) alone 250
 
 pub garbling-finds-met : Finds 250 (pod ∷ []) 2 (discovered selectRoom garbling (resting 250 attached) pod)
 garbling-finds-met = finds-pod (pod ∷ []) alone garbling garbling-honest-met
 
--- That wire is not honest in every Select: the empty prefix is heard as garble.
+-- This wire is not honest for every Select: with the empty prefix it returns garble.
 pub garbling-not-always : ¬ ((k : ℕ) (q : Prefix) → heardBy garbling 250 k q ≡ heardOf (matching q (pod ∷ [])))
 unfolding heardBy garbling bytesOf frameBytes frameBody frameHead selectPayload le hear frames clean read readSynced
     skipped heardOf matching begins
 garbling-not-always h = let e : garble ≡ one pod = h 0 [] in let z : _≡_ {A = ℕ} 0 1 = cc in omega arith
 
--- An id of 1,025 bytes, more than a frame carries, which does not match.
+-- An id of 1,025 bytes, more than a frame can carry. It does not match.
 unfoldable pub zeros : Id
 zeros = replicate 1025 0
 
@@ -134,7 +134,7 @@ under-other bits = refl
 beside : matching under (zeros ∷ pod ∷ []) ≡ pod ∷ []
 beside = matching-not under zeros (pod ∷ []) (rw zeros-bits (under-other (bitsOf (replicate 1024 0)))) ∙ alone
 
--- The pod beside that id: on the same wire, and on the wire of both.
+-- The pod together with that id: on the wire above, and on the wire of both.
 pub garbling-beside-met : Honest garbling 250 under (zeros ∷ pod ∷ [])
 garbling-beside-met = garbling-honest (zeros ∷ pod ∷ []) beside 250
 
@@ -145,7 +145,8 @@ pub devices-finds-met : Finds 250 (pod ∷ []) 2
     (discovered selectRoom (devices (zeros ∷ pod ∷ [])) (resting 250 attached) pod)
 devices-finds-met = finds-pod (zeros ∷ pod ∷ []) beside (devices (zeros ∷ pod ∷ [])) devices-beside-met
 
--- No wire is honest in every Select of these two: the long id is alone under a zero bit.
+-- No wire is honest for every Select with these two ids: under a zero bit the long id is alone, and no frame can carry
+-- it.
 zero-first : (bits : List Bool) → begins (false ∷ []) (after-zero bits) ≡ true
 unfolding counting bit begins
 zero-first bits = refl

@@ -27,7 +27,7 @@ use Rattle.client_record.specs.Record.{record′}
 use Rattle.refinement.specs.ClientServed.{resting}
 use Rattle.acceptance.proofs.Condition2 as Condition2
 
--- A device: capacity 6, erase_size 4, no key, max_payload 4.
+-- A device with capacity 6, erase_size 4, compat unset and max_payload 4.
 abbrev pub device : Info
 device = record {
   capacity = 6;
@@ -40,8 +40,8 @@ device = record {
   maxPayload = 4;
 }
 
--- What it answers, as bytes: its Info; Ok to an Erase, a Write and a Reset; status 3 to a Write; the check of the image
--- to a Verify.
+-- Its replies, as bytes: its Info; Ok to an Erase, a Write and a Reset; status 3 to a Write; the image's check to a
+-- Verify.
 abbrev pub informs : List ℕ
 informs = 0xA5 ∷ 0x00 ∷ 0x01 ∷ 0x00 ∷ 0x00 ∷ 0x00 ∷ 0x00 ∷ 0x00 ∷ 0x12 ∷ 0x00 ∷ 0x06 ∷ 0x00 ∷ 0x00 ∷ 0x00 ∷ 0x04 ∷ 0x00
     ∷ 0x03 ∷ 0x00 ∷ 0x07 ∷ 0x00 ∷ 0x01 ∷ 0x02 ∷ 0xFF ∷ 0xFF ∷ 0xFF ∷ 0xFF ∷ 0x04 ∷ 0x00 ∷ 0x78 ∷ 0x99 ∷ []
@@ -64,7 +64,7 @@ was-reset = 0xA5 ∷ 0x04 ∷ 0x01 ∷ 0x00 ∷ 0x00 ∷ 0x00 ∷ 0x00 ∷ 0x00 
 abbrev pub image : List ℕ
 image = 0x10 ∷ 0x21 ∷ 0x32 ∷ 0x43 ∷ 0x54 ∷ []
 
--- The image is lent with every request and every answer.
+-- The image is lent with every request and every reply.
 abbrev pub answers : List ℕ → Round
 answers bytes = record { lent = image; event = heard image bytes }
 
@@ -77,13 +77,13 @@ room = omega (arith, length-replicate {A = ℕ} 1036 0)
 abbrev pub attached : Option Id
 attached = some (0xC1 ∷ 0x07 ∷ [])
 
--- A flash to its end: the Info, two Erases, the first Write twice, the second, the Verify.
+-- A flash to its end: the Info, two Erases, the first Write twice, the second Write, the Verify.
 abbrev pub flashed : List Round
 flashed = answers informs ∷ answers erased ∷ answers erased ∷ answers mismatched ∷ answers wrote ∷ answers wrote
     ∷ answers verified ∷ []
 
--- The flash above, as events, and links that fail after its end, to as many as its bound: 1, 2 Erases, 17 for each of 2
--- Writes, and 1.
+-- The flash above as events, then failed links, up to its bound of 38: 1 for the Info, 2 Erases, 17 for each of 2
+-- Writes, and 1 for the Verify.
 abbrev flashing : List Event
 flashing =
     heard image informs ∷ heard image erased ∷ heard image erased ∷ heard image mismatched ∷ heard image wrote
@@ -122,7 +122,7 @@ erase-ends-met = Condition2.erase-ends (heard [] informs ∷ heard [] erased ∷
 pub reset-ends-met : Ended (play (reset true (some 5) true) (heard [] was-reset ∷ []) [] .1)
 reset-ends-met = Condition2.reset-ends true (some 5) true (heard [] was-reset ∷ []) .ends (omega arith)
 
--- A client whose second Write is out, its record an echo and the answer, and the beginning of another frame.
+-- A client whose second Write is out; its record is an echo and the reply; then the beginning of another frame follows.
 abbrev pub writing : Client
 writing = turned (resting 255 attached) (Waiting (Demand (Writing 5 (codeInfo device) 4 0)))
 

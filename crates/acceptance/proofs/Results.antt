@@ -1,5 +1,5 @@
--- Document 01 asks that it is shown: any two results that a contract allows are equal. Of each public call, about its
--- own contract: what is answered, the client after it, and every byte lent.
+-- Any two results that a contract allows are equal, as document 01 asks. For each public call this is stated about its
+-- own contract: the answer, the client after it, and every byte lent.
 use mathlib.Core.Path.{_≡_, refl, ap}
 use denote.Ref.{now}
 use Rattle.client.proofs.Client.new as ClientNew
@@ -51,7 +51,7 @@ use Rattle.fahireky.proofs.fahireky_image_compat as FahirekyImageCompat
 use Rattle.fahireky.proofs.fahireky_crc16 as FahirekyCrc16
 use Rattle.acceptance.proofs.Contracts.{DeterminedBy, Determined, agree}
 
--- The client's calls, and the calls beside it.
+-- The client's calls, and the functions that it is built on.
 pub new-determined : Determined (record { ended = ClientNew.ended; clauses = ClientNew.clauses })
 new-determined M 𝓤 H A mem run κs a g g′ r r′ w w′ = agree 𝓤 r r′ _ (λ e. (e, refl))
 
@@ -98,7 +98,7 @@ record-determined M 𝓤 H A mem run κs a g g′ r r′ w w′ = agree 𝓤 r r
 pub link-failed-determined : Determined (record { ended = LinkFailed.ended; clauses = LinkFailed.clauses })
 link-failed-determined M 𝓤 H A mem run κs a g g′ r r′ w w′ = agree 𝓤 r r′ _ (λ e. (e, refl))
 
--- A reference to a part of the record: the bytes there.
+-- The result is a reference to a part of the record; its bytes are equal.
 pub rest-determined : DeterminedBy (record { ended = Rest.ended; clauses = Rest.clauses }) (λ κs r r′. now r ≡ now r′)
 rest-determined M 𝓤 H A mem run κs a g g′ r r′ w w′ = agree 𝓤 (now r) (now r′) _ (λ e. (e, refl))
 

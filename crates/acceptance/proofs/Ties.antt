@@ -1,5 +1,5 @@
--- The exports are tied to the promise: the contract of each is the very equation that is promised of it, with its
--- arguments in their places.
+-- The contract of each exported call is exactly the equation that is promised for it, with its arguments in their
+-- places.
 use mathlib.Core.List.{[]}
 use mathlib.Core.Option.{none, some}
 use mathlib.Core.Path.{_≡_, refl, ap}
@@ -36,7 +36,7 @@ use Rattle.refinement.specs.Calls.{startFlash, startReset, startSetBaud, reques
 use Rattle.host_theory.specs.ExportedCalls.{bufferless, exported}
 use Rattle.acceptance.proofs.Contracts.{Is, first, second, third, fourth, fifth}
 
--- What is equal with no request's buffer is equal with none beside it.
+-- Adding an empty request buffer to both sides changes no equation.
 promised : {M : Type 1} (𝓤 : URA M) (x y : Exported) → fact 𝓤 (x ≡ y) ≡ fact 𝓤 (bufferless x ≡ bufferless y)
 unfolding handed
 promised 𝓤 x y =
@@ -44,7 +44,7 @@ promised 𝓤 x y =
     (fact-mono 𝓤 (bufferless x ≡ bufferless y) (x ≡ y)
     (λ e. ap (λ (z : Requested). record { code = z .code; state = z .state; answer = z .answer }) e))
 
--- The client's calls: each leaves what is promised of it.
+-- The client's calls: each contract is that of `exported`.
 pub start-select-tied : Is (record { ended = StartSelect.ended; clauses = StartSelect.clauses })
     (λ κs a r w. record { code = r; state = first w; buffer = []; answer = fourth w }
     ≡ exported (now (first a)) (now (fourth a)) (startSelect (now (second a)) (third a)))
@@ -123,7 +123,7 @@ pub link-failed-tied : Is (record { ended = LinkFailed.ended; clauses = LinkFail
 unfolding exported handed
 link-failed-tied M 𝓤 H A mem run κs a g r w = promised 𝓤 _ _
 
--- The others: each is its definition.
+-- The other calls: each contract is its definition in `Exports`.
 pub attached-tied : Is (record { ended = Attached.ended; clauses = Attached.clauses })
     (λ κs a r w. record { code = r; bytes = second w } ≡ Export.attached (now (first a)) (now (second a)))
 attached-tied M 𝓤 H A mem run κs a g r w = refl

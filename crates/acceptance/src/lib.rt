@@ -1,1 +1,1 @@
-// What the customer is promised, each promise in one file. No code.
+// What is promised to the customer, one file for each promise. No code.

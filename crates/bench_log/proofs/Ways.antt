@@ -1,4 +1,4 @@
--- What is shown of a log that was reached by feeding pieces is document 01's output of them.
+-- The output shown for a log that was fed some pieces is document 01's output for them.
 use Prim.Native.Nat.{ℕ, _≤_}
 use mathlib.Core.List.{List}
 use mathlib.Core.Path.{_≡_, _∙_, ap}

@@ -1,4 +1,4 @@
-// The bench log: standard input to standard output.
+// The bench log program: reads a log from standard input and writes its answer to standard output.
 ghost use Rattle.log_feed.specs.FeedMachine.{Logged, begun};
 ghost use Rattle.log_feed.specs.Pieces.{Reached};
 ghost use Rattle.bench_log.specs.Reports.{Reports};
@@ -11,7 +11,7 @@ struct Pumped {
     log: Log,
 }
 
-// One read, and what it brought. A read that fails counts as the end of the input.
+// Reads once and feeds what was read. A failed read counts as the end of the input.
 fn pump(log: Log, page: &mut [u8], buf: &mut [u8]) -> Pumped
     ensures { λ r. ⌜ Reached (record { log = log; bytes = now (buf .entry) })
         (record { log = r .log; bytes = now (buf .exit) }) ⌝ }
@@ -28,8 +28,8 @@ fn pump(log: Log, page: &mut [u8], buf: &mut [u8]) -> Pumped
     }
 }
 
-// A proved loop has to end, and nothing says that the input does. So the turns are counted down, from 2^64 - 1, and
-// each is a read of a byte or more.
+// A proved loop must end, but the input need not. So the reads are counted down from 2^64 - 1; each brings at least one
+// byte.
 fn pump_all(page: &mut [u8], buf: &mut [u8]) -> Log
     ensures { λ r. ⌜ Reached (record { log = begun; bytes = now (buf .entry) })
         (record { log = r; bytes = now (buf .exit) }) ⌝ }
@@ -48,7 +48,7 @@ fn pump_all(page: &mut [u8], buf: &mut [u8]) -> Log
     log
 }
 
-// The output of all that was read, at the front of a buffer.
+// Reads all input, and writes its output to the front of `out`.
 fn report(page: &mut [u8], buf: &mut [u8; 4096], out: &mut [u8; 2121]) -> usize
     ensures { λ r. ⌜ Reports (now (out .entry)) r (now (out .exit)) ⌝ }
 {

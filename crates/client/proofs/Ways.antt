@@ -1,4 +1,4 @@
--- The ways through the client's moves, from the facts that the code has.
+-- A lemma for each way through the client's functions, with the facts known there as its premises.
 use Prim.Native.Nat.{ℕ}
 use mathlib.Core.Bool.{Bool, true, false, not, cond}
 use lib.Dec.{eqb}
@@ -36,7 +36,7 @@ use Rattle.client.specs.Clients.{onTurn, begun, turned, fresh, idle, hol
 use Rattle.client.specs.Clients.{otherFor, otherImage, refuses, over, stops, onward}
 use Rattle.client.specs.Verdicts.{clientOf, renewed, startedOf, still, changed, given, toldOf}
 
--- A turn that is known.
+-- The choice by turn, where the turn is known.
 module _ {A : Type 0} (t : Turn) (a : A) (f g : Phase → A) where
   pub at-idle : t ≡ Idle → a ≡ onTurn t a f g
   at-idle e = rw e
@@ -47,7 +47,6 @@ module _ {A : Type 0} (t : Turn) (a : A) (f g : Phase → A) where
   pub at-waiting : (p : Phase) → t ≡ Waiting p → g p ≡ onTurn t a f g
   at-waiting p e = rw e
 
--- Clients.
 pub fresh-is : (x : Id) (w : Walk) → x ≡ noId → w ≡ noWalk
     → record { seed = 0; attached = false; id = x; turn = Idle; prefix = x; bits = 0; walk = w } ≡ fresh
 unfolding fresh
@@ -70,11 +69,11 @@ module _ (t : Turn) where
   unfolding running
   waiting-runs p e = rw e
 
--- A refusal that is known.
+-- The number of a known refusal.
 pub number-is : (r q : Refusal) (n : ℕ) → r ≡ q → n ≡ numberOf q → n ≡ numberOf r
 number-is r q n e f = rw e f
 
--- A number that is known, and the last of those asked for.
+-- The test of a refusal's number: one that matches, and the last comparison.
 module _ (n : ℕ) where
   pub changes-none : (k : ℕ) → n ≡ k → true ≡ changesNoState k → true ≡ changesNoState n
   changes-none k e h = rw e h
@@ -82,7 +81,7 @@ module _ (n : ℕ) where
   pub last-number : (n ≡ 13 → ⊥) → (n ≡ 16 → ⊥) → (n ≡ 20 → ⊥) → eqb n 21 ≡ changesNoState n
   last-number h₁ h₂ h₃ = rw (ne-eqb n 13 h₁, ne-eqb n 16 h₂, ne-eqb n 20 h₃)
 
--- Images of another length.
+-- The tests for an image of another length.
 module _ (m n : ℕ) (b : Bool) where
   pub differs-load : (why : Purpose) → why ≡ Load m → b ≡ not (eqb m n) → b ≡ differs why n
   unfolding differs
@@ -109,7 +108,7 @@ pub other-demand : (n : ℕ) (b : Bool) (p : Phase) (j : Job) → p ≡ Demand j
 unfolding otherImage
 other-demand n b p j e f = rw e f
 
--- Fronts, and what is decided on one.
+-- Fronts, and the verdicts and openings decided on them.
 pub no-walk-is : (p : Place) (t : Table) (w : Walk) → walkOf p noTable ≡ noWalk → t ≡ noTable → w ≡ walkOf p t
     → w ≡ noWalk
 no-walk-is p t w e f g = g ∙ rw f e

@@ -1,4 +1,4 @@
--- The client's record: of every value, also one that no sequence of calls reaches.
+-- The client's record after each step, and the answers, for every record: also one that no calls lead to.
 use Prim.Native.Nat.{ℕ}
 use mathlib.Core.Bool.{Bool, true, false, not}
 use lib.Dec.{eqb}
@@ -31,7 +31,7 @@ use Rattle.client.specs.declared.Started.{Started}
 use Rattle.client.specs.declared.Told.{Told}
 use Rattle.client.specs.declared.Attached.{Attached}
 
--- The cases.
+-- A value for each case.
 abbrev pub onTurn {ℓ} : {A : Type ℓ} → Turn → A → (Phase → A) → (Phase → A) → A
 onTurn Idle i r w = i
 onTurn (Ready p) i r w = r p
@@ -62,18 +62,20 @@ onPhase (Select s) f g h = f s
 onPhase (Demand j) f g h = g j
 onPhase (Leave r) f g h = h r
 
--- An image of another length than the one that a flash was started with.
+-- Whether an image of n bytes has another length than the one that a flash was started with.
 unfoldable pub differs : Purpose → ℕ → Bool
 differs why n = onPurpose why false false (λ m. not (eqb m n))
 
+-- The same for a job. Only the jobs of a flash have an image.
 unfoldable pub otherFor : Job → ℕ → Bool
 otherFor j n = onJob j (λ why. differs why n) (λ why info address. differs why n)
     (λ m info offset retries. not (eqb m n)) (λ m info. not (eqb m n)) (λ reset. false)
 
+-- The same for any phase: false where no flash runs.
 unfoldable pub otherImage : Phase → ℕ → Bool
 otherImage p n = onPhase p (λ s. false) (λ j. otherFor j n) (λ reset. false)
 
--- Clients made of others.
+-- The client with another turn, prefix, bit count and walk.
 abbrev pub begun : Client → Turn → Id → ℕ → Walk → Client
 begun c t x bits w = record {
   seed = c .seed;
@@ -88,12 +90,15 @@ begun c t x bits w = record {
 unfoldable pub fresh : Client
 fresh = record { seed = 0; attached = false; id = noId; turn = Idle; prefix = noId; bits = 0; walk = noWalk }
 
+-- No operation runs: the prefix, the bit count and the walk are zero.
 unfoldable pub idle : Client → Client
 idle c = begun c Idle noId 0 noWalk
 
+-- The same operation in another turn.
 abbrev pub turned : Client → Turn → Client
 turned c t = begun c t (c .prefix) (c .bits) (c .walk)
 
+-- The client with another attached id, or none.
 abbrev pub holding : Client → Bool → Id → Client
 holding c any x = record {
   seed = c .seed;
@@ -114,18 +119,23 @@ attached c = record { any = c .attached; id = c .id }
 unfoldable pub running : Turn → Bool
 running t = onTurn t false (λ p. true) (λ p. true)
 
+-- A start or a request is refused, and no state changes.
 abbrev pub refuse : Client → Refusal → Started
 refuse c r = record { says = Refused r; client = c }
 
+-- A record is refused, and no state changes. The unread rest is the whole record.
 abbrev pub refuses : Client → Refusal → Told
 refuses c r = record { says = Refused r; client = c; rest = 0; progress = None; id = noId; found = noTable }
 
+-- The operation has ended, with an id and a list in the answer. The unread rest begins at the place given.
 unfoldable pub over : Client → Says → Id → Table → ℕ → Told
 over c says x t at = record { says = says; client = idle c; rest = at; progress = None; id = x; found = t }
 
+-- The operation has ended, with no id and no list in the answer.
 abbrev pub stops : Client → Says → ℕ → Told
 stops c says at = over c says noId noTable at
 
+-- The operation goes on with another request, and with this walk.
 unfoldable pub onward : Client → Phase → Walk → ℕ → Told
 onward c p w at = record {
   says = Onward;
@@ -137,7 +147,7 @@ onward c p w at = record {
   found = noTable;
 }
 
--- With progress made.
+-- The same answer with this progress.
 abbrev pub making : Told → Progress → Told
 making t progress = record {
   says = t .says;

@@ -1,5 +1,4 @@
--- Document 01, "Refusal numbers": the number of each refusal and what it carries; and the code's answers read as
--- document 01's.
+-- Document 01, "Refusal numbers": the number of each refusal and what it carries. The code's answers as document 01's.
 use Prim.Native.Nat.{ℕ}
 use mathlib.Core.Bool.{Bool, _||_, cond}
 use mathlib.Core.List.{List, [], _∷_, map}
@@ -56,7 +55,7 @@ numberOf SpansTooFar = 19
 numberOf OtherImage = 20
 numberOf OutOfTurn = 21
 
--- "13, 16, 20, 21, 22 change no state." 22 is the text's alone.
+-- "13, 16, 20, 21, 22 change no state." No call of the client gives 22: it is for text.
 abbrev pub changesNoState : ℕ → Bool
 changesNoState n = eqb n 13 || (eqb n 16 || (eqb n 20 || eqb n 21))
 
@@ -65,7 +64,7 @@ abbrev pub keyOf : Compat → List ℕ
 keyOf (Key k) = k ∷ []
 keyOf Missing = []
 
--- What a refusal carries: numbers of its own, or the prefix that stands beside it.
+-- What a refusal carries: its own numbers, or the answer's prefix.
 unfoldable pub carriedBy : Refusal → Id → List ℕ
 carriedBy Io x = []
 carriedBy (Device status) x = status ∷ []
@@ -89,12 +88,11 @@ carriedBy SpansTooFar x = []
 carriedBy OtherImage x = []
 carriedBy OutOfTurn x = []
 
--- The ids of a table, row for row.
+-- The ids of a table, row by row.
 unfoldable pub idsOf : Table → List PaperHearing.Id
 idsOf t = map (λ e. idOf (e .id)) (rows t 0 (t .count))
 
--- What was heard, with the id beside it. Too long is read as an id of 17 bytes, which no answer of document 01's holds:
--- it is refused.
+-- What was heard, with the answer's id. TooLong is read as an id of 17 bytes. No answer holds one, since it is refused.
 unfoldable pub heardFrom : Heard → Id → PaperHearing.Heard
 heardFrom h x = onHeard h nothing (one (idOf x)) (one (replicate 17 0)) unaddressed garble
 
@@ -102,8 +100,7 @@ unfoldable pub progressOf : Progress → Option (ℕ × ℕ)
 progressOf None = none
 progressOf (Made done total) = some (done, total)
 
--- An outcome, with the progress, the id and the ids beside it. "outcome 23" is a number of document 01's, and of the
--- code's outcomes.
+-- An outcome, with the answer's progress, id and ids. "outcome 23" is a number in document 01, an outcome in the code.
 unfoldable pub endOf : Outcome → Progress → Id → Table → PaperClient.Says
 endOf Code.Quiet p x t = over (progressOf p) quiet
 endOf (Code.Heard h) p x t = over (progressOf p) (heard (heardFrom h x))
@@ -112,6 +109,7 @@ endOf Code.Found p x t = over (progressOf p) (found (idsOf t))
 endOf (Code.Knows info) p x t = over (progressOf p) (knows (paperInfo info))
 endOf Code.Unaddressed p x t = refused 23 []
 
+-- What a call says, with the answer's progress, id and ids.
 unfoldable pub saysOf : Says → Progress → Id → Table → PaperClient.Says
 saysOf (Granted n) p x t = granted n
 saysOf (Closing n) p x t = closing n

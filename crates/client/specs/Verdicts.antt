@@ -1,4 +1,4 @@
--- What a call that was decided without the walk makes of a client with a walk.
+-- A call's answer and the client after it, from what was decided without the walk.
 use mathlib.Core.Bool.{Bool, cond}
 use Rattle.ids.specs.declared.Id.{Id}
 use Rattle.ids.specs.Ids.{noId}
@@ -16,7 +16,7 @@ use Rattle.client.specs.declared.Verdict.{Verdict}
 use Rattle.client.specs.declared.Started.{Started}
 use Rattle.client.specs.declared.Told.{Told}
 
--- All of a client but its walk, and a client of the two.
+-- The client without its walk.
 abbrev pub frontOf : Client → Front
 frontOf c = record {
   seed = c .seed;
@@ -27,6 +27,7 @@ frontOf c = record {
   bits = c .bits;
 }
 
+-- The client of a front and a walk.
 abbrev pub clientOf : Front → Walk → Client
 clientOf f w = record {
   seed = f .seed;
@@ -38,14 +39,15 @@ clientOf f w = record {
   walk = w;
 }
 
--- The walk after a start or a request, and the answer by value.
+-- The walk after a start or a request: begun under a prefix, or unchanged.
 abbrev pub renewed : Bool → Id → Walk → Walk
 renewed begins x w = cond begins (begin x) w
 
+-- The answer by value to a start or a request.
 abbrev pub startedOf : Opening → Walk → Started
 startedOf o w = record { says = o .says; client = clientOf (o .front) (renewed (o .begins) (o .from) w) }
 
--- The walk after a record, the list that is given, and the answer by value.
+-- A value for each case.
 abbrev pub onTouch {ℓ} : {A : Type ℓ} → Touch → A → A → A → A → A → A
 onTouch Same s m k g c = s
 onTouch Moves s m k g c = m
@@ -53,13 +55,16 @@ onTouch Keeps s m k g c = k
 onTouch Gives s m k g c = g
 onTouch Clears s m k g c = c
 
+-- The walk after a record.
 abbrev pub changed : Change → Walk → Walk
 changed x w = onTouch (x .touch) w (walkOf (x .place) (w .found))
     (walkOf (x .place) (keeping (w .found) (x .entry))) noWalk noWalk
 
+-- The list that is returned after a record.
 abbrev pub given : Change → Walk → Table
 given x w = onTouch (x .touch) noTable noTable noTable (giving (w .found)) noTable
 
+-- The answer by value to a record.
 abbrev pub toldOf : Verdict → Walk → Told
 toldOf v w = record {
   says = v .says;
@@ -70,6 +75,6 @@ toldOf v w = record {
   found = given (v .change) w;
 }
 
--- A change of no place and no entry.
+-- A change without a place or an entry: both are zero.
 abbrev pub still : Touch → Change
 still touch = record { touch = touch; place = placeOf noWalk; entry = record { id = noId } }

@@ -1,5 +1,5 @@
-// The client's record, its front (all of it but the walk), and what a call decides on the front: what is said, and what
-// becomes of the walk.
+// The client's record, its front (the client without its walk), and the answers of its calls.
+// A call is decided on the front. The decision says what is answered and how the walk changes.
 use hearing::Heard;
 use ids::Id;
 use image::Compat;
@@ -18,7 +18,8 @@ ghost use Rattle.client.specs.Clients.{fresh, running, differs, otherFor
 ghost use Rattle.client.specs.Clients.{refuse, refuses, over, stops, onward, making, cleared, holding, attached};
 ghost use Rattle.client.specs.Verdicts.{frontOf, clientOf, renewed, startedOf, still, changed, given, toldOf};
 
-// What a Select is for; given says whether a prefix was.
+// What a Select is for. Probing: a plain select. Parting: a deselect. Seeking: an attach. Backing: the deselect of an
+// attach that heard garble. Walking: a discovery. The flag of an attach says whether a prefix was given.
 pub enum Search {
     Probing,
     Parting,
@@ -27,21 +28,21 @@ pub enum Search {
     Walking(walk::Phase),
 }
 
-// What Info is asked for: itself, an erase, a flash of an image of so many bytes.
+// What an Info is for. Tell: its own answer. Clear: an erase. Load: a flash of an image of n bytes.
 pub enum Purpose {
     Tell,
     Clear,
     Load(usize),
 }
 
-// Into the bootloader or the app; with a baud to store, or none.
+// A reset into the bootloader or the app, with the baud to store if one is given.
 pub struct Reset {
     pub bootloader: bool,
     pub given: bool,
     pub baud: u8,
 }
 
-// What a request with one answer is for. An Erase has its address; a Write the image's length, its offset, and how
+// What a request with one answer is for. An Erase has its address. A Write has the image's length, its offset, and how
 // often it was repeated.
 pub enum Job {
     Informing(Purpose),
@@ -51,20 +52,21 @@ pub enum Job {
     Resetting(Reset),
 }
 
-// The request that is next, or out: a Select, one with one answer, one whose answer is not awaited.
+// The request that is next, or out. Demand: one with one answer. Leave: a Reset whose reply is not awaited.
 pub enum Phase {
     Select(Search),
     Demand(Job),
     Leave(Reset),
 }
 
-// No operation; one whose next request can be asked for; one whose request is out.
+// Idle: no operation runs. Ready: its next request can be asked for. Waiting: its request is out.
 pub enum Turn {
     Idle,
     Ready(Phase),
     Waiting(Phase),
 }
 
+// The client. The prefix and the bit count are those of a plain select or an attach, the walk that of a discovery.
 pub struct Client {
     pub seed: u8,
     pub attached: bool,
@@ -75,7 +77,7 @@ pub struct Client {
     pub walk: Walk,
 }
 
-// The refusals; document 01's numbers of them are in Numbers.antt. Prefixes stand beside them in the answer.
+// The refusals. Numbers.antt has their numbers in document 01. The prefix that 9 and 10 carry is a field of the answer.
 pub enum Refusal {
     Io,
     Device(u8),
@@ -100,7 +102,8 @@ pub enum Refusal {
     OutOfTurn,
 }
 
-// What an operation ends with. The id of One, the attached id and the ids found stand beside it in the answer.
+// What an operation ends with. Attached says whether the pod has an id. The id heard or attached, and the ids found,
+// are fields of the answer.
 pub enum Outcome {
     Quiet,
     Heard(Heard),
@@ -110,14 +113,14 @@ pub enum Outcome {
     Unaddressed,
 }
 
-// The progress that an answer made: done, of so many.
+// The progress that a reply made: how much is done, and of how much.
 pub enum Progress {
     None,
     Made(u64, u64),
 }
 
-// A request of so many bytes stands in the buffer, and its answer is awaited; one stands there, and the operation has
-// ended; the operation goes on; it has ended; the call was refused.
+// What a call says. Granted: a request of n bytes is in the buffer, and its reply is awaited. Closing: a request is in
+// the buffer, and the operation has ended. Onward: the operation goes on. Over: it has ended.
 pub enum Says {
     Granted(usize),
     Closing(usize),
@@ -126,14 +129,14 @@ pub enum Says {
     Refused(Refusal),
 }
 
-// The answer of a start and of asking.
+// The answer to a start, or to asking for a request.
 pub struct Started {
     pub says: Says,
     pub client: Client,
 }
 
-// The answer to a record: where its unread rest begins, the progress made, and the id or prefix and the ids that the
-// answer speaks of.
+// The answer to a record: where its unread rest begins, the progress made, and the id or prefix and the ids that belong
+// to it.
 pub struct Told {
     pub says: Says,
     pub client: Client,
@@ -143,7 +146,7 @@ pub struct Told {
     pub found: Table,
 }
 
-// All of a client but its walk. A contract on a front holds of the client with any walk.
+// The client without its walk. A contract on a front holds for the client with any walk.
 pub struct Front {
     pub seed: u8,
     pub attached: bool,
@@ -153,8 +156,8 @@ pub struct Front {
     pub bits: u8,
 }
 
-// A start or a request, decided without the walk: whether it begins one anew, and under which prefix. An operation that
-// walks nothing has an empty one.
+// A start or a request, decided without the walk: whether the walk begins anew, and under which prefix. Where no
+// discovery begins, the prefix is empty and the new walk all zero.
 pub struct Opening {
     pub says: Says,
     pub front: Front,
@@ -162,8 +165,8 @@ pub struct Opening {
     pub from: Id,
 }
 
-// What a record does to the walk: nothing; it moves on; it moves on with an entry kept; it ends and its list is given;
-// it ends.
+// How a record changes the walk. Same: not at all. Moves: to another place. Keeps: to another place, with one more
+// entry. Gives: it ends, and its list is returned. Clears: it ends.
 pub enum Touch {
     Same,
     Moves,
@@ -172,14 +175,14 @@ pub enum Touch {
     Clears,
 }
 
-// The same with the place that the walk moves to, and the entry that is kept.
+// The same, with the place that the walk moves to and the entry to keep.
 pub struct Change {
     pub touch: Touch,
     pub place: Place,
     pub entry: Entry,
 }
 
-// A record, decided without the list. The id is the one that the answer speaks of.
+// A record, decided without the list. The id is the id or prefix that belongs to the answer.
 pub struct Verdict {
     pub says: Says,
     pub front: Front,
@@ -224,7 +227,7 @@ pub fn number(r: Refusal) -> u8
     }
 }
 
-// Whether the refusal of this number changes no state.
+// Whether the refusal of this number leaves the state unchanged.
 pub fn changes_no_state(number: u8) -> bool
     ensures { λ r. ⌜ r ≡ changesNoState number ⌝ }
 {
@@ -251,7 +254,7 @@ pub fn running(turn: Turn) -> bool
     }
 }
 
-// An image of n bytes is not as long as the one that a flash was started with.
+// Whether an image of n bytes has another length than the one that a flash was started with.
 fn differs(why: Purpose, n: usize) -> bool
     ensures { λ r. ⌜ r ≡ differs why n ⌝ }
 {
@@ -262,6 +265,7 @@ fn differs(why: Purpose, n: usize) -> bool
     }
 }
 
+// The same for a job. Only the jobs of a flash have an image.
 fn other_for(job: Job, n: usize) -> bool
     ensures { λ r. ⌜ r ≡ otherFor job n ⌝ }
 {
@@ -274,7 +278,7 @@ fn other_for(job: Job, n: usize) -> bool
     }
 }
 
-// An image of n bytes is not the one that runs: that concerns a flash alone.
+// The same for any phase: false where no flash runs.
 pub fn other_image(phase: Phase, n: usize) -> bool
     ensures { λ r. ⌜ r ≡ otherImage phase n ⌝ }
 {
@@ -285,7 +289,7 @@ pub fn other_image(phase: Phase, n: usize) -> bool
     }
 }
 
-// A client of a front and a walk.
+// The client of a front and a walk.
 pub fn client_of(f: Front, walk: Walk) -> Client
     ensures { λ r. ⌜ r ≡ clientOf f walk ⌝ }
 {
@@ -303,7 +307,7 @@ pub fn client_of(f: Front, walk: Walk) -> Client
     }
 }
 
-// A change of no place and no entry.
+// A change without a place or an entry: both are zero.
 fn still(touch: Touch) -> Change
     ensures { λ r. ⌜ r ≡ still touch ⌝ }
 {
@@ -368,7 +372,7 @@ impl Client {
 }
 
 impl Front {
-    // In a phase of an operation, or in none.
+    // The front with another turn, prefix and bit count.
     pub fn begun(self, turn: Turn, prefix: Id, bits: u8) -> Front
         ensures { λ r. ⌜ ((w : Walk) → clientOf r w ≡ begun (clientOf self w) turn prefix bits w) ⌝ }
     {
@@ -383,14 +387,14 @@ impl Front {
         }
     }
 
-    // No operation: what belongs to an ended one is zero.
+    // No operation runs: the prefix and the bit count are zero.
     pub fn idle(self) -> Front
         ensures { λ r. ⌜ ((w : Walk) → clientOf r noWalk ≡ idle (clientOf self w)) ⌝ }
     {
         self.begun(Turn::Idle, Id::none(), 0)
     }
 
-    // In another turn of the same operation.
+    // The same operation in another turn.
     pub fn turned(self, turn: Turn) -> Front
         ensures { λ r. ⌜ ((w : Walk) → clientOf r w ≡ turned (clientOf self w) turn) ⌝ }
     {
@@ -415,6 +419,7 @@ impl Front {
         self.holding(false, Id::none())
     }
 
+    // A start or a request is refused, and no state changes.
     pub fn refuse(self, r: Refusal) -> Opening
         ensures { λ s. ⌜ ((w : Walk) → startedOf s w ≡ refuse (clientOf self w) r) ⌝ }
     {
@@ -427,7 +432,7 @@ impl Front {
         }
     }
 
-    // Refused with no state changed: the rest is the whole record.
+    // A record is refused, and no state changes. The unread rest is the whole record.
     pub fn refuses(self, r: Refusal) -> Verdict
         ensures { λ v. ⌜ ((w : Walk) → toldOf v w ≡ refuses (clientOf self w) r) ⌝ }
     {
@@ -443,7 +448,7 @@ impl Front {
         }
     }
 
-    // The operation has ended, and its walk.
+    // The operation has ended, and its walk with it.
     fn ends(self, says: Says, id: Id, touch: Touch, at: usize) -> Verdict
         ensures { λ r. ⌜ ((w : Walk) → changed (still touch) w ≡ noWalk
             → toldOf r w ≡ over (clientOf self w) says id (given (still touch) w) at) ⌝ }
@@ -460,7 +465,7 @@ impl Front {
         }
     }
 
-    // The operation has ended; its list is given or not.
+    // The operation has ended. If gives is set, its list is returned.
     pub fn over(self, says: Says, id: Id, gives: bool, at: usize) -> Verdict
         ensures { λ r. ⌜ ((w : Walk) → toldOf r w
             ≡ over (clientOf self w) says id (cond gives (giving (w .found)) noTable) at) ⌝ }
@@ -471,14 +476,14 @@ impl Front {
         self.ends(says, id, Touch::Clears, at)
     }
 
-    // The operation has ended, and nothing stands beside the answer.
+    // The operation has ended, with no id and no list in the answer.
     pub fn stops(self, says: Says, at: usize) -> Verdict
         ensures { λ r. ⌜ ((w : Walk) → toldOf r w ≡ stops (clientOf self w) says at) ⌝ }
     {
         self.over(says, Id::none(), false, at)
     }
 
-    // The operation goes on, and no list is given.
+    // The operation goes on with another request, and its walk changes. No list is returned.
     pub fn onward(self, phase: Phase, change: Change, at: usize) -> Verdict
         ensures { λ r. ⌜ ((w : Walk) → given change w ≡ noTable
             → toldOf r w ≡ onward (clientOf self w) phase (changed change w) at) ⌝ }
@@ -495,7 +500,7 @@ impl Front {
         }
     }
 
-    // The operation goes on, and its walk stays.
+    // The operation goes on with another request, and its walk stays.
     pub fn stays(self, phase: Phase, at: usize) -> Verdict
         ensures { λ r. ⌜ ((w : Walk) → toldOf r w ≡ onward (clientOf self w) phase w at) ⌝ }
     {
@@ -504,7 +509,7 @@ impl Front {
 }
 
 impl Verdict {
-    // With progress made.
+    // The same verdict with this progress.
     pub fn making(self, progress: Progress) -> Verdict
         ensures { λ r. ⌜ ((w : Walk) → toldOf r w ≡ making (toldOf self w) progress) ⌝ }
     {
@@ -535,7 +540,7 @@ impl Opening {
         w
     }
 
-    // The answer by value, of a client with this walk.
+    // The answer by value, for a client with this walk.
     pub fn started(self, w: Walk) -> Started
         ensures { λ r. ⌜ r ≡ startedOf self w ⌝ }
     {

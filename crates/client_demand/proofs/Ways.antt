@@ -1,4 +1,4 @@
--- The ways through the writers of requests, from the facts that the code has.
+-- A lemma for each way through the writers of requests, with the facts known there as its premises.
 use Prim.Native.Nat.{ℕ, _+_, _-_, _/_, _%_, _^_, _<_, _≤_}
 use mathlib.Core.Bool.{Bool, true, false, cond}
 use mathlib.Core.List.{List, [], _∷_, _++_}
@@ -30,7 +30,7 @@ use Rattle.client.specs.declared.Job.{Job}
 use Rattle.client.specs.declared.Job.the-variants.{Informing, Erasing, Writing, Verifying, Resetting}
 use Rattle.client_demand.specs.Demands.{headFor, flagsOf, resetOf, demandOf}
 
--- A frame has four bytes of its address.
+-- A frame has only the low four bytes of an address.
 placed-cut : (h : Head) (address : ℕ) (load buf : List ℕ) → h .address ≡ address % 2 ^ 32
     → placed (frameBytes (frameOf h load)) buf
     ≡ placed (frameBytes (record {
@@ -43,7 +43,7 @@ placed-cut : (h : Head) (address : ℕ) (load buf : List ℕ) → h .address ≡
 unfolding frameBytes frameBody frameHead
 placed-cut h address load buf e = rw (e, le-cut 4 address)
 
--- How many bytes a Write lacks, and whether it is the last.
+-- How many bytes of padding a Write has, and whether it is the last.
 module _ (n o k : ℕ) where
   pub held-within : (held : ℕ) → held ≡ imageBytes n o k → held ≤ k
   unfolding imageBytes
@@ -68,7 +68,7 @@ module _ (n o k : ℕ) where
       go (yes l) = le-leb (n - o) k (omega arith) ∙ sym (le-leb n (o + k) l)
       go (no l) = lt-leb (n - o) k (omega arith) ∙ sym (lt-leb n (o + k) (omega arith))
 
--- The bytes of a Write fit a frame.
+-- A Write's bytes and padding fit in a frame.
 pub write-fits : (info : Info) (o : ℕ) (image : List ℕ) (k held : ℕ) (bytes : List ℕ)
     → k ≡ writeSize info (length image) o → held ≡ imageBytes (length image) o k → bytes ≡ part o k image
     → length bytes + (k - held) ≤ 1024
@@ -164,7 +164,7 @@ sent-reset r h buf after reset flags address ef ea eh e =
     go true = refl
     go false = refl
 
--- The request of a job.
+-- The writer of each job.
 module _ (j : Job) (image buf : List ℕ) (o : Placing) where
   pub demand-info : (why : Purpose) → j ≡ Informing why → o ≡ placed (frameBytes (demandFrame infoRequest [])) buf
       → o ≡ placed (frameBytes (demandFrame (demandOf j (length image)) image)) buf

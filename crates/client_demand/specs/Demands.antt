@@ -1,4 +1,4 @@
--- The paper's request of each job.
+-- Document 01's request for each job.
 use Prim.Native.Nat.{ℕ}
 use mathlib.Core.Bool.{cond}
 use mathlib.Core.Option.{Option, none, some}
@@ -13,7 +13,7 @@ use Rattle.client.specs.Clients.{onJob}
 abbrev pub headFor : ℕ → ℕ → ℕ → Head
 headFor command flags address = record { command = command; status = 0; flags = flags; address = address }
 
--- The baud that a reset stores, if it stores one.
+-- The baud that a reset stores, if one is given.
 abbrev pub baudOf : Reset → Option ℕ
 baudOf reset = cond (reset .given) (some (reset .baud)) none
 
@@ -23,7 +23,7 @@ flagsOf reset = resetFlags (reset .bootloader) (baudOf reset)
 abbrev pub resetOf : Reset → Demand
 resetOf reset = resetRequest (reset .bootloader) (baudOf reset)
 
--- The request of a job, with an image of n bytes lent.
+-- The request of a job, when an image of n bytes is lent.
 unfoldable pub demandOf : Job → ℕ → Demand
 demandOf j n =
     onJob j

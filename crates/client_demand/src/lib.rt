@@ -1,4 +1,4 @@
-// The requests with one answer, and the Reset: the frame of each, written to the front of the buffer.
+// Writes each request with one answer, and the Reset, as a frame at the front of the buffer.
 use client::Job;
 use client::Reset;
 use frame::Head;
@@ -15,7 +15,7 @@ ghost use Rattle.image.specs.Images.{paperInfo};
 ghost use Rattle.frame.specs.Writing.{placed};
 ghost use Rattle.client_demand.specs.Demands.{headFor, flagsOf, resetOf, demandOf};
 
-// The first fields of a request.
+// The head of a request's frame.
 fn head(command: u8, flags: u8, address: u32) -> Head
     ensures { λ r. ⌜ r ≡ headFor command flags address ⌝ }
 {
@@ -45,7 +45,7 @@ pub fn write_erase(info: Info, address: u32, buf: &mut [u8]) -> Placed
     frame::place_frame(head(wire::ERASE, 0, address), &size, 0, buf)
 }
 
-// The image from the offset to the chunk's end, then FF; FLUSH on the last.
+// The payload is the image from the offset to the chunk's end, then FF. FLUSH is on the last Write.
 pub fn write_write(info: Info, offset: u64, image: &[u8], buf: &mut [u8]) -> Placed
     ensures { λ r. ⌜ record { answer = r; bytes = now (buf .exit) }
         ≡ placed (frameBytes (demandFrame (writeRequest (paperInfo info) (length (now (image .entry))) offset)
@@ -78,14 +78,14 @@ pub fn write_verify(n: usize, buf: &mut [u8]) -> Placed
     )
 }
 
-// BOOTLOADER and BAUD, each if it is wanted.
+// BOOTLOADER for a reset into the bootloader, BAUD if a baud is given.
 fn reset_flags(reset: Reset) -> u8
     ensures { λ r. ⌜ r ≡ flagsOf reset ⌝ }
 {
     wire::flag(reset.bootloader, wire::BOOTLOADER) + wire::flag(reset.given, wire::BAUD)
 }
 
-// The baud to store, or 0.
+// A Reset's address: the baud to store, or 0.
 fn address_of(reset: Reset) -> u32
     ensures { λ r. ⌜ r ≡ cond (reset .given) (reset .baud) 0 ⌝ }
 {
@@ -109,7 +109,7 @@ pub fn write_reset(reset: Reset, buf: &mut [u8]) -> Placed
     )
 }
 
-// The request of a job, with the image lent.
+// Writes the request of a job, with the image lent.
 pub fn write_demand(job: Job, image: &[u8], buf: &mut [u8]) -> Placed
     ensures { λ r. ⌜ record { answer = r; bytes = now (buf .exit) }
         ≡ placed (frameBytes (demandFrame (demandOf job (length (now (image .entry)))) (now (image .entry))))

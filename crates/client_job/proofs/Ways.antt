@@ -1,4 +1,4 @@
--- The ways through what a job makes of its answer, from the facts that the code has.
+-- A lemma for each way through the handling of a reply, with the facts known there as its premises.
 use Prim.Native.Nat.{ℕ, _+_, _*_, _^_, _<_, _≤_}
 use mathlib.Core.Bool.{Bool, true, false}
 use mathlib.Core.List.{List, [], _∷_}
@@ -201,7 +201,7 @@ module _ (j : Job) (payload image : List ℕ) (r : Next) where
   accepted-resetting reset h e = rw h e
 
 module _ (s : ℕ) (r : Next) where
-  -- Every job but a Write.
+  -- Every job except a Write.
   pub declined-other : (j : Job) → OneOf (0 ∷ 1 ∷ 3 ∷ 4 ∷ []) (tagOf the-type j) → r ≡ refusing (Refusal.Device s)
       → r ≡ declined j s
   unfolding declined

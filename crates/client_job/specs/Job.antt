@@ -1,4 +1,4 @@
--- What each job makes of the one answer to its request.
+-- What an operation does after the reply to a request with one answer.
 use Prim.Native.Nat.{ℕ, suc, _+_}
 use mathlib.Core.Bool.{cond}
 use mathlib.Core.List.{List}
@@ -28,7 +28,7 @@ use Rattle.client_job.specs.declared.Then.{Then}
 use Rattle.client_job.specs.declared.Then.the-variants.{On, Over, Refused}
 use Rattle.client_job.specs.declared.Next.{Next}
 
--- The cases.
+-- A value for each case.
 abbrev pub onInformed {ℓ} : {A : Type ℓ} → Informed → (Info → A) → A → A
 onInformed (Sound info) f g = f info
 onInformed BadInfo f g = g
@@ -42,37 +42,42 @@ onThen (On job) f g h = f job
 onThen (Over o) f g h = g o
 onThen (Refused r) f g h = h r
 
+-- No progress was made.
 abbrev pub quietly : Then → Next
 quietly t = record { progress = None; then = t }
 
 abbrev pub refusing : Refusal → Next
 refusing r = quietly (Refused r)
 
--- "19".
+-- The first Erase, unless 19: "capacity rounded up to erase_size is above 2^32 - 1".
 unfoldable pub erases : Purpose → Info → Then
 erases why info = cond (spansTooFar (paperInfo info)) (Refused Refusal.SpansTooFar) (On (Erasing why info 0))
 
--- "3 ..; 6 ..".
+-- "3 if the image exceeds capacity .. 6 if compat is set and the image's key is missing or different".
 unfoldable pub judged : ℕ → Info → List ℕ → Then
 judged n info image =
     cond (tooLarge (paperInfo info) n) (Refused (Refusal.FirmwareTooLarge (reported n) (info .capacity)))
     (cond (incompatible (paperInfo info) image) (Refused (Refusal.Incompatible (info .compat) (shownKey (key image))))
     (erases (Load n) info))
 
+-- What is next after a sound Info, by what the Info was for.
 unfoldable pub prepared : Purpose → Info → List ℕ → Then
 prepared why info image = onPurpose why (Over (Knows info)) (erases Clear info) (λ n. judged n info image)
 
+-- The reply to an Info.
 unfoldable pub informed : Purpose → List ℕ → List ℕ → Then
 informed why payload image = onInformed (shownInfo (Paper.informed payload)) (λ info. prepared why info image)
     (Refused Refusal.BadInfo)
 
--- "M empty image: no Write".
+-- The first Write. "M empty image: no Write, Verify at 0."
 unfoldable pub writes : ℕ → Info → Then
 writes n info = cond (eqb n 0) (On (Verifying n info)) (On (Writing n info 0 0))
 
+-- After the last Erase an erase has ended, and a flash goes on with its Writes.
 unfoldable pub cleared : Purpose → Info → Then
 cleared why info = onPurpose why (Over (Knows info)) (Over (Knows info)) (λ n. writes n info)
 
+-- The reply to an Erase: the next Erase, or what follows the last one.
 unfoldable pub erased : Purpose → Info → ℕ → Next
 erased why info address =
     onErase (eraseAfter (paperInfo info) address)
@@ -83,6 +88,7 @@ erased why info address =
     })
     (record { progress = Made (eraseProgress (paperInfo info) address) (info .capacity); then = cleared why info })
 
+-- The reply to a Write: the next Write, or Verify after the last one.
 unfoldable pub wrote : Info → ℕ → List ℕ → Next
 wrote info offset image = record {
   progress = Made (chunksTo (paperInfo info) offset) (chunks (paperInfo info) (length image));
@@ -96,13 +102,14 @@ unfoldable pub repeated : ℕ → Info → ℕ → ℕ → Then
 repeated n info offset retries =
     cond (ltb retries 16) (On (Writing n info offset (suc retries))) (Refused Refusal.RetriesSpent)
 
+-- The reply to a Verify: "its reply's first two bytes are the check, else 4; under two bytes is 18."
 unfoldable pub verified : Info → List ℕ → List ℕ → Then
 verified info payload image =
     cond (ltb (length payload) 2) (Refused Refusal.ShortVerify)
     (cond (eqb (check image) (field 0 2 payload)) (Over (Knows info))
     (Refused (Refusal.CrcMismatch (check image) (field 0 2 payload))))
 
--- "Ok" with a payload.
+-- A reply of status "Ok", with its payload.
 unfoldable pub accepted : Job → List ℕ → List ℕ → Next
 accepted j payload image =
     onJob j

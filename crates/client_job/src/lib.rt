@@ -1,4 +1,4 @@
-// What a job makes of the one answer to its request.
+// What an operation does after the reply to a request with one answer.
 use client::Job;
 use client::Outcome;
 use client::Progress;
@@ -11,19 +11,20 @@ ghost use mathlib.Core.Path.{_≡_};
 ghost use Rattle.client_job.specs.Job.{quietly, refusing, erases, judged, prepared, informed, writes, cleared};
 ghost use Rattle.client_job.specs.Job.{erased, wrote, repeated, verified, accepted, declined};
 
-// The operation goes on with another job, has ended, or is refused.
+// What is next: another job, the end of the operation, or a refusal.
 pub enum Then {
     On(Job),
     Over(Outcome),
     Refused(Refusal),
 }
 
+// The progress made, and what is next.
 pub struct Next {
     pub progress: Progress,
     pub then: Then,
 }
 
-// With no progress to report.
+// No progress was made.
 fn quietly(then: Then) -> Next
     ensures { λ r. ⌜ r ≡ quietly then ⌝ }
 {
@@ -39,7 +40,7 @@ fn refusing(r: Refusal) -> Next
     quietly(Then::Refused(r))
 }
 
-// The first Erase, if every address has 32 bits.
+// The first Erase, if the capacity rounded up to the erase size fits in 32 bits.
 fn erases(why: Purpose, info: Info) -> Then
     ensures { λ r. ⌜ r ≡ erases why info ⌝ }
 {
@@ -49,7 +50,7 @@ fn erases(why: Purpose, info: Info) -> Then
     Then::On(Job::Erasing(why, info, 0))
 }
 
-// The device holds the image, and takes it.
+// Checks that the image fits in the device and is compatible, before the first Erase.
 fn judged(n: usize, info: Info, image: &[u8]) -> Then
     ensures { λ r. ⌜ r ≡ judged n info (now (image .entry)) ⌝ }
 {
@@ -63,6 +64,7 @@ fn judged(n: usize, info: Info, image: &[u8]) -> Then
     erases(Purpose::Load(n), info)
 }
 
+// What is next after a sound Info, by what the Info was for.
 fn prepared(why: Purpose, info: Info, image: &[u8]) -> Then
     ensures { λ r. ⌜ r ≡ prepared why info (now (image .entry)) ⌝ }
 {
@@ -73,7 +75,7 @@ fn prepared(why: Purpose, info: Info, image: &[u8]) -> Then
     }
 }
 
-// Info's answer.
+// The reply to an Info.
 fn informed(why: Purpose, payload: &[u8], image: &[u8]) -> Then
     ensures { λ r. ⌜ r ≡ informed why (now (payload .entry)) (now (image .entry)) ⌝ }
 {
@@ -84,7 +86,7 @@ fn informed(why: Purpose, payload: &[u8], image: &[u8]) -> Then
     }
 }
 
-// The first Write; of no image, Verify.
+// The first Write. An empty image has none, and Verify is next.
 fn writes(n: usize, info: Info) -> Then
     ensures { λ r. ⌜ r ≡ writes n info ⌝ }
 {
@@ -94,7 +96,7 @@ fn writes(n: usize, info: Info) -> Then
     Then::On(Job::Writing(n, info, 0, 0))
 }
 
-// After the last Erase.
+// After the last Erase an erase has ended, and a flash goes on with its Writes.
 fn cleared(why: Purpose, info: Info) -> Then
     ensures { λ r. ⌜ r ≡ cleared why info ⌝ }
 {
@@ -105,7 +107,7 @@ fn cleared(why: Purpose, info: Info) -> Then
     }
 }
 
-// An Erase's answer: the next one, or what follows the last.
+// The reply to an Erase: the next Erase, or what follows the last one.
 fn erased(why: Purpose, info: Info, address: u32) -> Next
     ensures { λ r. ⌜ r ≡ erased why info address ⌝ }
 {
@@ -126,7 +128,7 @@ fn erased(why: Purpose, info: Info, address: u32) -> Next
     }
 }
 
-// A Write's answer: the next one, or Verify after the last.
+// The reply to a Write: the next Write, or Verify after the last one.
 fn wrote(info: Info, offset: u64, image: &[u8]) -> Next
     ensures { λ r. ⌜ r ≡ wrote info offset (now (image .entry)) ⌝ }
 {
@@ -148,7 +150,7 @@ fn wrote(info: Info, offset: u64, image: &[u8]) -> Next
     }
 }
 
-// A Write answered with status 3 is repeated, at most so many times.
+// How many times a Write answered with status 3 is repeated.
 const RETRIES: u8 = 16;
 
 fn repeated(n: usize, info: Info, offset: u64, retries: u8) -> Then
@@ -160,7 +162,7 @@ fn repeated(n: usize, info: Info, offset: u64, retries: u8) -> Then
     Then::Refused(Refusal::RetriesSpent)
 }
 
-// Verify's answer: the device's check beside that of the image lent now.
+// The reply to a Verify: the device's check must be that of the image lent with this call.
 fn verified(info: Info, payload: &[u8], image: &[u8]) -> Then
     ensures { λ r. ⌜ r ≡ verified info (now (payload .entry)) (now (image .entry)) ⌝ }
 {
@@ -175,7 +177,7 @@ fn verified(info: Info, payload: &[u8], image: &[u8]) -> Then
     Then::Refused(Refusal::CrcMismatch(expected, actual))
 }
 
-// An answer of status Ok, with its payload.
+// A reply of status Ok, with its payload.
 pub fn accepted(job: Job, payload: &[u8], image: &[u8]) -> Next
     ensures { λ r. ⌜ r ≡ accepted job (now (payload .entry)) (now (image .entry)) ⌝ }
 {
@@ -188,7 +190,7 @@ pub fn accepted(job: Job, payload: &[u8], image: &[u8]) -> Next
     }
 }
 
-// An answer of another status, or one with a bad check, which counts as status 3.
+// A reply of another status, or with a bad check, which counts as status 3.
 pub fn declined(job: Job, status: u8) -> Next
     ensures { λ r. ⌜ r ≡ declined job status ⌝ }
 {

@@ -1,5 +1,6 @@
--- The ways through what a record makes of the client, from the facts that the code has. A callee's result that only
--- facts on every walk speak of is named to the search by its range.
+-- A lemma for each way through the handling of a record, with the facts known there as its premises.
+-- Some premises are only there for the search. A callee's result that appears only in facts over every walk is found by
+-- its range.
 use Prim.Native.Nat.{ℕ, _<_}
 use mathlib.Core.Bool.{Bool, true, false, cond}
 use mathlib.Core.List.{List}
@@ -20,6 +21,7 @@ use Rattle.walk.specs.declared.Walk.{Walk}
 use Rattle.walk.specs.declared.Place.{Place}
 use Rattle.walk.specs.declared.Phase as Walk
 use Rattle.walk.specs.Moves.{walkOf, placeOf, noWalk}
+use Rattle.hearing.specs.Heard.{isLong}
 use Rattle.walk_step.specs.declared.End.{End}
 use Rattle.walk_step.specs.declared.Way.the-variants.{On, Keeps, Done, Stopped}
 use Rattle.walk_step.specs.declared.Move.{Move}
@@ -48,10 +50,11 @@ use Rattle.client_record.specs.declared.After.{After}
 use Rattle.client_record.specs.Record.{attaches, met, backed, stopOf, walked, probed, hears, answeredTo, record′}
 use Rattle.client_record.specs.Record.{linkFailed}
 
--- What a verdict says of a client with any walk, and with any list of so many at a place.
+-- The verdict r gives the answer a, for a client with any walk.
 abbrev Tells : Verdict → (Walk → Told) → Type 0
 Tells r a = (w : Walk) → toldOf r w ≡ a w
 
+-- The same for a walk at place p with any list of n ids.
 abbrev TellsAt : Verdict → Place → ℕ → (Walk → Told) → Type 0
 TellsAt r p n a = (t : Table) → t .count ≡ n → toldOf r (walkOf p t) ≡ a (walkOf p t)
 
@@ -73,7 +76,7 @@ module _ (f g : Front) (l : g .seed < 256) (at : ℕ) (r : Verdict) where
     unfolding backed
     backed-none h e w = rw h (e w ∙ rw (eg w))
 
--- A known case: what the code does there is what the definition says of it.
+-- Where the case is known, it is enough to prove the definition at that case.
 module _ (f : Front) (b : Bool) (h : Heard) (x : Id) (at : ℕ) (r : Verdict) where
   pub met-at : (k : Heard) → h ≡ k → Tells r (λ w. met (clientOf f w) b k x at)
       → Tells r (λ w. met (clientOf f w) b h x at)
@@ -88,7 +91,7 @@ module _ (f : Front) (b : Bool) (h : Heard) (x : Id) (at : ℕ) (r : Verdict) wh
   unfolding met
   met-unaddressed n e g en q w = rw (e, g) (rw en at q w)
 
--- What a discovery makes of a move that is joined with the list.
+-- The answer of a discovery to a move, once it is joined with the walk's list.
 abbrev joinedIn : Front → Move → ℕ → Walk → Told
 joinedIn f m at w = walked (clientOf f w) (joined m (w .found) .goes) (joined m (w .found) .walk) at
 
@@ -118,7 +121,7 @@ module _ (f : Front) (m : Move) (at : ℕ) (r : Verdict) where
   unfolding walked joined Steps.stopped
   walked-stopped end s e es q w = rw (e, ← es) (q w)
 
-module _ (f : Front) (h : Heard) (x : Id) (at : ℕ) (r : Verdict) (b : Bool) (eb : b ≡ Steps.long h) where
+module _ (f : Front) (h : Heard) (x : Id) (at : ℕ) (r : Verdict) (b : Bool) (eb : b ≡ isLong h) where
   pub probed-long : b ≡ true → Tells r (λ w. stops (clientOf f w) (Refused LongId) at)
       → Tells r (λ w. probed (clientOf f w) h x at)
   unfolding probed
@@ -136,7 +139,7 @@ pub hears-walking : (m : Move) (f : Front) (p : Place) (n : ℕ) (r : Verdict) (
 unfolding hears
 hears-walking m f p n r s h x at q e em k t c = rw (e, ← em t c) (k (walkOf p t))
 
--- A turn that is known.
+-- The choice by turn, where the turn is known.
 at-turn : {A : Type 0} (t k : Turn) (a : A) (f g : Phase → A) → t ≡ k → onTurn k a f g ≡ onTurn t a f g
 at-turn t k a f g e = rw e
 
@@ -186,6 +189,7 @@ module _ (f : Front) (p : Place) (n : ℕ) (r : Verdict) where
       decide-heard h q t c = cond-no (otherImage s (length image)) _ _ _ (sym eb ∙ h) (q t c)
           ∙ at-waiting (f .turn) _ _ _ s e
 
+-- The test for a request that is out, as a choice by turn.
 by-turn : (t : Turn) (b : Bool) → b ≡ onTurn t false (λ s. false) (λ s. true) → (y n : Told)
     → cond b y n ≡ onTurn t n (λ s. n) (λ s. y)
 by-turn Idle b e y n = rw e
@@ -202,7 +206,7 @@ module _ (f : Front) (r : Verdict) (b : Bool) (eb : b ≡ onTurn (f .turn) false
   unfolding linkFailed
   fails-not e q w = q w ∙ by-turn (f .turn) false (sym e ∙ eb) _ _
 
--- By value.
+-- The calls by value.
 pub keeps-in : (p : Place) (u t : Table) (x : Entry) (r : Walk) → u ≡ keeping t x → r ≡ walkOf p u
     → r ≡ walkOf p (keeping t x)
 keeps-in p u t x r e h = rw e at h

@@ -1,4 +1,4 @@
--- What the one answer makes of the client.
+-- Handling the record heard after a request with one answer.
 use Prim.Native.Nat.{ℕ}
 use mathlib.Core.List.{List}
 use lib.ListN.{length}
@@ -13,6 +13,7 @@ use Rattle.client.specs.Clients.{stops, onward, making}
 use Rattle.client_job.specs.declared.Next.{Next}
 use Rattle.client_job.specs.Job.{onThen, accepted, declined}
 
+-- The answer for what is next. The unread rest begins at the place given.
 unfoldable pub goes : Client → Next → ℕ → Told
 goes c next at =
     onThen (next .then)
@@ -20,12 +21,13 @@ goes c next at =
     (λ o. making (stops c (Says.Over o) at) (next .progress))
     (λ r. stops c (Says.Refused r) at)
 
+-- A value for each case.
 abbrev pub onAnswer {ℓ} : {A : Type ℓ} → Answer → A → (List ℕ → ℕ → A) → (ℕ → ℕ → A) → A
 onAnswer lost l o d = l
 onAnswer (answered (ok payload) end) l o d = o payload end
 onAnswer (answered (device status) end) l o d = d status end
 
--- "Short or too long, of any status: 1."
+-- The reply is handled by its job. "Short or too long, of any status: 1."
 unfoldable pub tells : Client → Job → List ℕ → List ℕ → Told
 tells c job image bytes =
     onAnswer (answer bytes)

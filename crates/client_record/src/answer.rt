@@ -1,5 +1,4 @@
-// What the record that answers a request with one answer makes of the client, decided on its front: the walk stays, or
-// ends.
+// Handling the record heard after a request with one answer, decided on the client's front. The walk stays, or ends.
 use client::Front;
 use client::Job;
 use client::Phase;
@@ -14,7 +13,7 @@ ghost use Rattle.walk.specs.declared.Walk.{Walk};
 ghost use Rattle.client.specs.Verdicts.{clientOf, toldOf};
 ghost use Rattle.client_record.specs.Answer.{goes, tells};
 
-// The job's next step, with the rest at a place.
+// The verdict for what is next. The unread rest begins at the place given.
 fn goes(f: Front, next: Next, at: usize) -> Verdict
     ensures { λ r. ⌜ ((w : Walk) → toldOf r w ≡ goes (clientOf f w) next at) ⌝ }
 {
@@ -27,7 +26,8 @@ fn goes(f: Front, next: Next, at: usize) -> Verdict
     }
 }
 
-// The first frame that is no echo answers; without one the link has failed.
+// The first frame that is not an echo is the reply. Without one, or after a frame that is short or too long, the
+// operation ends with 1.
 pub fn tells(f: Front, job: Job, image: &[u8], bytes: &[u8]) -> Verdict
     ensures { λ r. ⌜ ((w : Walk) → toldOf r w ≡ tells (clientOf f w) job (now (image .entry)) (now (bytes .entry))) ⌝ }
 {

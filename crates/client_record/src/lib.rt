@@ -1,6 +1,6 @@
-// Telling the client what was heard after its request, or that the link failed.
-// It is decided on the client's front, the walk's place and how many ids the list holds (`decide`, `fails`); by value
-// (`record`, `link_failed`) it is that, and the walk.
+// Handling the record heard after a request, or a failed link.
+// `decide` and `fails` need only the client's front, the walk's place and how many ids the list holds. `record` and
+// `link_failed` do the same for a client by value.
 pub mod answer;
 
 use client::Change;
@@ -35,7 +35,7 @@ ghost use Rattle.client.specs.Verdicts.{clientOf, changed, given, toldOf};
 ghost use Rattle.client_record.specs.Record.{attaches, stopOf, met, backed, walked, probed, hears, answeredTo};
 ghost use Rattle.client_record.specs.Record.{record′, linkFailed};
 
-// Attached to a pod, or to the one that has no id.
+// The attach has succeeded: with the pod's id, or without one if the pod has none.
 fn attaches(f: Front, any: bool, id: Id, at: usize) -> Verdict
     ensures { λ r. ⌜ ((w : Walk) → toldOf r w ≡ attaches (clientOf f w) any id at) ⌝ }
 {
@@ -43,7 +43,7 @@ fn attaches(f: Front, any: bool, id: Id, at: usize) -> Verdict
         .over(Says::Over(Outcome::Attached(any)), id, false, at)
 }
 
-// What a walk that ends before its time says.
+// What the answer says when a walk ends early.
 fn stop_of(end: End) -> Says
     ensures { λ r. ⌜ r ≡ stopOf end ⌝ }
 {
@@ -55,7 +55,7 @@ fn stop_of(end: End) -> Says
     }
 }
 
-// What an attach makes of what it heard.
+// Handles what an attach heard.
 fn met(f: Front, given: bool, h: Heard, id: Id, at: usize) -> Verdict
     ensures { λ r. ⌜ ((w : Walk) → toldOf r w ≡ met (clientOf f w) given h id at) ⌝ }
 {
@@ -79,7 +79,7 @@ fn met(f: Front, given: bool, h: Heard, id: Id, at: usize) -> Verdict
     }
 }
 
-// What an attach ends with once it has deselected.
+// The end of an attach that heard garble, after its deselect.
 fn backed(f: Front, given: bool, at: usize) -> Verdict
     ensures { λ r. ⌜ ((w : Walk) → toldOf r w ≡ backed (clientOf f w) given at) ⌝ }
 {
@@ -91,7 +91,7 @@ fn backed(f: Front, given: bool, at: usize) -> Verdict
     g.stops(Says::Refused(Refusal::SeveralDevices), at)
 }
 
-// What a discovery makes of the walk's next step.
+// The verdict for the walk's next step.
 fn walked(f: Front, m: Move, at: usize) -> Verdict
     ensures { λ r. ⌜ ((w : Walk) → toldOf r w
         ≡ walked (clientOf f w) (joined m (w .found) .goes) (joined m (w .found) .walk) at) ⌝ }
@@ -122,17 +122,17 @@ fn walked(f: Front, m: Move, at: usize) -> Verdict
     }
 }
 
-// What a plain select makes of what it heard.
+// Handles what a plain select heard.
 fn probed(f: Front, h: Heard, id: Id, at: usize) -> Verdict
     ensures { λ r. ⌜ ((w : Walk) → toldOf r w ≡ probed (clientOf f w) h id at) ⌝ }
 {
-    if hearing::long(h) {
+    if hearing::is_long(h) {
         return f.stops(Says::Refused(Refusal::LongId), at);
     }
     f.over(Says::Over(Outcome::Heard(h)), id, false, at)
 }
 
-// What a Select's record makes of the client.
+// Handles what a Select heard, by what it was for.
 fn hears(f: Front, p: Place, count: usize, search: Search, h: Heard, id: Id, at: usize) -> Verdict
     ensures { λ r. ⌜ ((t : Table) → t .count ≡ count
         → toldOf r (walkOf p t) ≡ hears (clientOf f (walkOf p t)) search h id at) ⌝ }
@@ -146,7 +146,7 @@ fn hears(f: Front, p: Place, count: usize, search: Search, h: Heard, id: Id, at:
     }
 }
 
-// What the record of a phase's request makes of the client. A request that is not awaited is never out.
+// Handles the record of a phase's request. A request that is not awaited is never out, so no calls lead to its case.
 fn answered(f: Front, p: Place, count: usize, phase: Phase, image: &[u8], bytes: &[u8]) -> Verdict
     ensures { λ r. ⌜ ((t : Table) → t .count ≡ count
         → toldOf r (walkOf p t) ≡ answeredTo (clientOf f (walkOf p t)) phase (now (image .entry)) (now (bytes .entry)))
@@ -164,8 +164,7 @@ fn answered(f: Front, p: Place, count: usize, phase: Phase, image: &[u8], bytes:
     }
 }
 
-// A record of what was heard after the request, with the image lent, decided on the front, the place and the list's
-// count.
+// Handles the record heard after the request, with the image lent. 21 is checked first, then 20, then the record.
 pub fn decide(f: Front, p: Place, count: usize, image: &[u8], bytes: &[u8]) -> Verdict
     ensures { λ r. ⌜ ((t : Table) → t .count ≡ count
         → toldOf r (walkOf p t) ≡ record′ (clientOf f (walkOf p t)) (now (image .entry)) (now (bytes .entry))) ⌝ }
@@ -194,7 +193,7 @@ fn awaits(turn: Turn) -> bool
     }
 }
 
-// The link failed after the request, decided on the front.
+// The link failed after the request.
 pub fn fails(f: Front) -> Verdict
     ensures { λ r. ⌜ ((w : Walk) → toldOf r w ≡ linkFailed (clientOf f w)) ⌝ }
 {
@@ -205,7 +204,7 @@ pub fn fails(f: Front) -> Verdict
     f.refuses(Refusal::OutOfTurn)
 }
 
-// What becomes of a walk: it after a change, and the list that is given.
+// The walk after a change, and the list that is returned.
 struct After {
     walk: Walk,
     found: Table,
@@ -247,7 +246,7 @@ fn walk_after(change: Change, w: Walk) -> After
     }
 }
 
-// The answer by value, of a client with this walk.
+// The answer by value, for a client with this walk.
 fn told(v: Verdict, w: Walk) -> Told
     ensures { λ r. ⌜ r ≡ toldOf v w ⌝ }
 {
@@ -269,7 +268,7 @@ fn told(v: Verdict, w: Walk) -> Told
     }
 }
 
-// A record of what was heard after the request, by value.
+// Handles the record heard after the request, for a client by value.
 pub fn record(c: Client, image: &[u8], bytes: &[u8]) -> Told
     ensures { λ r. ⌜ r ≡ record′ c (now (image .entry)) (now (bytes .entry)) ⌝ }
 {
@@ -278,7 +277,7 @@ pub fn record(c: Client, image: &[u8], bytes: &[u8]) -> Told
     told(decide(c.front(), w.place(), t.count, image, bytes), w)
 }
 
-// The link failed after the request, by value.
+// The link failed after the request, for a client by value.
 pub fn link_failed(c: Client) -> Told
     ensures { λ r. ⌜ r ≡ linkFailed c ⌝ }
 {
@@ -286,7 +285,7 @@ pub fn link_failed(c: Client) -> Told
     told(fails(c.front()), w)
 }
 
-// The unread rest of the lent record; empty if the place is past the end.
+// The unread rest of the lent record, from a place on. It is empty if the place is past the end.
 pub fn rest(bytes: &[u8], at: usize) -> &[u8]
     ensures { λ r. ⌜ now r ≡ rest (now (bytes .entry)) at ⌝ }
 {

@@ -1,4 +1,4 @@
--- The ways through asking for a request, from the facts that the code has.
+-- A lemma for each way through the functions for a request, with the facts known there as its premises.
 use Prim.Native.Nat.{ℕ, _*_, _%_}
 use mathlib.Core.Bool.{Bool, true, false, cond}
 use mathlib.Core.List.{List, _++_}
@@ -39,11 +39,11 @@ use Rattle.client.proofs.Ways.{at-idle, at-ready, at-waiting}
 use Rattle.client_request.specs.Request.{asks, nextSeed, seeded, searchFrame, frameOf, handing, handed, granted}
 use Rattle.client_request.specs.Request.{Asking, withheld, granting, askedFor, request}
 
--- The client of a front and of a place with a list.
+-- The client of a front, with a walk of a place and a list.
 abbrev here : Front → Place → Table → Client
 here f p t = clientOf f (walkOf p t)
 
--- Asking.
+-- The bits that a Select asks for.
 module _ (f : Front) (p : Place) (s : Search) where
   pub asks-as : (r : Ask) (q : Search) → s ≡ q → ((t : Table) → r ≡ asks (here f p t) q) → (t : Table)
       → r ≡ asks (here f p t) s
@@ -54,7 +54,7 @@ module _ (f : Front) (p : Place) (s : Search) where
   unfolding asks
   asks-seeking given n e en t = rw (e, en)
 
--- Handing out.
+-- A request that is handed out.
 module _ (f g : Front) (p : Phase) (n : ℕ) (x : Id) where
   pub handed-select : (s : Search) (seed : ℕ) → p ≡ Select s
       → ((w : Walk) → clientOf g w ≡ turned (clientOf f w) (Waiting p)) → seed ≡ nextSeed (f .seed) → (w : Walk)
@@ -84,7 +84,7 @@ pub granted-as : (f : Front) (p : Phase) (r : Opening) (v q : Placed) → v ≡ 
     → startedOf r w ≡ granted (clientOf f w) p v
 granted-as f p r v q e h w = rw e (h w)
 
--- Writing.
+-- The request that is written.
 module _ (f : Front) (p : Place) (w : Placed) (buffer after : List ℕ) where
   pub search-written : (s : Search) (a : Ask) (seed : ℕ) → ((t : Table) → a ≡ asks (here f p t) s)
       → seed ≡ nextSeed (f .seed)
@@ -99,7 +99,7 @@ module _ (f : Front) (p : Place) (w : Placed) (buffer after : List ℕ) where
       → (t : Table) → record { answer = w; bytes = after } ≡ placed (frameBytes (frameOf (here f p t) ph image)) buffer
   request-as image ph q e h t = rw e (h t)
 
--- What a writer placed, as what asking answers.
+-- A writer's result, turned into the answer of the call.
 placing : (c : Client) (p : Phase) (bytes buffer : List ℕ)
     → record { answer = granted c p (placed bytes buffer .answer); bytes = placed bytes buffer .bytes }
     ≡ granting c p bytes buffer
@@ -127,7 +127,7 @@ placing c p bytes buffer = go (ltb (length buffer) (length bytes))
     go true = refl
     go false = refl
 
--- The first premise shows the search what was placed.
+-- The first premise is only there for the search: it names the writer's result.
 pub asked-made : (f : Front) (p : Place) (r : Opening) (ph : Phase) (v : Placed) (image buffer after : List ℕ)
     → startedOf r noWalk ≡ granted (clientOf f noWalk) ph v
     → ((t : Table) → record { answer = v; bytes = after } ≡ placed (frameBytes (frameOf (here f p t) ph image)) buffer)
@@ -166,7 +166,7 @@ module _ (f : Front) (p : Place) (r : Opening) (image buffer : List ℕ) where
     unfolding request
     ask-made after k h t = cond-no _ _ _ _ (sym eb ∙ k) (h t) ∙ at-ready (f .turn) _ _ _ ph e
 
--- By value: what is decided on the client's front and its walk's place, with the walk.
+-- By value: the call is the one decided on the client's front and its walk's place.
 pub request-is : (c : Client) (f : Front) (p : Place) (o : Opening) (r : Started) (image buffer after : List ℕ)
     → f ≡ frontOf c → p ≡ placeOf (c .walk)
     → ((t : Table) → record { answer = startedOf o (walkOf p t); bytes = after } ≡ request (here f p t) image buffer)

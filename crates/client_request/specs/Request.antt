@@ -1,4 +1,4 @@
--- What asking for a request answers, leaves and writes.
+-- Asking for a request: the answer, the client after it, and the bytes written.
 use Prim.Native.Nat.{ℕ, _+_, _*_, _%_}
 use mathlib.Core.Bool.{cond}
 use mathlib.Core.List.{List, [], _++_}
@@ -27,6 +27,7 @@ use Rattle.client.specs.declared.Says.the-variants.{Granted, Closing}
 use Rattle.client.specs.declared.Started.{Started}
 use Rattle.client.specs.Clients.{onTurn, onPhase, onSearch, otherImage, idle, turned, refuse}
 
+-- The bits that a Select asks for.
 unfoldable pub asks : Client → Search → Ask
 asks c s =
     onSearch s
@@ -39,7 +40,7 @@ asks c s =
 abbrev pub nextSeed : ℕ → ℕ
 nextSeed seed = (seed + 1) % 256
 
--- With another seed.
+-- The client with another seed.
 abbrev pub seeded : Client → ℕ → Client
 seeded c seed = record {
   seed = seed;
@@ -51,21 +52,22 @@ seeded c seed = record {
   walk = c .walk;
 }
 
--- The request of a phase, as document 01's frame.
+-- The Select of a search, as document 01's frame.
 unfoldable pub searchFrame : Client → Search → Frame
 searchFrame c s = selectFrame (nextSeed (c .seed)) (asked (asks c s .bits) (asks c s .count % 256))
 
+-- The request of a phase, as document 01's frame.
 unfoldable pub frameOf : Client → Phase → List ℕ → Frame
 frameOf c p image =
     onPhase p (λ s. searchFrame c s) (λ j. demandFrame (demandOf j (length image)) image)
     (λ reset. demandFrame (resetOf reset) [])
 
--- "In boot the reply is awaited; otherwise the operation succeeds on handing out the request": what is said of one of n
--- bytes.
+-- What the answer says when a request of n bytes is handed out. "In boot the reply is awaited; otherwise the operation
+-- succeeds on handing out the request."
 unfoldable pub handing : Phase → ℕ → Says
 handing p n = onPhase p (λ s. Granted n) (λ j. Granted n) (λ reset. Closing n)
 
--- The client once its request is handed out.
+-- The client after its request is handed out.
 unfoldable pub handed : Client → Phase → Client
 handed c p =
     onPhase p
@@ -73,7 +75,7 @@ handed c p =
     (λ j. turned c (Waiting (Demand j)))
     (λ reset. idle c)
 
--- What a request written, or a buffer too short for it, makes of a client.
+-- The request is handed out if it was written. If the buffer was too short, it is refused.
 unfoldable pub granted : Client → Phase → Placed → Started
 granted c p w = onPlaced w (λ n. record { says = handing p n; client = handed c p }) (λ n. refuse c (ShortBuffer n))
 
@@ -97,9 +99,11 @@ granting c p bytes buffer =
           ++ drop (length bytes) buffer;
     })
 
+-- The request of a phase, when the image has the right length.
 unfoldable pub askedFor : Client → Phase → List ℕ → List ℕ → Asking
 askedFor c p image buffer = granting c p (frameBytes (frameOf c p image)) buffer
 
+-- The whole call. 21 is checked first, then 20, then 16.
 unfoldable pub request : Client → List ℕ → List ℕ → Asking
 request c image buffer =
     onTurn (c .turn)

@@ -1,5 +1,5 @@
-// Asking for the next request: its bits, its seed, and its bytes at the front of the buffer.
-// It is decided on the client's front and the walk's place (`ask`); by value (`request`) it is that, and the walk.
+// Asking for the next request, which is written to the front of the buffer.
+// `ask` decides it on the client's front and the walk's place. `request` does the same for a client by value.
 use client::Client;
 use client::Front;
 use client::Opening;
@@ -29,7 +29,7 @@ fn next_seed(seed: u8) -> u8
     std::num::wrapping_add_u8(seed, 1)
 }
 
-// The bits of a Select.
+// The bits that a Select asks for.
 fn asks(f: Front, p: Place, search: Search) -> Ask
     ensures { λ r. ⌜ ((t : Table) → r ≡ asks (clientOf f (walkOf p t)) search) ⌝ }
 {
@@ -50,8 +50,7 @@ fn asks(f: Front, p: Place, search: Search) -> Ask
     }
 }
 
-// The client once its request of n bytes is handed out. A Select's seed is the client's from then on. One whose answer
-// is not awaited ends the operation.
+// Hands out a request of n bytes. A Select's seed becomes the client's. A Reset that is not awaited ends the operation.
 fn handed(f: Front, phase: Phase, n: usize) -> Opening
     ensures { λ r. ⌜ ((w : Walk) → startedOf r w
         ≡ record { says = handing phase n; client = handed (clientOf f w) phase }) ⌝ }
@@ -89,7 +88,7 @@ fn handed(f: Front, phase: Phase, n: usize) -> Opening
     }
 }
 
-// What a request written, or a buffer too short for it, makes of the client.
+// The request is handed out if it was written. If the buffer was too short, it is refused.
 fn granted(f: Front, phase: Phase, placed: Placed) -> Opening
     ensures { λ r. ⌜ ((w : Walk) → startedOf r w ≡ granted (clientOf f w) phase placed) ⌝ }
 {
@@ -99,7 +98,7 @@ fn granted(f: Front, phase: Phase, placed: Placed) -> Opening
     }
 }
 
-// The Select of a search, with the next seed.
+// Writes the Select of a search, with the next seed.
 fn write_search(f: Front, p: Place, search: Search, buffer: &mut [u8]) -> Placed
     ensures { λ r. ⌜ ((t : Table) → record { answer = r; bytes = now (buffer .exit) }
         ≡ placed (frameBytes (searchFrame (clientOf f (walkOf p t)) search)) (now (buffer .entry))) ⌝ }
@@ -109,7 +108,7 @@ fn write_search(f: Front, p: Place, search: Search, buffer: &mut [u8]) -> Placed
     select::write_select(next_seed(f.seed), bits, (a.count % 256) as u8, buffer)
 }
 
-// The request of a phase.
+// Writes the request of a phase.
 fn write_request(f: Front, p: Place, phase: Phase, image: &[u8], buffer: &mut [u8]) -> Placed
     ensures { λ r. ⌜ ((t : Table) → record { answer = r; bytes = now (buffer .exit) }
         ≡ placed (frameBytes (frameOf (clientOf f (walkOf p t)) phase (now (image .entry)))) (now (buffer .entry))) ⌝ }
@@ -121,7 +120,7 @@ fn write_request(f: Front, p: Place, phase: Phase, image: &[u8], buffer: &mut [u
     }
 }
 
-// The request of a phase, handed out where the buffer holds it.
+// Writes the request of a phase, and hands it out if the buffer holds it.
 fn asked(f: Front, p: Place, phase: Phase, image: &[u8], buffer: &mut [u8]) -> Opening
     ensures { λ r. ⌜ ((t : Table) → record { answer = startedOf r (walkOf p t); bytes = now (buffer .exit) }
         ≡ askedFor (clientOf f (walkOf p t)) phase (now (image .entry)) (now (buffer .entry))) ⌝ }
@@ -130,7 +129,7 @@ fn asked(f: Front, p: Place, phase: Phase, image: &[u8], buffer: &mut [u8]) -> O
     granted(f, phase, placed)
 }
 
-// The next request, decided on the front and the place, with the image lent, written to the front of the buffer.
+// Asks for the next request, on the front and the walk's place. 21 is checked first, then 20, then 16.
 pub fn ask(f: Front, p: Place, image: &[u8], buffer: &mut [u8]) -> Opening
     ensures { λ r. ⌜ ((t : Table) → record { answer = startedOf r (walkOf p t); bytes = now (buffer .exit) }
         ≡ request (clientOf f (walkOf p t)) (now (image .entry)) (now (buffer .entry))) ⌝ }
@@ -148,7 +147,7 @@ pub fn ask(f: Front, p: Place, image: &[u8], buffer: &mut [u8]) -> Opening
     }
 }
 
-// The next request, by value.
+// Asks for the next request of a client by value.
 pub fn request(c: Client, image: &[u8], buffer: &mut [u8]) -> Started
     ensures { λ r. ⌜ record { answer = r; bytes = now (buffer .exit) }
         ≡ request c (now (image .entry)) (now (buffer .entry)) ⌝ }

@@ -1,4 +1,4 @@
--- The ways through the starts, from the facts that the code has.
+-- A lemma for each way through the starts, with the facts known there as its premises.
 use Prim.Native.Nat.{ℕ, _*_, _<_, _≤_}
 use mathlib.Core.Bool.{Bool, true, false}
 use mathlib.Core.List.{List}
@@ -26,7 +26,7 @@ use Rattle.client.specs.Verdicts.{frontOf, clientOf, startedOf}
 use Rattle.client_start.specs.Start.{starts, demands, badPrefix, startSelect, startDeselect, startAttach}
 use Rattle.client_start.specs.Start.{startAttachTo, startDiscover}
 
--- What is decided on a front is a definition of the client, whatever its walk.
+-- The opening r gives the answer d, for the client of front f with any walk.
 abbrev Opens : Front → Opening → (Client → Started) → Type 0
 Opens f r d = (w : Walk) → startedOf r w ≡ d (clientOf f w)
 
@@ -99,7 +99,7 @@ module _ (f : Front) (r : Opening) (x n : Id) (ex : x ≡ noId) (en : n ≡ noId
   unfolding demands
   demands-starts p e w = rw (ex, en, begin-none) at e w
 
--- By value: what is decided on the client's front, with its walk.
+-- A start by value gives the answer d, since the opening decided on its front does.
 pub by-value : (d : Client → Started) (c : Client) (f : Front) (o : Opening) (r : Started) → f ≡ frontOf c
     → r ≡ startedOf o (c .walk) → Opens f o d → r ≡ d c
 by-value d c f o r e k h = k ∙ h (c .walk) ∙ ap (λ (g : Front). d (clientOf g (c .walk))) e

@@ -1,4 +1,4 @@
--- What each start answers and leaves.
+-- The answer of each start, and the client after it.
 use Prim.Native.Nat.{ℕ, _*_}
 use mathlib.Core.Bool.{Bool, true, false, cond}
 use mathlib.Core.List.{List}
@@ -22,13 +22,16 @@ use Rattle.client.specs.declared.Says.the-variants.{Onward}
 use Rattle.client.specs.declared.Started.{Started}
 use Rattle.client.specs.Clients.{begun, running, refuse}
 
+-- An operation starts in its first phase, with a prefix, a bit count and a walk, unless one runs.
 unfoldable pub starts : Client → Phase → Id → ℕ → Walk → Started
 starts c p x bits w = cond (running (c .turn)) (refuse c OutOfTurn)
     (record { says = Onward; client = begun c (Ready p) x bits w })
 
+-- An operation without a prefix or a walk.
 unfoldable pub demands : Client → Phase → Started
 demands c p = starts c p noId 0 noWalk
 
+-- A bad prefix is refused. A call out of turn is refused before that.
 unfoldable pub badPrefix : Client → Started
 badPrefix c = cond (running (c .turn)) (refuse c OutOfTurn) (refuse c BadPrefix)
 
@@ -60,6 +63,7 @@ startErase c = demands c (Demand (Informing Clear))
 unfoldable pub startFlash : Client → List ℕ → Started
 startFlash c image = demands c (Demand (Informing (Load (length image))))
 
+-- In the bootloader the reply is awaited.
 unfoldable pub resets : Client → Reset → Bool → Started
 resets c reset inBoot = cond inBoot (demands c (Demand (Resetting reset))) (demands c (Leave reset))
 

@@ -1,5 +1,5 @@
-// Starting an operation: out of turn is judged first, then the arguments.
-// Each start is decided on the client's front (`open_..`); by value (`start_..`) it is that, and the walk.
+// Starting an operation: a call out of turn is refused first, then bad arguments.
+// `open_..` decides a start on the client's front. `start_..` does the same for a client by value.
 use client::Client;
 use client::Front;
 use client::Job;
@@ -21,7 +21,7 @@ ghost use Rattle.client_start.specs.Start.{starts, demands, badPrefix, s
 ghost use Rattle.client_start.specs.Start.{startAttachTo, startDiscover, startInfo, startErase, startFlash};
 ghost use Rattle.client_start.specs.Start.{resets, startReset, startSetBaud};
 
-// An operation begins with its first request, and a walk from a prefix, unless one runs.
+// Starts an operation in its first phase, with a walk under a prefix, unless one runs.
 fn starts(f: Front, phase: Phase, prefix: Id, bits: u8, from: Id) -> Opening
     ensures { λ r. ⌜ ((w : Walk) → startedOf r w ≡ starts (clientOf f w) phase prefix bits (begin from)) ⌝ }
 {
@@ -38,14 +38,14 @@ fn starts(f: Front, phase: Phase, prefix: Id, bits: u8, from: Id) -> Opening
     }
 }
 
-// An operation that walks nothing and selects under no prefix.
+// Starts an operation without a prefix or a walk.
 fn demands(f: Front, phase: Phase) -> Opening
     ensures { λ r. ⌜ ((w : Walk) → startedOf r w ≡ demands (clientOf f w) phase) ⌝ }
 {
     starts(f, phase, Id::none(), 0, Id::none())
 }
 
-// A prefix of over 16 bytes is refused, but after a call out of turn.
+// Refuses a bad prefix. A call out of turn is refused before that.
 fn bad_prefix(f: Front) -> Opening
     ensures { λ r. ⌜ ((w : Walk) → startedOf r w ≡ badPrefix (clientOf f w)) ⌝ }
 {
@@ -56,7 +56,7 @@ fn bad_prefix(f: Front) -> Opening
     f.refuse(Refusal::BadPrefix)
 }
 
-// A Select of the first bits of a prefix.
+// A plain select of the first bits of a prefix.
 pub fn open_select(f: Front, prefix: &[u8], bits: usize) -> Opening
     ensures { λ r. ⌜ ((w : Walk) → startedOf r w ≡ startSelect (clientOf f w) (now (prefix .entry)) bits) ⌝ }
 {
@@ -95,7 +95,7 @@ pub fn start_deselect(c: Client) -> Started
     open_deselect(c.front()).started(w)
 }
 
-// Attach to the only pod there is.
+// Attach to the only pod on the wire.
 pub fn open_attach(f: Front) -> Opening
     ensures { λ r. ⌜ ((w : Walk) → startedOf r w ≡ startAttach (clientOf f w)) ⌝ }
 {
@@ -189,7 +189,7 @@ pub fn start_erase(c: Client) -> Started
     open_erase(c.front()).started(w)
 }
 
-// Flash an image; one of the same length is lent to each call until the flash has ended.
+// Flash an image. The host lends an image of this length to each call until the flash has ended.
 pub fn open_flash(f: Front, image: &[u8]) -> Opening
     ensures { λ r. ⌜ ((w : Walk) → startedOf r w ≡ startFlash (clientOf f w) (now (image .entry))) ⌝ }
 {
@@ -203,7 +203,7 @@ pub fn start_flash(c: Client, image: &[u8]) -> Started
     open_flash(c.front(), image).started(w)
 }
 
-// In boot the answer is awaited.
+// In the bootloader the reply is awaited. Otherwise the operation ends when the request is handed out.
 fn resets(f: Front, reset: Reset, in_boot: bool) -> Opening
     ensures { λ r. ⌜ ((w : Walk) → startedOf r w ≡ resets (clientOf f w) reset in_boot) ⌝ }
 {

@@ -1,5 +1,5 @@
--- Eight and sixteen steps of the register in closed form: each takes a sum apart, so it is known by what it makes of
--- each bit.
+-- Eight and sixteen steps of the register in closed form. Each is linear over XOR, so its values at the single bits
+-- determine it.
 use Prim.Native.Nat.{ℕ, zero, suc, _+_, _-_, _*_, _/_, _%_, _^_, _<_}
 use mathlib.Core.Bool.{cond}
 use mathlib.Core.List.{List, [], _∷_}
@@ -15,6 +15,7 @@ use lib.Pow.{pow-pos}
 use borrow.Author.Tests.{lt-ltb, le-ltb}
 use Rattle.paper.specs.Frame.{crcBit, crcByte}
 
+-- What holds for 0 and for 1 holds for a number modulo 2.
 digit : (P : ℕ → Type 0) → P 0 → P 1 → (x : ℕ) → P (x % 2)
 digit P p q x = go (x % 2) (omega arith)
   where
@@ -58,7 +59,7 @@ swap-sums a b c d = sym (together (bitXor a b) c d) ∙ ap (λ (x : ℕ). bitXor
     together : (a b c : ℕ) → bitXor (bitXor a b) c ≡ bitXor a (bitXor b c)
     together a b c = ap (λ (x : ℕ). bitXor x c) (xor-comm a b) ∙ xor-swap b a c ∙ xor-comm (bitXor b c) a
 
--- What takes a sum apart and stays within 16 bits: shifts, sums, and one after another.
+-- Functions that are linear over XOR and stay within 16 bits: shifts, sums and compositions.
 record Linear : Type 0 where
   of : ℕ → ℕ
   apart : (x y : ℕ) → of (bitXor x y) ≡ bitXor (of x) (of y)
@@ -107,7 +108,7 @@ after f g =
 abbrev twice : Linear → Linear
 twice f = after f f
 
--- What it makes of the bits below the n-th, and of none. Two that agree on those agree on n bits.
+-- The values at each single bit below the n-th, and at 0. Two linear functions that agree there agree on n bits.
 basis : (ℕ → ℕ) → ℕ → List ℕ
 basis f zero = f 0 ∷ []
 basis f (suc n) = f (2 ^ n) ∷ basis f n
@@ -130,16 +131,18 @@ by-bits f g (suc n) e x h = go (by-bits f g n (ap (drop 1) e)) (decLt x (2 ^ n))
             (rw (one-mul (2 ^ n)) at (xor-shifted 1 n (x - 2 ^ n) rest)) ∙ omega arith in
             ap (f .of) (sym e) ∙ f .apart (2 ^ n) (x - 2 ^ n)
 
+-- Multiplication by the polynomial, 2 ^ 12 + 2 ^ 5 + 1.
 abbrev spread : Linear
 spread = sum (sum (shl 12) (shl 5)) same
 
--- A step of the register is one of them: the polynomial is 2 ^ 12 + 2 ^ 5 + 1.
+-- A step of the register is linear.
 abbrev step : Linear
 step = sum (shl 1) (after spread (shr 15))
 
 abbrev eight : Linear
 eight = twice (twice (twice step))
 
+-- g equals f on 16 bits.
 abbrev Is : (ℕ → ℕ) → Linear → Type 0
 Is g f = (x : ℕ) → x < 2 ^ 16 → g x ≡ f .of x
 
@@ -159,7 +162,7 @@ is-step x h = go (decLt x 0x8000)
         let top : x / 2 ^ 15 ≡ 1 = omega arith in
         rw (le-ltb x 0x8000 (omega arith)) (ap (λ (y : ℕ). bitXor (x * 2 ^ 1 % 2 ^ 16) (spread .of y)) (sym top))
 
--- A byte enters at the top, and eight steps follow: computed for each bit.
+-- A byte is XORed into the high byte, and eight steps follow. That they equal the closed form is computed for each bit.
 module _ (c b : ℕ) (hc : c < 2 ^ 16) (hb : b < 256) where
   abbrev entered : ℕ
   entered = bitXor c (b * 256)
@@ -190,7 +193,7 @@ module _ (c b : ℕ) (hc : c < 2 ^ 16) (hb : b < 256) where
       ap₂ (λ (x y : ℕ). bitXor (spread .of (bitXor x (x / 2 ^ 4))) y) top (sym low)
       ∙ sym (is-byte entered fits-entered) ∙ sym is-eight
 
--- Two bytes: the second, eight steps before it enters, stands at the bottom.
+-- Two bytes. The second can be XORed into the low byte at the start: eight steps move it to the high byte.
 abbrev onto : Linear
 onto = sum (sum (sum (sum same (shr 4)) (shr 8)) (shr 11)) (shr 12)
 

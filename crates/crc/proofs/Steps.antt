@@ -1,4 +1,4 @@
--- The check of bytes two bytes further, and at its end.
+-- The loop of `crc16`: two more bytes, a last single byte, and the end.
 use Prim.Native.Nat.{ℕ, suc, _+_, _<_, _≤_}
 use mathlib.Core.List.{List}
 use mathlib.Core.Path.{_≡_}

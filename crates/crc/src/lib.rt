@@ -2,10 +2,11 @@
 ghost use mathlib.Core.Path.{_≡_};
 ghost use Rattle.paper.specs.Frame.{crcByte, crcFrom};
 
-// What the check of a frame or an image starts from.
+// The start value of the check of a frame or an image.
 pub const START: u16 = 0xFFFF;
 
-// Eight bits at once: of the byte shifted out, with the one that enters, what the polynomial adds.
+// The register after one byte, eight bits at once. x is the high byte XORed with the new byte, and y is x with its own
+// feedback. The last line applies the polynomial 1021 to y.
 pub fn crc_byte(c: u16, b: u8) -> u16
     ensures { λ r. ⌜ r ≡ crcByte c b ⌝ }
 {
@@ -14,7 +15,7 @@ pub fn crc_byte(c: u16, b: u8) -> u16
     (y << 12) ^ (y << 5) ^ y ^ (c << 8)
 }
 
-// Sixteen bits at once: two bytes enter together.
+// The register after two bytes, sixteen bits at once.
 pub fn crc_pair(c: u16, a: u8, b: u8) -> u16
     ensures { λ r. ⌜ r ≡ crcByte (crcByte c a) b ⌝ }
 {
@@ -23,7 +24,7 @@ pub fn crc_pair(c: u16, a: u8, b: u8) -> u16
     (y << 12) ^ (y << 5) ^ y
 }
 
-// The check of bytes from a start.
+// The check of some bytes, from a start value.
 pub fn crc16(start: u16, bytes: &[u8]) -> u16
     ensures { λ r. ⌜ r ≡ crcFrom start (now (bytes .entry)) ⌝ }
 {

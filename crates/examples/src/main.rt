@@ -1,10 +1,10 @@
-// Document 01's examples that are compared by a program, with frames written and heard beside them.
+// Prints document 01's examples that a program compares, and some frames as written and as heard.
 // tests/vectors.py computes what this must print.
 use frame::Head;
 use hearing::Heard;
 use wire::Written;
 
-// A frame with no address, written with its padding, and what its bytes are heard as.
+// Prints a frame with address 0, written with its padding, and what its bytes are heard as.
 fn print_frame(name: &[u8], command: u8, status: u8, payload: &[u8], pad: usize) {
     let mut room = [0u8; 64];
     let head = Head {

@@ -1,4 +1,4 @@
--- What meets the premises: each theorem with a premise, applied to values that meet it.
+-- Examples: each theorem with a premise, applied to values that meet it.
 use Prim.Native.Nat.{ℕ, _+_, _≤_}
 use mathlib.Core.List.{List, [], _∷_, _++_}
 use mathlib.Core.Path.{_≡_}
@@ -14,8 +14,8 @@ use Rattle.host_answer.specs.AnswerBytes as Answer
 use Rattle.host_buffers.specs.Hosts.{toldBy, leaves, tells, starts, asks, requests, showsAttached, views}
 use Rattle.fahireky.proofs.Laws.{tells-saved, starts-saved, requests-saved, views-saved}
 
--- A client whose attach is out, saved with a byte behind it; a buffer for the answer, a byte longer than it must be;
--- the reply of C1 07.
+-- A saved client whose Select for an attach is out, with a byte after it; an answer's buffer one byte longer than
+-- needed; the reply of C1 07.
 abbrev state : List ℕ
 state = saved seeking ++ (0x99 ∷ [])
 

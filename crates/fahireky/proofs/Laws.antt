@@ -1,4 +1,4 @@
--- Each exported call on a state that holds a client leaves what the client's own call gives.
+-- Each exported call on a state that holds a client leaves what the client's own call returns.
 use Prim.Native.Nat.{ℕ, _≤_}
 use mathlib.Core.Bool.{Bool, true, false, cond}
 use mathlib.Core.List.{List, _++_}
@@ -57,7 +57,7 @@ module _ (c : Client) (h : Fits c) (more a : List ℕ) (room : Answer.size ≤ l
       (showsAttached (attached (loaded (saved c ++ more))) a) whole room)
       ∙ ap (λ (d : Client). showsAttached (attached d) a) (loaded-saved c h more)
 
--- The rest from where it begins.
+-- Dropping the bytes before the place of the rest gives the rest.
 pub rest-from : (bytes : List ℕ) (at : ℕ) → drop (restFrom (length bytes) at) bytes ≡ rest bytes at
 unfolding restFrom
 rest-from bytes at = go (ltb at (length bytes)) refl

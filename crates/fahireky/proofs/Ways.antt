@@ -1,4 +1,4 @@
--- The ways through the exported calls, from the facts that the code has.
+-- Lemmas for the exported calls: one for each path through the code.
 use Prim.Native.Nat.{ℕ}
 use mathlib.Core.List.{List}
 use mathlib.Core.Path.{_≡_, sym, _∙_, ap, subst}
@@ -31,7 +31,7 @@ use Rattle.host_buffers.specs.Hosts.{lent, lacks, Exported, toldBy, leaves, tel
 use Rattle.host_buffers.specs.Hosts.{shows, showsAttached, views, saidOf, hearsOut}
 use Rattle.host_buffers.proofs.Ways.{state-room, answer-room, lent-short, lent-enough}
 
--- A state or an answer that is too short.
+-- A state or an answer's buffer that is too short.
 module _ (s a : List ℕ) (k : ℕ) (e : k ≡ lacks (length s) (length a)) (n : k ≡ 0 → ⊥) where
   pub tells-short : (f : Client → Told) → record { code = k; state = s; answer = a } ≡ tells f s a
   unfolding tells
@@ -54,8 +54,8 @@ module _ (s a : List ℕ) (k : ℕ) (e : k ≡ lacks (length s) (length a)) (n :
   views-short = lent-short (length s) (length a) k e (λ (code : ℕ). record { code = code; bytes = a })
       (showsAttached (attached (loaded s)) a) n
 
--- Both long enough: what was decided on the front, on the place and on the count is decided of the client that the
--- state holds.
+-- Both are long enough: the decision on the front, the place and the count is that of the call on the client in the
+-- state.
 module _ (s a : List ℕ) (k : ℕ) (f : Front) (e : k ≡ lacks (length s) (length a)) (z : k ≡ 0)
     (ef : f ≡ frontOf (loaded s)) where
   enough : {A : Type 0} (short : ℕ → A) (x : A) → x ≡ lent (length s) (length a) short x
@@ -113,7 +113,7 @@ module _ (s a : List ℕ) (k : ℕ) (f : Front) (e : k ≡ lacks (length s) (len
         ∙ enough (λ (code : ℕ). record { code = code; state = s; buffer = b; answer = a })
         (asks (request (loaded s) image b) s a)
 
--- With no state.
+-- A call without a state.
 module _ (X : Hearing) (a : List ℕ) (k n : ℕ) (en : n ≡ State.size) (e : k ≡ lacks n (length a)) where
   unlent : k ≡ lacks State.size (length a)
   unlent = e ∙ ap (λ (i : ℕ). lacks i (length a)) en

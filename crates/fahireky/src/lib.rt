@@ -1,5 +1,5 @@
-// Every call of the client over numbers and byte slices, for a host to link. The client lives in a buffer that the host
-// lends, and each answer is written into another.
+// Every call of the client over numbers and byte slices, for a host to link.
+// The client is kept in a buffer that the host lends, and each answer is written to another.
 use client::Outcome;
 use client::Says;
 ghost use mathlib.Core.Path.{_≡_};
@@ -177,7 +177,7 @@ pub extern "C" fn fahireky_start_set_baud(
     )
 }
 
-// The next request, written to the front of the buffer.
+// Writes the next request to the front of the buffer.
 #[no_mangle]
 pub extern "C" fn fahireky_request(
     state: &mut [u8],
@@ -204,7 +204,7 @@ pub extern "C" fn fahireky_request(
     host_buffers::started(o, state, answer)
 }
 
-// What was heard after the request.
+// Handles the record heard after the request.
 #[no_mangle]
 pub extern "C" fn fahireky_record(
     state: &mut [u8],
@@ -253,7 +253,7 @@ pub extern "C" fn fahireky_attached(state: &[u8], answer: &mut [u8]) -> u64
     host_buffers::shows(Says::Over(Outcome::Attached(f.attached)), id, answer)
 }
 
-// What a Select hears in its record.
+// What the record of a Select holds: nothing, one id, an unaddressed pod, or garble.
 #[no_mangle]
 pub extern "C" fn fahireky_hear(bytes: &[u8], answer: &mut [u8]) -> u64
     ensures { λ r. ⌜ record { code = r; bytes = now (answer .exit) }
@@ -269,7 +269,7 @@ pub extern "C" fn fahireky_hear(bytes: &[u8], answer: &mut [u8]) -> u64
     host_buffers::shows(host_buffers::said_of(h), id, answer)
 }
 
-// Where the unread rest of a record begins.
+// The place where the unread rest of a record begins, at most its length.
 #[no_mangle]
 pub extern "C" fn fahireky_rest(bytes: &[u8], place: usize) -> usize
     ensures { λ r. ⌜ r ≡ Export.rest (now (bytes .entry)) place ⌝ }

@@ -1,5 +1,5 @@
-// A flash driven to its end over a pod that answers Ok: document 01's example of an image of 5 bytes in a capacity of
-// 6. tests/vectors.py computes what this must print.
+// Drives a flash to its end with a pod that answers Ok: document 01's example of 5 bytes in a capacity of 6.
+// tests/vectors.py computes what this must print.
 use client::Client;
 use client::Outcome;
 use client::Progress;
@@ -23,7 +23,7 @@ fn reply(command: u8, payload: &[u8], room: &mut [u8]) -> usize {
     }
 }
 
-// The pod: capacity 6, erase size 4, payloads of 4 bytes, no key; and the check of what was sent to it.
+// The pod: capacity 6, erase size 4, payloads of at most 4 bytes, compat unset. It verifies with the image's check.
 fn pod(command: u8, room: &mut [u8]) -> usize {
     if command == wire::INFO {
         return reply(
@@ -65,7 +65,7 @@ fn print_says(says: Says) {
     }
 }
 
-// What the pod answers, told to the client.
+// Hands the pod's reply to the client.
 fn told(c: Client, command: u8) -> Client {
     let mut room = [0u8; 64];
     let n = pod(command, &mut room);
@@ -80,7 +80,7 @@ fn told(c: Client, command: u8) -> Client {
     t.client
 }
 
-// One request and its answer.
+// One request and its reply.
 fn round(c: Client) -> Client {
     let mut room = [0u8; 64];
     let s = client_request::request(c, b"abcde", &mut room);

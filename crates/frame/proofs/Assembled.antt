@@ -1,4 +1,4 @@
--- A frame put together from its head, a payload in the part lent from byte 10 on, and its check.
+-- A frame made of its head, a payload written to the part of the buffer from byte 10 on, and its check.
 use Prim.Native.Nat.{ℕ, _+_, _-_, _<_, _≤_}
 use mathlib.Core.List.{List, _++_, append-assoc}
 use mathlib.Core.Path.{_≡_, sym, _∙_, ap, ap₂}

@@ -1,4 +1,5 @@
--- The ways through the frame's writers: a head, a padded payload, a check, and a frame with its refusals.
+-- Lemmas for each path through the frame's writers: the head, the padded payload, the check, and a frame with its
+-- refusals.
 use Prim.Native.Nat.{ℕ, _+_, _-_, _<_, _≤_}
 use mathlib.Core.List.{List, _++_, append-assoc}
 use mathlib.Core.Path.{_≡_, sym, _∙_, ap, ap₂}
@@ -24,7 +25,7 @@ module _ (h : Head) (n : ℕ) (b d₁ d₂ d₃ : List ℕ) where
   unfolding headOf le
   headed e₁ e₂ e₃ = rw (e₃, e₂, e₁) (ap (λ (r : List ℕ). headOf h n ++ r) (drop-drop 2 4 (drop 4 b) ∙ drop-drop 6 4 b))
 
--- Bytes at the front, and behind them so many FF in the part lent.
+-- Bytes at the front, then pad bytes FF written to the part after them.
 module _ (p dst d₁ d₂ : List ℕ) (pad : ℕ) (e₁ : d₁ ≡ p ++ drop (length p) dst)
     (e₂ : d₂ ≡ replicate pad 0xFF ++ drop pad (take (length d₁ - length p) (drop (length p) d₁))) where
   pub padded : putMid (length p) (length d₁ - length p) d₁ d₂ ≡ p ++ replicate pad 0xFF ++ drop (length p + pad) dst
@@ -41,7 +42,7 @@ pub sealed : (b d : List ℕ) (n c : ℕ) → c ≡ crcFrom 0xFFFF (take n b) �
 unfolding check
 sealed b d n c ec ed = rw (← ec) ed
 
--- Bytes and padding as the payload.
+-- A frame whose payload is bytes and padding.
 module _ (h : Head) (p : List ℕ) (pad : ℕ) (buf : List ℕ) where
   abbrev load : List ℕ
   load = p ++ replicate pad 0xFF

@@ -1,4 +1,4 @@
-// The bench frame's writer: the head, the payload through the part of the request buffer from byte 10 on, the check.
+// The writer of bench frames: the head, the payload through the part of the buffer from byte 10 on, and the check.
 use wire::Placed;
 use wire::Written;
 ghost use mathlib.Core.Path.{_≡_};
@@ -8,6 +8,7 @@ ghost use lib.ListN.{length, take, drop, replicate};
 ghost use Rattle.paper.specs.Frame.{le, check, frameBytes};
 ghost use Rattle.frame.specs.Writing.{frameOf, tagOf, headOf, placed, answerOf, written};
 
+// A frame's fields without its payload.
 pub struct Head {
     pub command: u8,
     pub status: u8,
@@ -15,7 +16,7 @@ pub struct Head {
     pub address: u32,
 }
 
-// A5, command, status and flags.
+// Writes the first four bytes: A5, command, status and flags.
 fn put_tag(buf: &mut [u8], head: Head)
     requires { ⌜ 4 ≤ length (now buf) ⌝ }
     ensures { λ _. ⌜ now (buf .exit) ≡ tagOf head ++ drop 4 (now (buf .entry)) ⌝ }
@@ -26,7 +27,7 @@ fn put_tag(buf: &mut [u8], head: Head)
     buf[3] = head.flags;
 }
 
-// The first ten bytes of a frame with n bytes of payload.
+// Writes the first ten bytes of a frame with n bytes of payload.
 pub fn put_head(buf: &mut [u8], head: Head, n: u16)
     requires { ⌜ 10 ≤ length (now buf) ⌝ }
     ensures { λ _. ⌜ now (buf .exit) ≡ headOf head n ++ drop 10 (now (buf .entry)) ⌝ }
@@ -36,7 +37,7 @@ pub fn put_head(buf: &mut [u8], head: Head, n: u16)
     wire::put16(buf, 8, n);
 }
 
-// The payload writer: bytes, then FF so many times.
+// Writes the payload: the bytes given, then pad bytes FF.
 pub fn put_padded(dst: &mut [u8], bytes: &[u8], pad: usize)
     requires { ⌜ length (now bytes) + pad ≤ length (now dst) ⌝ }
     ensures { λ _. ⌜ now (dst .exit)
@@ -47,7 +48,7 @@ pub fn put_padded(dst: &mut [u8], bytes: &[u8], pad: usize)
     wire::fill(&mut dst[n..], pad, 0xFF);
 }
 
-// The check behind the first n bytes.
+// Writes the check of the first n bytes after them.
 pub fn seal(buf: &mut [u8], n: usize)
     requires { ⌜ n + 2 ≤ length (now buf) ⌝ }
     ensures { λ _. ⌜ now (buf .exit)
@@ -57,7 +58,7 @@ pub fn seal(buf: &mut [u8], n: usize)
     wire::put16(buf, n, c);
 }
 
-// A frame whose payload is the bytes given and then FF so many times, 1,024 bytes at most.
+// Writes a frame whose payload is the bytes given, then pad bytes FF: at most 1,024 bytes.
 pub fn place_frame(head: Head, bytes: &[u8], pad: usize, buf: &mut [u8]) -> Placed
     requires { ⌜ length (now bytes) + pad ≤ 1024 ⌝ }
     ensures { λ r. ⌜ record { answer = r; bytes = now (buf .exit) }
@@ -73,6 +74,7 @@ pub fn place_frame(head: Head, bytes: &[u8], pad: usize, buf: &mut [u8]) -> Plac
     Placed::Done(n + 12)
 }
 
+// The same answer as a Written.
 fn answer_of(p: Placed) -> Written
     ensures { λ r. ⌜ r ≡ answerOf p ⌝ }
 {
@@ -82,7 +84,7 @@ fn answer_of(p: Placed) -> Written
     }
 }
 
-// The same of any lengths.
+// The same for any lengths: TooLong if the payload is over 1,024 bytes.
 pub fn write_frame(head: Head, bytes: &[u8], pad: usize, buf: &mut [u8]) -> Written
     ensures { λ r. ⌜ record { answer = r; bytes = now (buf .exit) }
         ≡ written (frameOf head (now (bytes .entry) ++ replicate pad 0xFF)) (now (buf .entry)) ⌝ }

@@ -1,4 +1,4 @@
--- Where the loop over frames is, against the paper's answer.
+-- The loop of `hearing::answer`, compared with the paper's answer.
 use Prim.Native.Nat.{ℕ, zero, suc, _+_, _-_, _≤_}
 use mathlib.Core.Bool.{Bool, true, false, cond}
 use mathlib.Core.List.{List}
@@ -20,7 +20,7 @@ use Rattle.hearing.specs.declared.Answered.the-variants.{Lost, Device, O
 use Rattle.hearing.specs.Heard.{repliedBy, shownAnswer}
 use Rattle.hearing.proofs.Shows.{Shows, readAs, shows, end-is, end-after, inside}
 
--- From here on, within the frames left, the answer is that of the whole record.
+-- The loop at a place: the answer from there on, within the frames left, is that of the whole record.
 pub record Reach (bytes : List ℕ) (at : ℕ) : Type 0 where
   pub left : ℕ
   pub enough : length bytes ≤ at + left
@@ -30,7 +30,7 @@ pub begun : (bytes : List ℕ) → Reach bytes 0
 unfolding answer
 begun bytes = record { left = length bytes; enough = omega arith; same = refl }
 
--- A frame that is no echo answers with its own reply, or with the status of a bad check.
+-- The reply of a frame that is no echo: its own, or CrcMismatch if its check is wrong.
 abbrev reply : Bool → PaperFrame.Frame → PaperAnswers.Reply
 reply true f = replyOf f
 reply false f = device status-CrcMismatch
@@ -72,7 +72,7 @@ module _ (right : Bool) (bytes : List ℕ) (at : ℕ) (x : Reading) (e : x ≡ s
         go zero h q = absurd (omega (arith, inside right bytes at x e f c, end-after bytes at f right found))
         go (suc n) h q = sym (next n ∙ simp (ne-eqb _ _ z)) ∙ q
 
--- The payload stands between the head and the check.
+-- The code's answer of a frame is the paper's. The payload is between the head and the check.
 replied-shown : (at : ℕ) (f : PaperFrame.Frame)
     → repliedBy (frameAt at f) ≡ shownAnswer (answered (replyOf f) (at + PaperFrame.size f))
 unfolding repliedBy
@@ -103,7 +103,7 @@ module _ (bytes : List ℕ) (at : ℕ) (x : Reading) (e : x ≡ shownFrom at (re
       → Device 3 (f .end) ≡ shownAnswer (answer bytes)
   answers-bad f c z = ap shownAnswer (halted false bytes at x e f c r z)
 
--- No frame can be read.
+-- The readings without a frame: too long, or short.
 abbrev pub lostAs : Bool → Reading
 lostAs true = TooLong
 lostAs false = Short

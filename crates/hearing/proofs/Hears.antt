@@ -1,4 +1,4 @@
--- Where the loop over frames is, against what the paper hears in the record.
+-- The loop of `hearing::hear`, compared with what the paper hears in the record.
 use Prim.Native.Nat.{ℕ, zero, suc, _+_, _^_, _<_, _≤_}
 use mathlib.Core.Bool.{Bool, true, false, cond}
 use mathlib.Core.List.{List, [], _∷_, _++_, append-nil, append-assoc}
@@ -30,14 +30,15 @@ use Rattle.hearing.specs.declared.Replies.the-variants.{None, One, Sever
 use Rattle.hearing.specs.Heard.{Within, onReplies, heardAs, oneHeard, noted, concluded, shownHeard}
 use Rattle.hearing.proofs.Shows.{Shows, shows, end-is, inside}
 
--- The code's replies, and the paper's that they stand for.
+-- The code's replies, and the paper's replies that they represent.
 pub data Stands (bytes : List ℕ) : List Paper.Frame → Replies → Type 0 where
   no-reply : Stands bytes [] None
   one-reply : (p : Paper.Frame) (f : Frame) → f .status ≡ p .status → f .payload + f .len ≤ length bytes
       → take (f .len) (drop (f .payload) bytes) ≡ p .payload → Stands bytes (p ∷ []) (One f)
   more-replies : (p q : Paper.Frame) (ps : List Paper.Frame) → Stands bytes (p ∷ q ∷ ps) Several
 
--- From here on, within the frames left and with the replies seen, what is heard is that of the whole record.
+-- The loop at a place: what is heard from there on, within the frames left and with the replies seen, is what is heard
+-- in the whole record.
 pub record Reach (bytes : List ℕ) (at : ℕ) (rs : Replies) : Type 0 where
   pub left : ℕ
   pub enough : length bytes ≤ at + left
@@ -49,7 +50,7 @@ pub begun : (bytes : List ℕ) → Reach bytes 0 None
 unfolding hear
 begun bytes = record { left = length bytes; enough = omega arith; seen = []; stands = no-reply; same = refl }
 
--- One more frame.
+-- The replies still represent the paper's after one more frame.
 stands-noted : (bytes : List ℕ) (at : ℕ) (p : Paper.Frame) (seen : List Paper.Frame) (rs : Replies)
     → at + size p ≤ length bytes
     → take (length (p .payload)) (drop (at + 10) bytes) ≡ p .payload → Stands bytes seen rs
@@ -83,7 +84,7 @@ stands-concluded (one-reply p f es w eb) = rw (es, eb) (go (eqb (p .status) 1) (
     go false false = refl
 stands-concluded (more-replies p q ps) = refl
 
--- One of the other readings than a whole frame, as the code's test has it.
+-- Any reading other than a whole frame, in the form of the code's test.
 abbrev pub Unfit : Reading → Type 0
 Unfit x = OneOf (0 ∷ 1 ∷ 2 ∷ []) (tagOf the-type x)
 
@@ -94,7 +95,7 @@ unfit-unclean at tooLong u = refl
 unfit-unclean at (badCheck k f) u = refl
 unfit-unclean at (whole k f) u = absurd (miss (0 ∷ 1 ∷ 2 ∷ []) 3 tt u)
 
--- A frame counts with those seen or with those to come.
+-- It makes no difference whether a frame is counted with those seen or with those to come.
 counted : (p : Paper.Frame) (seen : List Paper.Frame) (o : Option (List Paper.Frame))
     → onSome o garble (λ ps. repliesHeard (cond (eqb (p .status) 0) seen (seen ++ p ∷ []) ++ replies ps))
     ≡ onSome (onSome o none (λ ps. some (p ∷ ps))) garble (λ ps. repliesHeard (seen ++ replies ps))

@@ -1,4 +1,4 @@
--- A frame that the code read, and the paper's frame that it shows.
+-- A frame that the code read, and the paper's frame at the same place.
 use Prim.Native.Nat.{ℕ, _+_, _-_, _<_, _≤_}
 use mathlib.Core.Bool.{Bool, true, false}
 use mathlib.Core.List.{List}
@@ -14,11 +14,12 @@ use Rattle.reader.specs.declared.Reading.{Reading}
 use Rattle.reader.specs.declared.Reading.the-variants.{BadCheck, Whole}
 use Rattle.reader.specs.Shown.{frameAt, shownFrom}
 
--- With its check right or not.
+-- The code's reading of a frame, by whether its check is right.
 abbrev pub readAs : Bool → Frame → Reading
 readAs true f = Whole f
 readAs false f = BadCheck f
 
+-- f is the frame that the paper reads from the place at on, after skip bytes.
 pub record Shows (bytes : List ℕ) (at : ℕ) (f : Frame) (right : Bool) : Type 0 where
   pub skip : ℕ
   pub frame : Paper.Frame
@@ -41,7 +42,7 @@ shows right bytes at x e f c = go right (read (drop at bytes)) refl (sym e ∙ c
     go false (whole k p) q h = absurd (let z : _≡_ {A = ℕ} 0 1 = cc in omega arith)
 
 module _ (bytes : List ℕ) (at : ℕ) (f : Frame) (right : Bool) (s : Shows bytes at f right) where
-  -- The end, as the paper counts it.
+  -- The end of the frame, from the bytes skipped and the paper's size.
   pub end-is : f .end ≡ at + (s .skip + size (s .frame))
   end-is = ap (λ (g : Frame). g .end) (s .shown) ∙ add-assoc at (s .skip) (size (s .frame))
 

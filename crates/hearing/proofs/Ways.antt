@@ -1,4 +1,4 @@
--- The ways through what replies say, and through the rest of a record.
+-- Lemmas for each path through the functions that judge replies, and through `hearing::rest`.
 use Prim.Native.Nat.{ℕ, _+_, _-_, _<_, _≤_}
 use mathlib.Core.List.{List}
 use mathlib.Core.Path.{_≡_, sym}

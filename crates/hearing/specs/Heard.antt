@@ -1,4 +1,4 @@
--- What a record says, as the code's values.
+-- What is heard in a record, and the answer to a request, as values of the code.
 use Prim.Native.Nat.{ℕ, _+_, _-_, _≤_}
 use mathlib.Core.Bool.{Bool, true, false, cond}
 use mathlib.Core.List.{List}
@@ -20,6 +20,7 @@ use Rattle.hearing.specs.declared.Replies.the-variants.{None, Several}
 use Rattle.hearing.specs.declared.Answered.{Answered}
 use Rattle.hearing.specs.declared.Answered.the-variants.{Lost, Device, Ok}
 
+-- A result for each case of what is heard.
 abbrev pub onHeard {ℓ} : {A : Type ℓ} → Heard → A → A → A → A → A → A
 onHeard Nothing n o t u g = n
 onHeard Heard.One n o t u g = o
@@ -27,30 +28,33 @@ onHeard TooLong n o t u g = t
 onHeard Unaddressed n o t u g = u
 onHeard Garble n o t u g = g
 
--- An id over 16 bytes was heard.
-unfoldable pub long : Heard → Bool
-long h = onHeard h false false true false false
+-- Whether an id over 16 bytes was heard.
+unfoldable pub isLong : Heard → Bool
+isLong h = onHeard h false false true false false
 
+-- A result for no reply, for one, and for several.
 abbrev pub onReplies {ℓ} : {A : Type ℓ} → Replies → A → (Frame → A) → A → A
 onReplies None none this many = none
 onReplies (Replies.One f) none this many = this f
 onReplies Several none this many = many
 
--- The reply's payload lies in the record.
+-- If there is one reply, its payload is within the record.
 abbrev pub Within : List ℕ → Replies → Type 0
 Within bytes r = onReplies r (Unit {0}) (λ f. f .payload + f .len ≤ length bytes) (Unit {0})
 
--- Heard, with no id.
+-- Something heard without an id.
 abbrev pub heardAs : Heard → Hearing
 heardAs h = record { heard = h; id = noId }
 
+-- The replies after one more frame. An echo (status 0) is no reply.
 unfoldable pub noted : Replies → Frame → Replies
 noted r f = cond (eqb (f .status) 0) r (onReplies r (Replies.One f) (λ g. Several) Several)
 
--- An id of over 16 bytes is too long.
+-- One reply with status Ok, whose payload is the id. An id of over 16 bytes is too long.
 unfoldable pub oneHeard : List ℕ → Hearing
 oneHeard id = cond (ltb longest (length id)) (heardAs TooLong) (record { heard = Heard.One; id = idFrom id })
 
+-- What is heard once every frame of the record is read.
 unfoldable pub concluded : List ℕ → Replies → Hearing
 concluded bytes r =
     onReplies r (heardAs Nothing)
@@ -59,16 +63,18 @@ concluded bytes r =
     (cond (eqb (f .status) 2) (heardAs Unaddressed) (heardAs Garble)))
     (heardAs Garble)
 
+-- What the paper hears, as a value of the code.
 abbrev pub shownHeard : PaperHearing.Heard → Hearing
 shownHeard nothing = heardAs Nothing
 shownHeard (one id) = oneHeard id
 shownHeard unaddressed = heardAs Unaddressed
 shownHeard garble = heardAs Garble
 
+-- The answer of a whole frame that is no echo.
 unfoldable pub repliedBy : Frame → Answered
 repliedBy f = cond (eqb (f .status) 1) (Ok (f .payload) (f .len) (f .end)) (Device (f .status) (f .end))
 
--- The payload of the frame that answers stands before its check.
+-- The paper's answer as a value of the code. The payload ends two bytes before the frame does, at its check.
 abbrev pub shownAnswer : PaperAnswers.Answer → Answered
 shownAnswer lost = Lost
 shownAnswer (answered (ok payload) end) = Ok (end - (2 + length payload)) (length payload) end

@@ -1,4 +1,4 @@
-// What a record says: what a Select hears in it, the one frame that answers a request, and its unread rest.
+// Reading a record: what a Select hears in it, the frame that answers any other request, and the unread rest.
 use ids::Id;
 use reader::Frame;
 use reader::Reading;
@@ -7,7 +7,7 @@ ghost use Prim.Native.Nat.{_+_, _≤_};
 ghost use lib.ListN.{length, take, drop};
 ghost use Rattle.paper.specs.Hearing.{hear};
 ghost use Rattle.paper.specs.Answers.{answer, rest};
-ghost use Rattle.hearing.specs.Heard.{long, Within, heardAs, noted, oneHeard, concluded, shownHeard, repliedBy};
+ghost use Rattle.hearing.specs.Heard.{isLong, Within, heardAs, noted, oneHeard, concluded, shownHeard, repliedBy};
 ghost use Rattle.hearing.specs.Heard.{shownAnswer};
 
 // What one Select heard. An id over 16 bytes is TooLong.
@@ -19,27 +19,28 @@ pub enum Heard {
     Garble,
 }
 
-// With the id of One; no id else.
+// What one Select heard, with the id for One and no id otherwise.
 pub struct Hearing {
     pub heard: Heard,
     pub id: Id,
 }
 
-// The replies among the frames so far.
+// The replies among the frames read so far.
 pub enum Replies {
     None,
     One(Frame),
     Several,
 }
 
-// The frame that answers a request with one answer: where its payload begins, the payload's length, and the frame's
-// end.
+// The answer to a request other than a Select. Lost: no frame answers. Device: a status other than Ok (3 for a bad
+// check), and the end of the frame. Ok: where the payload begins, its length, and the end of the frame.
 pub enum Answered {
     Lost,
     Device(u8, usize),
     Ok(usize, usize, usize),
 }
 
+// Something heard without an id.
 pub fn heard_as(heard: Heard) -> Hearing
     ensures { λ r. ⌜ r ≡ heardAs heard ⌝ }
 {
@@ -47,7 +48,7 @@ pub fn heard_as(heard: Heard) -> Hearing
     Hearing { heard, id }
 }
 
-// One more frame: an echo is no reply.
+// The replies after one more frame. An echo (a frame of status Request) is no reply.
 pub fn noted(replies: Replies, f: Frame) -> Replies
     ensures { λ r. ⌜ r ≡ noted replies f ⌝ }
 {
@@ -61,7 +62,7 @@ pub fn noted(replies: Replies, f: Frame) -> Replies
     }
 }
 
-// The id in a frame's payload.
+// The hearing of one reply with status Ok, whose payload is the id.
 fn one_heard(bytes: &[u8], at: usize, len: usize) -> Hearing
     requires { ⌜ at + len ≤ length (now bytes) ⌝ }
     ensures { λ r. ⌜ r ≡ oneHeard (take len (drop at (now (bytes .entry)))) ⌝ }
@@ -77,6 +78,7 @@ fn one_heard(bytes: &[u8], at: usize, len: usize) -> Hearing
     }
 }
 
+// What is heard once every frame of the record is read.
 fn concluded(bytes: &[u8], replies: Replies) -> Hearing
     requires { ⌜ Within (now bytes) replies ⌝ }
     ensures { λ r. ⌜ r ≡ concluded (now (bytes .entry)) replies ⌝ }
@@ -116,7 +118,7 @@ pub fn hear(bytes: &[u8]) -> Hearing
     concluded(bytes, replies)
 }
 
-// The first frame that is no echo.
+// The answer to a request: that of the first frame that is no echo.
 pub fn answer(bytes: &[u8]) -> Answered
     ensures { λ r. ⌜ r ≡ shownAnswer (answer (now (bytes .entry))) ⌝ }
 {
@@ -143,7 +145,7 @@ pub fn answer(bytes: &[u8]) -> Answered
     found
 }
 
-// A whole frame that is no echo.
+// The answer of a whole frame that is no echo.
 fn replied(f: Frame) -> Answered
     ensures { λ r. ⌜ r ≡ repliedBy f ⌝ }
 {
@@ -164,9 +166,9 @@ pub fn rest(bytes: &[u8], at: usize) -> &[u8]
     }
 }
 
-// An id over 16 bytes was heard.
-pub fn long(h: Heard) -> bool
-    ensures { λ r. ⌜ r ≡ long h ⌝ }
+// Whether an id over 16 bytes was heard.
+pub fn is_long(h: Heard) -> bool
+    ensures { λ r. ⌜ r ≡ isLong h ⌝ }
 {
     match h {
         Heard::Nothing => false,

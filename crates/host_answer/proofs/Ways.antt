@@ -1,4 +1,4 @@
--- The ways through the writers of an answer, from the facts that the code has.
+-- Lemmas for the functions that write an answer: one for each path through the code.
 use Prim.Native.Nat.{ℕ, _+_, _-_, _<_, _≤_}
 use mathlib.Core.List.{List, [], _∷_, _++_}
 use mathlib.Core.Path.{_≡_, refl, sym, _∙_, ap}
@@ -30,7 +30,7 @@ use Rattle.host_answer.specs.declared.numbers.Gain.{Gain}
 use Rattle.host_answer.specs.Numbers.{gainOf}
 use Rattle.host_answer.specs.AnswerBytes.{size, tagged, sizes, pair, numbered, fronted, listed}
 
--- What was put at a place has the width left for it, since the length stays.
+-- What was written between two places has the width between them, since the length of the whole stays.
 pub put-of : (at n : ℕ) (s b d : List ℕ) → at + n ≤ length b → length d ≡ length b
     → d ≡ take at b ++ s ++ drop (at + n) b → Put at n s b d
 put-of at n s b d room same e = record {
@@ -87,7 +87,7 @@ module _ (n : Note) (g : Gain) (rest : ℕ) (b d₁ d₂ d₃ d₄ : List ℕ) (
       behind (omega arith) (put-of 0 66 (numbered n g rest) b d₁ (omega arith) l₁ e₁)
       (put-of 66 17 (savedId x) d₁ d₂ (omega arith) l₂ e₂) .holds ∙ rw eg
 
--- The list beside the answer.
+-- The answer's list.
 module _ (a : List ℕ) (room : size ≤ length a) where
   pub list-none : (d : List ℕ) → d ≡ replicate 1096 0 ++ drop 1096 (take (length a - 83) (drop 83 a))
       → putMid 83 (length a - 83) a d ≡ listed noTable a

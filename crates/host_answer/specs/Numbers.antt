@@ -25,7 +25,7 @@ use Rattle.image.specs.InfoBytes.{noInfo}
 use Rattle.host_answer.specs.declared.numbers.Note.{Note}
 use Rattle.host_answer.specs.declared.numbers.Gain.{Gain}
 
--- The numbers of an operation that goes on, of one that has ended, and of a refusal.
+-- The numbers of a call that goes on or hands out a request, of an operation that has ended, and of a refusal.
 unfoldable pub going : ℕ → ℕ → Note
 going says length = record {
   number = 0;
@@ -122,7 +122,7 @@ unfoldable pub gainOf : Progress → Gain
 gainOf None = record { made = false; done = 0; total = 0 }
 gainOf (Made done total) = record { made = true; done = done; total = total }
 
--- Numbers as an answer: one that stands for no case stands for the last.
+-- Numbers as an answer. A number that names no case is read as the last case listed.
 unfoldable pub heardIn : ℕ → Heard
 heardIn n = cond (eqb n 0) Heard.Nothing
     (cond (eqb n 1) Heard.One (cond (eqb n 2) Heard.TooLong (cond (eqb n 3) Heard.Unaddressed Heard.Garble)))

@@ -1,4 +1,4 @@
-// The bytes of an answer: its numbers, where the record's rest begins, the progress made, the id and the ids beside it.
+// The bytes of an answer: its numbers, the place of the unread rest, the progress made, the id and the list of ids.
 pub mod numbers;
 
 use crate::numbers::Gain;
@@ -21,7 +21,7 @@ pub fn size() -> usize
     1179
 }
 
-// The first 8 bytes.
+// Bytes 0 to 7: which answer it is, and its flags.
 fn write_tags(n: Note, g: Gain, out: &mut [u8])
     requires { ⌜ size ≤ length (now out) ⌝ }
     ensures { λ _. ⌜ now (out .exit) ≡ tagged n g ++ drop 8 (now (out .entry)) ⌝ }
@@ -33,7 +33,7 @@ fn write_tags(n: Note, g: Gain, out: &mut [u8])
     wire::arrays::put_8_bytes(out, 0, x);
 }
 
-// The four numbers of 8 bytes, from 8 on.
+// Bytes 8 to 39: the four numbers of 8 bytes.
 fn write_sizes(n: Note, g: Gain, rest: usize, out: &mut [u8])
     requires { ⌜ size ≤ length (now out) ⌝ }
     ensures { λ _. ⌜ now (out .exit) ≡ take 8 (now (out .entry)) ++ sizes n g rest ++ drop 40 (now (out .entry)) ⌝ }
@@ -44,7 +44,7 @@ fn write_sizes(n: Note, g: Gain, rest: usize, out: &mut [u8])
     wire::put64(out, 32, g.total);
 }
 
-// The two numbers of 4 bytes, from 40 on.
+// Bytes 40 to 47: the two numbers of 4 bytes.
 fn write_pair(n: Note, out: &mut [u8])
     requires { ⌜ size ≤ length (now out) ⌝ }
     ensures { λ _. ⌜ now (out .exit) ≡ take 40 (now (out .entry)) ++ pair n ++ drop 48 (now (out .entry)) ⌝ }
@@ -53,7 +53,7 @@ fn write_pair(n: Note, out: &mut [u8])
     wire::put32(out, 44, n.second);
 }
 
-// The first 66 bytes.
+// Bytes 0 to 65: all numbers of the answer.
 fn write_numbers(n: Note, g: Gain, rest: usize, out: &mut [u8])
     requires { ⌜ size ≤ length (now out) ⌝ }
     ensures { λ _. ⌜ now (out .exit) ≡ numbered n g rest ++ drop 66 (now (out .entry)) ⌝ }
@@ -65,7 +65,7 @@ fn write_numbers(n: Note, g: Gain, rest: usize, out: &mut [u8])
     image::info_bytes::save(out, 48, info);
 }
 
-// The answer but for its list: the numbers and the id.
+// Bytes 0 to 82: the answer without its list.
 pub fn write_front(n: Note, progress: Progress, id: Id, rest: usize, out: &mut [u8])
     requires { ⌜ size ≤ length (now out) ⌝ }
     ensures { λ _. ⌜ now (out .exit) ≡ fronted n progress id rest ++ drop 83 (now (out .entry)) ⌝ }
@@ -75,7 +75,7 @@ pub fn write_front(n: Note, progress: Progress, id: Id, rest: usize, out: &mut [
     host_state::save_id(out, 66, id);
 }
 
-// No list beside the answer.
+// Writes an empty list.
 pub fn no_list(out: &mut [u8])
     requires { ⌜ size ≤ length (now out) ⌝ }
     ensures { λ _. ⌜ now (out .exit) ≡ listed noTable (now (out .entry)) ⌝ }
@@ -83,7 +83,7 @@ pub fn no_list(out: &mut [u8])
     wire::fill(&mut out[83..], 1096, 0);
 }
 
-// The list of a client's bytes as it is handed out, beside the answer.
+// Writes the list of a client's bytes, sorted; an empty one if its count is over 64.
 pub fn write_list(bytes: &[u8], out: &mut [u8])
     requires { ⌜ State.size ≤ length (now bytes) ⌝ }
     requires { ⌜ size ≤ length (now out) ⌝ }

@@ -1,4 +1,4 @@
-// An answer as numbers and flags of fixed widths: what an answer does not have is zero.
+// An answer as numbers and flags of fixed widths. A field that the answer does not have is zero.
 use client::Outcome;
 use client::Progress;
 use client::Refusal;
@@ -11,7 +11,8 @@ ghost use mathlib.Core.Path.{_≡_};
 ghost use Rattle.host_answer.specs.Numbers.{going, ending, refusing, heardTag, hasKey, keyOr0, outcomeNote};
 ghost use Rattle.host_answer.specs.Numbers.{refusalNote, noteOf, gainOf};
 
-// The number is 0, or document 01's. The others say which answer it is, and hold what it carries.
+// `number` is 0, or document 01's number. `says`, `outcome` and `heard` say which answer it is. The rest is what it
+// carries.
 pub struct Note {
     pub number: u8,
     pub says: u8,
@@ -32,7 +33,7 @@ pub struct Gain {
     pub total: u64,
 }
 
-// Of an operation that goes on, with the length of the request granted.
+// The numbers of a call after which the operation goes on, or which hands out a request of this length.
 fn going(says: u8, length: u64) -> Note
     ensures { λ r. ⌜ r ≡ going says length ⌝ }
 {
@@ -51,7 +52,7 @@ fn going(says: u8, length: u64) -> Note
     }
 }
 
-// Of an operation that has ended.
+// The numbers of an operation that has ended.
 fn ending(number: u8, outcome: u8, heard: u8, any: bool, info: Info) -> Note
     ensures { λ r. ⌜ r ≡ ending number outcome heard any info ⌝ }
 {
@@ -69,7 +70,7 @@ fn ending(number: u8, outcome: u8, heard: u8, any: bool, info: Info) -> Note
     }
 }
 
-// Of a refusal, with the length that a buffer lacks and the two numbers that it carries.
+// The numbers of a refusal: the buffer length needed, and the two numbers that it carries.
 fn refusing(number: u8, key: bool, length: u64, first: u32, second: u32) -> Note
     ensures { λ r. ⌜ r ≡ refusing number key length first second ⌝ }
 {

@@ -1,4 +1,4 @@
--- The ways through what an exported call leaves, from the facts that the code has.
+-- Lemmas for what an exported call leaves: one for each path through the code.
 use Prim.Native.Nat.{ℕ, _<_, _≤_}
 use mathlib.Core.Bool.{Bool, true, false, cond}
 use mathlib.Core.List.{List, _++_, append-assoc}
@@ -15,7 +15,7 @@ use Rattle.walk_table.specs.Rows.{noTable, giving}
 use Rattle.walk.specs.declared.Walk.{Walk}
 use Rattle.paper.proofs.Fields.{behind}
 use Rattle.hearing.specs.declared.Heard.{Heard}
-use Rattle.hearing.specs.Heard.{long}
+use Rattle.hearing.specs.Heard.{isLong}
 use Rattle.client.specs.declared.Outcome.the-variants as Outcome
 use Rattle.client.specs.declared.Refusal.the-variants.{LongId}
 use Rattle.client.specs.declared.Progress.the-variants.{None}
@@ -40,7 +40,7 @@ use Rattle.host_answer.specs.AnswerBytes.{fronted, listed, shown}
 use Rattle.host_answer.proofs.Ways.{put-of}
 use Rattle.host_buffers.specs.Hosts.{codeOf, lent, lacks, toldBy, leaves, shows, saidOf}
 
--- Too short, and long enough.
+-- A buffer that is too short, and buffers that are long enough.
 module _ (n m r need : ℕ) where
   pub state-lacks : need ≡ State.size → n < need → r ≡ coded 16 need → r ≡ lacks n m
   unfolding lacks lent
@@ -55,7 +55,7 @@ module _ (n m r need : ℕ) where
   unfolding lacks lent
   lacks-nothing s es e k h = rw (le-ltb n State.size (rw es at k), le-ltb m Answer.size (rw e at h))
 
--- What a lack says of the two lengths.
+-- What the code for short buffers says about the two lengths.
 module _ (b d : Bool) (x y k : ℕ) (e : k ≡ cond b x (cond d y 0)) where
   neither : (x ≡ 0 → ⊥) → (y ≡ 0 → ⊥) → k ≡ 0 → (b ≡ false) × (d ≡ false)
   neither nx ny z = go b d refl refl
@@ -103,7 +103,7 @@ pub lent-enough : {A : Type 0} (n m : ℕ) (short : ℕ → A) (enough : A) → 
 unfolding lent
 lent-enough n m short enough hn hm = rw (le-ltb n State.size hn, le-ltb m Answer.size hm)
 
--- The answer of a call, and the code of it.
+-- The answer of a call, and its code.
 module _ (says : Says) (n : Note) (r : ℕ) (en : n ≡ noteOf says) (er : r ≡ coded (n .number) (n .length))
     (a a₁ a₂ : List ℕ) (room : Answer.size ≤ length a) (l₁ : length a₁ ≡ length a) (l₂ : length a₂ ≡ length a₁) where
   code-is : r ≡ codeOf says
@@ -122,7 +122,7 @@ module _ (says : Says) (n : Note) (r : ℕ) (en : n ≡ noteOf says) (er : r ≡
   unfolding shows
   shows-is x e₁ e₂ = rw (code-is, answered None x 0 noTable e₁ e₂)
 
-  -- What a call leaves, of the client that is told: its front and its walk.
+  -- What a call leaves, from the front and the walk of the client after it.
   module _ (s : List ℕ) (b : Bool) (eb : b ≡ changesNoState (n .number)) where
     changes : b ≡ changesNoState (noteOf says .number)
     changes = eb ∙ ap (λ (m : Note). changesNoState (m .number)) en
@@ -184,7 +184,7 @@ module _ (n : Note) (r : ℕ) (er : r ≡ coded (n .number) (n .length)) (s a a�
         left (o .says) n r en er a a₁ a₂ roomA l₁ l₂ s b eb None noId 0 noTable (o .front) _ s₂ e₁′ e₂
         (rw h (saved-in (o .front) (renewed (o .begins) (o .from) (loadedWalk 87 s)) s s₁ s₂ roomS e₃ e₄))
 
--- The list beside the answer.
+-- The answer's list.
 module _ (c : Change) (s a r : List ℕ) where
   pub list-none : (x : Touch) → c .touch ≡ x → given (still x) (loaded s .walk) ≡ noTable → r ≡ listed noTable a
       → r ≡ listed (given c (loaded s .walk)) a
@@ -197,7 +197,7 @@ module _ (c : Change) (s a r : List ℕ) where
   list-given e h = h ∙ rw e
 
 -- What was heard.
-module _ (h : Heard) (b : Bool) (e : b ≡ long h) where
+module _ (h : Heard) (b : Bool) (e : b ≡ isLong h) where
   pub said-long : b ≡ true → Refused LongId ≡ saidOf h
   unfolding saidOf
   said-long t = rw (sym e ∙ t)

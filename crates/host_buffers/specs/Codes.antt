@@ -1,4 +1,4 @@
--- The codes that exported calls return, and what they say of ids, texts and keys.
+-- The codes that exported calls return: for answers, ids, texts and keys.
 use Prim.Native.Nat.{ℕ, _+_, _*_, _%_}
 use mathlib.Core.Bool.{cond}
 use mathlib.Core.List.{List, _++_}
@@ -15,16 +15,16 @@ use Rattle.text.specs.Texts as Texts
 use Rattle.image.specs.declared.Compat.{Compat}
 use Rattle.image.specs.declared.Compat.the-variants.{Key, Missing}
 
--- A number in the low byte, and a length above it. No length of an answer reaches 2 ^ 56.
+-- A code: the number in the low byte, the length above it. The length of every answer is below 2 ^ 56.
 unfoldable pub coded : ℕ → ℕ → ℕ
 coded number length = number + 256 * (length % 0x100000000000000)
 
--- The code, and a buffer after the call.
+-- A code, and the output buffer after the call.
 pub record Coded : Type 0 where
   pub code : ℕ
   pub bytes : List ℕ
 
--- Ids as text.
+-- Ids as text, and texts as ids.
 unfoldable pub writtenCode : Written → ℕ
 writtenCode (Done n) = coded 0 n
 writtenCode (Short n) = coded 16 n
@@ -46,11 +46,11 @@ readAs BadText x out = record { code = coded 22 0; bytes = out }
 unfoldable pub readUid : Parsed → List ℕ → Coded
 readUid p out = readAs (p .answer) (p .id) out
 
--- A key, with a bit above it that says that there is one.
+-- A key, with bit 32 set to say that there is one.
 unfoldable pub keyCode : Compat → ℕ
 keyCode (Key k) = k + 0x100000000
 keyCode Missing = 0
 
--- Where the unread rest begins, in bytes of some length.
+-- The place where the unread rest of a record of n bytes begins, at most n.
 unfoldable pub restFrom : ℕ → ℕ → ℕ
 restFrom n at = cond (ltb at n) at n

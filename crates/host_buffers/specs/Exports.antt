@@ -1,5 +1,5 @@
--- Each exported call, of the buffers lent to it and its arguments, in the header's order: its code and every byte after
--- it. The contracts of `fahireky` and what is promised of the exports both cite these.
+-- Each exported call as a function of its buffers and arguments, in the header's order: its code, and every byte after
+-- it. The contracts of `fahireky` and the promises about the exports both cite these.
 use Prim.Native.Nat.{ℕ}
 use mathlib.Core.Bool.{Bool}
 use mathlib.Core.List.{List}

@@ -1,4 +1,4 @@
--- What each exported call makes of the buffers that a host lends, and the code that it returns.
+-- How each exported call changes the buffers that a host lends, and the code that it returns.
 use Prim.Native.Nat.{ℕ}
 use mathlib.Core.Bool.{cond}
 use mathlib.Core.List.{List, _++_}
@@ -9,7 +9,7 @@ use Rattle.ids.specs.Ids.{noId}
 use Rattle.walk_table.specs.Rows.{noTable}
 use Rattle.hearing.specs.declared.Heard.{Heard}
 use Rattle.hearing.specs.declared.Hearing.{Hearing}
-use Rattle.hearing.specs.Heard.{long}
+use Rattle.hearing.specs.Heard.{isLong}
 use Rattle.client.specs.declared.Client.{Client}
 use Rattle.client.specs.declared.Outcome.the-variants as Outcome
 use Rattle.client.specs.declared.Refusal.the-variants.{LongId}
@@ -32,7 +32,7 @@ use Rattle.host_answer.specs.AnswerBytes.{shown}
 unfoldable pub codeOf : Says → ℕ
 codeOf says = coded (noteOf says .number) (noteOf says .length)
 
--- A state of n bytes and an answer of m: the first that is too short is refused with the length that it lacks.
+-- A state of n bytes and an answer's buffer of m: the first that is too short is refused with 16 and the length needed.
 unfoldable pub lent : {A : Type 0} → ℕ → ℕ → (ℕ → A) → A → A
 lent n m short enough = cond (ltb n State.size) (short (coded 16 State.size))
     (cond (ltb m Answer.size) (short (coded 16 Answer.size)) enough)
@@ -40,25 +40,25 @@ lent n m short enough = cond (ltb n State.size) (short (coded 16 State.size))
 unfoldable pub lacks : ℕ → ℕ → ℕ
 lacks n m = lent n m (λ code. code) 0
 
--- The code, and the state and the answer after the call.
+-- The code, and the state and the answer's buffer after the call.
 pub record Exported : Type 0 where
   pub code : ℕ
   pub state : List ℕ
   pub answer : List ℕ
 
--- With the request's buffer.
+-- The same, with the request buffer.
 pub record Requested : Type 0 where
   pub code : ℕ
   pub state : List ℕ
   pub buffer : List ℕ
   pub answer : List ℕ
 
--- The answer that has nothing beside it.
+-- The answer of a start or a request: it has no rest, progress, id or list.
 unfoldable pub toldBy : Started → Told
 toldBy s = record { says = s .says; client = s .client; rest = 0; progress = None; id = noId; found = noTable }
 
--- What a call leaves: its answer written, and the client saved; after a refusal that changes no state, that state, byte
--- for byte.
+-- What a call leaves: its answer is written, and the client is saved. After a refusal that changes no state, the state
+-- is as it was, byte for byte.
 unfoldable pub leaves : Told → List ℕ → List ℕ → Exported
 leaves t s a = record {
   code = codeOf (t .says);
@@ -84,7 +84,7 @@ requests image s b a =
     lent (length s) (length a) (λ code. record { code = code; state = s; buffer = b; answer = a })
     (asks (request (loaded s) image b) s a)
 
--- An answer alone, with the id beside it.
+-- Only an answer, with an id.
 unfoldable pub shows : Says → Id → List ℕ → Coded
 shows says x a = record { code = codeOf says; bytes = shown says None x noTable 0 ++ drop Answer.size a }
 
@@ -95,9 +95,9 @@ unfoldable pub views : List ℕ → List ℕ → Coded
 views s a = lent (length s) (length a) (λ code. record { code = code; bytes = a })
     (showsAttached (attached (loaded s)) a)
 
--- What a plain select that heard so much ends with.
+-- The answer of a plain select that heard h.
 unfoldable pub saidOf : Heard → Says
-saidOf h = cond (long h) (Refused LongId) (Over (Outcome.Heard h))
+saidOf h = cond (isLong h) (Refused LongId) (Over (Outcome.Heard h))
 
 unfoldable pub hearsOut : Hearing → List ℕ → Coded
 hearsOut x a = lent State.size (length a) (λ code. record { code = code; bytes = a })

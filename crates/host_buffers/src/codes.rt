@@ -1,4 +1,4 @@
-// The codes that exported calls return, and ids as text and as bytes behind them.
+// The codes that exported calls return: for answers, for ids as text and as bytes, and for keys.
 use ids::Id;
 use image::Compat;
 use text::Parse;
@@ -7,7 +7,7 @@ use wire::Written;
 ghost use mathlib.Core.Path.{_≡_};
 ghost use Rattle.host_buffers.specs.Codes.{coded, writtenCode, putUid, readUid, keyCode};
 
-// A number in the low byte, and a length above it.
+// A code: the number in the low byte, the length above it.
 pub fn coded(number: u8, length: u64) -> u64
     ensures { λ r. ⌜ r ≡ coded number length ⌝ }
 {
@@ -25,7 +25,7 @@ pub fn written_code(w: Written) -> u64
     }
 }
 
-// An id's bytes at the front of a lent buffer.
+// Copies an id's bytes to the front of the buffer, or refuses with the length needed.
 fn put_uid(x: Id, out: &mut [u8]) -> u64
     ensures { λ r. ⌜ record { code = r; bytes = now (out .exit) } ≡ putUid x (now (out .entry)) ⌝ }
 {
@@ -38,7 +38,7 @@ fn put_uid(x: Id, out: &mut [u8]) -> u64
     coded(0, n as u64)
 }
 
-// The id that a text was read as.
+// The code of a text that was parsed; the id goes to the front of the buffer.
 pub fn read_uid(p: Parsed, out: &mut [u8]) -> u64
     ensures { λ r. ⌜ record { code = r; bytes = now (out .exit) } ≡ readUid p (now (out .entry)) ⌝ }
 {
@@ -50,7 +50,7 @@ pub fn read_uid(p: Parsed, out: &mut [u8]) -> u64
     }
 }
 
-// A key, with a bit above it that says that there is one.
+// A key, with bit 32 set to say that there is one.
 pub fn key_code(k: Compat) -> u64
     ensures { λ r. ⌜ r ≡ keyCode k ⌝ }
 {

@@ -1,4 +1,4 @@
-// What an exported call makes of the buffers that a host lends, and the code that it returns.
+// How an exported call changes the buffers that a host lends, and the code that it returns.
 pub mod codes;
 
 use client::Change;
@@ -22,7 +22,7 @@ ghost use Rattle.host_answer.specs.AnswerBytes as Answer;
 ghost use Rattle.host_answer.specs.AnswerBytes.{listed};
 ghost use Rattle.host_buffers.specs.Hosts.{lacks, leaves, toldBy, shows, saidOf};
 
-// The code of a state or an answer, of so many bytes, that is too short; 0 if neither is.
+// The code for a state or an answer's buffer of these lengths that is too short; 0 if both are long enough.
 pub fn lacks(state: usize, answer: usize) -> u64
     ensures { λ r. ⌜ r ≡ lacks state answer ⌝ }
 {
@@ -37,7 +37,7 @@ pub fn lacks(state: usize, answer: usize) -> u64
     0
 }
 
-// The list beside the answer, as a change of the walk gives it.
+// Writes the answer's list: the walk's, if the change gives it; else an empty one.
 fn lists(change: Change, state: &[u8], answer: &mut [u8])
     requires { ⌜ State.size ≤ length (now state) ⌝ }
     requires { ⌜ Answer.size ≤ length (now answer) ⌝ }
@@ -54,8 +54,8 @@ fn lists(change: Change, state: &[u8], answer: &mut [u8])
     }
 }
 
-// The answer written, and the client's front and the change of its walk saved; after a refusal that changes no state,
-// the state is not touched.
+// Writes the answer, then saves the client's front and the change of its walk. After a refusal that changes no state,
+// the state is not written.
 pub fn told(v: Verdict, state: &mut [u8], answer: &mut [u8]) -> u64
     requires { ⌜ State.size ≤ length (now state) ⌝ }
     requires { ⌜ Bytes (now state) ⌝ }
@@ -80,7 +80,7 @@ pub fn told(v: Verdict, state: &mut [u8], answer: &mut [u8]) -> u64
     code
 }
 
-// The same of a start or a request: nothing stands beside the answer.
+// The same for a start or a request: its answer has no progress, id or list.
 pub fn started(o: Opening, state: &mut [u8], answer: &mut [u8]) -> u64
     requires { ⌜ State.size ≤ length (now state) ⌝ }
     requires { ⌜ Bytes (now state) ⌝ }
@@ -104,7 +104,7 @@ pub fn started(o: Opening, state: &mut [u8], answer: &mut [u8]) -> u64
     code
 }
 
-// The answer written alone, with the id beside it.
+// Writes only an answer, with an id.
 pub fn shows(says: Says, id: Id, answer: &mut [u8]) -> u64
     requires { ⌜ Answer.size ≤ length (now answer) ⌝ }
     ensures { λ r. ⌜ record { code = r; bytes = now (answer .exit) } ≡ shows says id (now (answer .entry)) ⌝ }
@@ -115,11 +115,11 @@ pub fn shows(says: Says, id: Id, answer: &mut [u8]) -> u64
     crate::codes::coded(n.number, n.length)
 }
 
-// What a plain select that heard so much ends with.
+// The answer of a plain select that heard `h`.
 pub fn said_of(h: Heard) -> Says
     ensures { λ r. ⌜ r ≡ saidOf h ⌝ }
 {
-    if hearing::long(h) {
+    if hearing::is_long(h) {
         return Says::Refused(Refusal::LongId);
     }
     Says::Over(Outcome::Heard(h))

@@ -1,4 +1,4 @@
--- The ways through the changes of a client's bytes in place, from the facts that the code has.
+-- Lemmas for the functions that change a client's bytes in place: one for each path through the code.
 use Prim.Native.Nat.{ℕ, _+_, _-_, _<_, _≤_}
 use mathlib.Core.Bool.{Bool, true, false, not}
 use mathlib.Core.List.{List, _++_, append-assoc}
@@ -31,7 +31,7 @@ use Rattle.host_state.specs.State.{withWalk}
 use Rattle.host_state.proofs.Ways.{table-length}
 use Rattle.host_state.proofs.Laws.{table-zero, table-same, walk-stays, placed-in}
 
--- A list of n elements at the front of a part that was lent.
+-- Writing n elements to the front of a part that was lent.
 pub part-put : (at n : ℕ) (x b d : List ℕ) → length x ≡ n → d ≡ x ++ drop n (take (length b - at) (drop at b))
     → Put at n x b (putMid at (length b - at) b d)
 part-put at n x b d h e = record {
@@ -70,7 +70,7 @@ module _ (s : List ℕ) where
       row-sized n h = put-sized (tableIn (drop 239 s) 0)
           (sized-in (drop 239 s) 0 (omega (arith, length-drop 239 s))) x hx n h
 
-      -- The row set is the list's, with its count beside it.
+      -- The bytes of the list with the row set, and its new count after them.
       row-saved : (n : ℕ) → n ≡ list .count → n < 64
           → savedTable (keeping list x) ≡ rowBytes (put (tableIn (drop 239 s) 0) n x) ++ le 8 (n + 1)
       unfolding keeping keep put rowBytes tableIn savedTable loadedTable

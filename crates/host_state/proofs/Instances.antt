@@ -1,4 +1,4 @@
--- What meets the premises: each theorem with a premise, applied to values that meet it.
+-- Examples: each theorem with a premise, applied to values that meet it.
 use Prim.Native.Nat.{ℕ, zero, suc, _<_}
 use mathlib.Core.Bool.{true, false}
 use mathlib.Core.List.{List, [], _∷_, _++_}
@@ -18,7 +18,7 @@ use Rattle.host_turn.proofs.Laws.{selecting-fits}
 use Rattle.host_state.specs.State.{saved, loaded, IdFits, Fits}
 use Rattle.host_state.proofs.Laws.{saved-length, loaded-saved, loaded-fits, fresh-fits}
 
--- A client of the last seed that holds the id C1 07 and whose attach to C1 is out.
+-- A client with seed 255 and the attached id C1 07, whose Select for an attach to C1 is out.
 abbrev pub seeking : Client
 seeking = record {
   seed = 255;
@@ -52,7 +52,7 @@ saved-length-met = saved-length seeking seeking-fits
 pub loaded-saved-met : loaded (saved seeking ++ (0x99 ∷ [])) ≡ seeking
 loaded-saved-met = loaded-saved seeking seeking-fits (0x99 ∷ [])
 
--- Bytes that no client was saved in.
+-- Bytes that were not saved from a client.
 pub loaded-fits-met : Fits (loaded (replicate 1353 0x99))
 loaded-fits-met = loaded-fits (replicate 1353 0x99) (filled 0x99 1353 (omega arith))
     (omega (arith, length-replicate {A = ℕ} 1353 0x99))

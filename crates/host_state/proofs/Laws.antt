@@ -1,4 +1,4 @@
--- For the users of a saved client: what was saved is loaded, all zero is a fresh client, and any bytes are a client
+-- Laws of a saved client: loading returns what was saved, zero bytes are a fresh client, and any bytes hold a client
 -- that fits.
 use Prim.Native.Nat.{ℕ, zero, suc, _+_, _≤_}
 use mathlib.Core.Bool.{false}
@@ -30,7 +30,7 @@ use Rattle.host_state.specs.State.{withTable, withPlace, loadedId, loade
 use Rattle.host_state.specs.State.{TableFits, WalkFits, Fits}
 use Rattle.host_state.proofs.Ways.{id-length, table-length, walk-length, head-length, front-length}
 
--- How long.
+-- The length of what is saved.
 module _ (c : Client) (h : Fits c) where
   walk-sized : length (savedWalk (c .walk)) ≡ 1265
   walk-sized =
@@ -47,7 +47,7 @@ module _ (c : Client) (h : Fits c) where
   saved-length = joined-length ((1265, savedWalk (c .walk)) ∷ []) (savedFront (frontOf c)) 87 front-sized
       (walk-sized, tt)
 
--- What was saved is found again.
+-- Loading returns what was saved.
 module _ (at : ℕ) (b : List ℕ) where
   pub id-back : (x : Id) → IdFits x → take 17 (drop at b) ≡ savedId x → loadedId at b ≡ x
   unfolding savedId loadedId
@@ -114,7 +114,7 @@ client-back c b h e =
 pub loaded-saved : (c : Client) → Fits c → (more : List ℕ) → loaded (saved c ++ more) ≡ c
 loaded-saved c h more = client-back c (saved c ++ more) h (take-at (saved c) more size (saved-length c h))
 
--- Any bytes are a client that fits.
+-- Any bytes hold a client that fits.
 module _ (b : List ℕ) (hb : Bytes b) where
   array-fits : (n at : ℕ) → at + n ≤ length b → Array n (take n (drop at b))
   array-fits n at room = (
@@ -157,7 +157,7 @@ module _ (b : List ℕ) (hb : Bytes b) where
     walk = walk-fits 87 (omega arith);
   }
 
--- A fresh client is all zero.
+-- A fresh client is saved as zero bytes.
 pub zero-bytes : (n : ℕ) → Bytes (replicate n 0)
 zero-bytes zero = tt
 zero-bytes (suc n) = (omega arith, zero-bytes n)
@@ -222,7 +222,7 @@ fresh-fits = record {
 pub zero-is-fresh : loaded (replicate size 0) ≡ fresh
 zero-is-fresh = ap loaded (sym (append-nil (saved fresh) ∙ fresh-is-zero)) ∙ loaded-saved fresh fresh-fits []
 
--- Bytes that were loaded are saved as they were.
+-- Saving what was loaded returns the same bytes.
 parts : (at n m : ℕ) (b : List ℕ) → take (n + m) (drop at b) ≡ take n (drop at b) ++ take m (drop (at + n) b)
 parts at n m b = take-add n m (drop at b) ∙ ap (λ (s : List ℕ). take n (drop at b) ++ take m s) (drop-drop n at b)
 
@@ -255,7 +255,7 @@ module _ (b : List ℕ) (hb : Bytes b) where
   unfolding withWalk
   walk-stays h = own 87 1265 b h .holds ∙ ap (λ (s : List ℕ). take 87 b ++ s ++ drop size b) (sym (walk-same h))
 
--- Another list, then another place.
+-- Writing another list and then another place is writing another walk.
 module _ (s s₁ : List ℕ) (p : Place) (t : Table) (room : size ≤ length s) (h : length (savedTable t) ≡ 1096)
     (e : s₁ ≡ withTable t s) where
   put : Put 239 1096 (savedTable t) s s₁

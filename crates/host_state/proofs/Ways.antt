@@ -1,4 +1,4 @@
--- The ways through the readers and writers of a client, from the facts that the code has.
+-- Lemmas for the functions that load and save a client: one for each path through the code.
 use Prim.Native.Nat.{ℕ, suc, _+_, _≤_}
 use mathlib.Core.List.{List, [], _∷_, _++_}
 use mathlib.Core.Path.{_≡_, refl, _∙_}
@@ -24,7 +24,7 @@ use Rattle.host_turn_bytes.proofs.Laws.{flat-length}
 use Rattle.host_state.specs.State.{size, savedId, savedTable, savedWalk, savedHead, savedFront, withPlace}
 use Rattle.host_state.specs.State.{loadedId, loadedTable, loadedWalk, loaded}
 
--- Loaded.
+-- Loading.
 module _ (at : ℕ) (b : List ℕ) where
   pub id-loaded : (x : List ℕ) → x ≡ take 16 (drop at b)
       → _≡_ {A = Id} (record { bytes = x; len = byte (at + 16) b }) (loadedId at b)
@@ -56,7 +56,7 @@ module _ (b : List ℕ) where
   unfolding loaded loadedWalk loadedTable
   count-loaded n e = e
 
-  -- Every element read of a slice of bytes is one.
+  -- If every element of a list fits 8 bits, the list consists of bytes.
   pub all-bytes : ((k : ℕ) → Fits w8 (getD b k 0)) → Bytes b
   all-bytes = go b
     where
@@ -64,7 +64,7 @@ module _ (b : List ℕ) where
       go [] h = tt
       go (x ∷ s) h = (h 0 .fits, go s (λ k. h (suc k)))
 
--- How long each is.
+-- The length of each part.
 pub id-length : (x : Id) → length (x .bytes) ≡ 16 → length (savedId x) ≡ 17
 unfolding savedId
 id-length x h = joined-length ((1, x .len ∷ []) ∷ []) (x .bytes) 16 h (refl, tt)
@@ -96,7 +96,7 @@ module _ (f : Front) where
   front-length h k = joined-length ((17, savedId (f .prefix)) ∷ (1, f .bits ∷ []) ∷ []) (savedHead f) 69 h
       (k, (refl, tt))
 
--- Saved.
+-- Saving.
 pub put-id : (at : ℕ) (b d₁ d₂ : List ℕ) (x : Id) → length (x .bytes) ≡ 16 → at + 17 ≤ length b
     → d₁ ≡ take at b ++ x .bytes ++ drop (at + 16) b
     → d₂ ≡ take (at + 16) d₁ ++ (x .len ∷ []) ++ drop (at + 16 + 1) d₁ → d₂ ≡ take at b ++ savedId x ++ drop (at + 17) b

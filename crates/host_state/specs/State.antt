@@ -1,5 +1,4 @@
--- The client as bytes: its fields in their order, each in its width, lowest byte first; and the client that any bytes
--- hold.
+-- The client as bytes, its fields in order, each in its width, lowest byte first; and the client that any bytes hold.
 use Prim.Native.Nat.{ℕ, _+_, _<_, _^_}
 use mathlib.Core.List.{List, [], _∷_, _++_}
 use mathlib.Core.Path.{_≡_}
@@ -21,14 +20,14 @@ use Rattle.host_turn_bytes.specs.TurnBytes.{flag, flagged, savedFlat, loadedFla
 abbrev pub size : ℕ
 size = 1352
 
--- The bytes of an id are 17, of a table 1096, of a walk 1265, of a front 87, of which 69 come before the prefix.
+-- Sizes in bytes: an id 17, a table 1096, a walk 1265, a front 87, of which 69 come before the prefix.
 unfoldable pub savedId : Id → List ℕ
 savedId x = x .bytes ++ (x .len ∷ [])
 
 unfoldable pub savedTable : Table → List ℕ
 savedTable t = t .ids ++ t .lens ++ le 8 (t .count)
 
--- A place, around the bytes of a list.
+-- A walk's bytes, from its place and the bytes of its list.
 abbrev pub savedPlace : Place → List ℕ → List ℕ
 savedPlace p list = p .path ++ le 8 (p .depth) ++ p .marks ++ list ++ savedId (p .candidate)
 
@@ -44,7 +43,7 @@ savedFront f = savedHead f ++ savedId (f .prefix) ++ (f .bits ∷ [])
 unfoldable pub saved : Client → List ℕ
 saved c = savedFront (frontOf c) ++ savedWalk (c .walk)
 
--- What stands in bytes from a place on.
+-- What is read from a place in some bytes.
 unfoldable pub loadedId : ℕ → List ℕ → Id
 loadedId at b = record { bytes = take 16 (drop at b); len = byte (at + 16) b }
 
@@ -76,8 +75,7 @@ loaded b = record {
   walk = loadedWalk 87 b;
 }
 
--- A client's bytes with another walk; with another list, all else as it is; with another place of the walk, the list as
--- it is.
+-- A client's bytes with another walk; with another list; with another place of the walk. All other bytes stay.
 unfoldable pub withWalk : Walk → List ℕ → List ℕ
 withWalk w s = take 87 s ++ savedWalk w ++ drop size s
 
@@ -87,7 +85,7 @@ withTable t s = take 239 s ++ savedTable t ++ drop 1335 s
 unfoldable pub withPlace : Place → List ℕ → List ℕ
 withPlace p s = take 87 s ++ savedPlace p (take 1096 (drop 239 s)) ++ drop size s
 
--- What the types of a client's fields give.
+-- The ranges of a client's fields, as their types give them.
 abbrev pub Array : ℕ → List ℕ → Type 0
 Array n x = (length x ≡ n) × Bytes x
 

@@ -1,5 +1,5 @@
-// The client in a buffer of a fixed number of bytes: its front and its walk's place loaded and saved, its list touched
-// in place. Any bytes are some client, and all zero is a fresh one.
+// The client in 1,352 bytes: its front and its walk's place are loaded and saved, its list is changed in place.
+// Any bytes hold some client, and zero bytes hold a fresh one.
 use client::Change;
 use client::Front;
 use client::Touch;
@@ -35,7 +35,8 @@ fn load_id(bytes: &[u8], at: usize) -> Id
     }
 }
 
-// The front of the client that some bytes hold. What was lent is bytes.
+// The front of the client that some bytes hold. The second fact, that a lent slice consists of bytes, is for its
+// callers.
 pub fn load_front(bytes: &[u8]) -> Front
     requires { ⌜ size ≤ length (now bytes) ⌝ }
     ensures { λ r. ⌜ r ≡ frontOf (loaded (now (bytes .entry))) ⌝ }
@@ -54,7 +55,7 @@ pub fn load_front(bytes: &[u8]) -> Front
     }
 }
 
-// The place of its walk.
+// The place of the client's walk.
 pub fn load_place(bytes: &[u8]) -> Place
     requires { ⌜ size ≤ length (now bytes) ⌝ }
     ensures { λ r. ⌜ r ≡ placeOf (loaded (now (bytes .entry)) .walk) ⌝ }
@@ -70,7 +71,7 @@ pub fn load_place(bytes: &[u8]) -> Place
     }
 }
 
-// How many ids its list holds.
+// How many ids the walk's list holds.
 pub fn count(bytes: &[u8]) -> usize
     requires { ⌜ size ≤ length (now bytes) ⌝ }
     ensures { λ r. ⌜ r ≡ loaded (now (bytes .entry)) .walk .found .count ⌝ }
@@ -89,7 +90,7 @@ pub fn save_id(bytes: &mut [u8], at: usize, x: Id)
     wire::put8(bytes, at + 16, x.len);
 }
 
-// What comes before the prefix.
+// Saves what comes before the prefix: the seed, the attached id and the turn.
 fn save_head(f: Front, bytes: &mut [u8])
     requires { ⌜ size ≤ length (now bytes) ⌝ }
     ensures { λ _. ⌜ now (bytes .exit) ≡ savedHead f ++ drop 69 (now (bytes .entry)) ⌝ }
@@ -104,7 +105,7 @@ fn save_head(f: Front, bytes: &mut [u8])
     host_turn_bytes::save_flat(bytes, 19, x);
 }
 
-// A client's front at the front of the buffer.
+// Saves a client's front to the first 87 bytes.
 pub fn save_front(f: Front, bytes: &mut [u8])
     requires { ⌜ size ≤ length (now bytes) ⌝ }
     ensures { λ _. ⌜ now (bytes .exit) ≡ savedFront f ++ drop 87 (now (bytes .entry)) ⌝ }
@@ -116,7 +117,7 @@ pub fn save_front(f: Front, bytes: &mut [u8])
     wire::put8(bytes, 86, f.bits);
 }
 
-// The walk's place, with the list as it is.
+// Saves the walk's place; the list stays as it is.
 fn save_place(p: Place, bytes: &mut [u8])
     requires { ⌜ size ≤ length (now bytes) ⌝ }
     ensures { λ _. ⌜ now (bytes .exit) ≡ withPlace p (now (bytes .entry)) ⌝ }
@@ -130,7 +131,7 @@ fn save_place(p: Place, bytes: &mut [u8])
     save_id(bytes, 1335, candidate);
 }
 
-// An entry more in the list, while there is room.
+// Adds an entry to the list, if there is room.
 fn keep(entry: Entry, bytes: &mut [u8])
     requires { ⌜ size ≤ length (now bytes) ⌝ }
     requires { ⌜ Bytes (now bytes) ⌝ }
@@ -145,7 +146,7 @@ fn keep(entry: Entry, bytes: &mut [u8])
     wire::put64(bytes, 1327, n as u64 + 1);
 }
 
-// No ids.
+// Empties the list.
 fn clear(bytes: &mut [u8])
     requires { ⌜ size ≤ length (now bytes) ⌝ }
     ensures { λ _. ⌜ now (bytes .exit) ≡ withTable noTable (now (bytes .entry)) ⌝ }
@@ -153,7 +154,7 @@ fn clear(bytes: &mut [u8])
     wire::fill(&mut bytes[239..], 1096, 0);
 }
 
-// The walk after a start or a request.
+// The walk after a start or a request: a new one under the prefix `from`, or as it was.
 pub fn renew(begins: bool, from: Id, bytes: &mut [u8])
     requires { ⌜ size ≤ length (now bytes) ⌝ }
     requires { ⌜ Bytes (now bytes) ⌝ }
@@ -167,7 +168,7 @@ pub fn renew(begins: bool, from: Id, bytes: &mut [u8])
     save_place(walk::begin(from), bytes);
 }
 
-// The walk after a record.
+// The walk after a record, changed as the verdict says.
 pub fn apply(change: Change, bytes: &mut [u8])
     requires { ⌜ size ≤ length (now bytes) ⌝ }
     requires { ⌜ Bytes (now bytes) ⌝ }

@@ -42,7 +42,7 @@ shown-length t h =
     (numbered (noteOf (t .says)) (gainOf (t .progress)) (t .rest)) 66 (numbers-length _ _ (t .rest))
     (id-length (t .id) (h .id .bytes .0), (table-length (t .found) (h .found .ids .0) (h .found .lens .0), tt))
 
--- The numbers.
+-- The numbers of an answer are read back.
 module _ (n : Note) (g : Gain) (rest : ℕ) (b : List ℕ) (hn : NoteFits n) (hg : GainFits g) (hr : rest < 2 ^ 64)
     (e : take 66 (drop 0 b) ≡ numbered n g rest) where
   numbers-back : (loadedNote b ≡ n) × ((loadedGain b ≡ g) × (field 8 8 b ≡ rest))
@@ -78,7 +78,7 @@ module _ (n : Note) (g : Gain) (rest : ℕ) (b : List ℕ) (hn : NoteFits n) (hg
         ),
       )
 
--- The answer's bytes, whatever follows.
+-- An answer is read back from its bytes, whatever follows.
 module _ (t : Told) (h : ToldFits t) (b : List ℕ)
     (e : take size (drop 0 b) ≡ shown (t .says) (t .progress) (t .id) (t .found) (t .rest)) where
   parts : (take 66 (drop 0 b) ≡ numbered (noteOf (t .says)) (gainOf (t .progress)) (t .rest))
@@ -113,7 +113,7 @@ module _ (t : Told) (h : ToldFits t) (b : List ℕ)
   pub beside-found : loadedTable 83 b ≡ t .found
   beside-found = table-back 83 b (t .found) (h .found) (parts .1 .1)
 
--- All that a call leaves, where the state after it holds the client.
+-- Everything that a call leaves is read back, if the state after it holds the client.
 module _ (m : Made) (f : ToldFits (m .told)) (s a : List ℕ) where
   abbrev written : List ℕ
   written = shown (m .told .says) (m .told .progress) (m .told .id) (m .told .found) (m .told .rest)

@@ -1,4 +1,4 @@
--- An array of bytes stays one: a byte set, a bit set, the first bits alone; and an id of bytes fits.
+-- An array of bytes stays one when a byte or a bit is set, or when it is cut after k bits. An id of bytes fits.
 use Prim.Native.Nat.{ℕ, zero, suc, _-_, _/_, _%_, _^_, _<_, _≤_}
 use mathlib.Core.Bool.{Bool, true, false, cond}
 use mathlib.Core.List.{List, [], _∷_}
@@ -24,7 +24,7 @@ use Rattle.hearing.specs.declared.Hearing.{Hearing}
 use Rattle.host_state.specs.State.{Array, IdFits}
 use Rattle.host_state.proofs.Laws.{zero-bytes, no-id-fits}
 
--- What holds of both, each where the test chooses it, holds of the one chosen.
+-- To show P of a choice, show it of each side under its condition.
 pub chosen : {A : Type 0} (P : A → Type 0) (b : Bool) (x y : A) → (b ≡ true → P x) → (b ≡ false → P y) → P (cond b x y)
 chosen P true x y p q = p refl
 chosen P false x y p q = q refl
@@ -62,7 +62,7 @@ id-from-fits id short h = record {
   len = omega arith;
 }
 
--- The id that is heard in bytes.
+-- The id heard in some bytes.
 pub heard-fits : (bytes : List ℕ) → Bytes bytes → IdFits (shownHeard (hear bytes) .id)
 unfolding oneHeard
 heard-fits bytes h = go (hear bytes) (heard-bytes bytes h)

@@ -1,4 +1,4 @@
--- The exported calls chain: over any calls each leaves and answers what the client's own call does on the client
+-- The exported calls chain: over any calls, each leaves and answers what the client's own call does, on the client
 -- reached so far.
 use Prim.Native.Nat.{ℕ, _≤_}
 use mathlib.Core.List.{List, [], _∷_, _++_, map}
@@ -34,7 +34,7 @@ use Rattle.host_theory.proofs.ClientFits.{StartedFits, ToldFits, select
 use Rattle.host_theory.proofs.ClientFits.{attach-to-fits, discover-fits, info-fits, erase-fits, flash-fits}
 use Rattle.host_theory.proofs.ClientFits.{reset-fits, set-baud-fits, request-fits, record-fits, failed-fits}
 
--- What a call tells fits.
+-- The answer of each call fits.
 started-fits : (s : Started) → StartedFits s → ToldFits (toldBy s)
 unfolding toldBy
 started-fits s h = record {
@@ -62,7 +62,7 @@ made-fits c h (request image buffer) g l = started-fits _ (request-fits c h imag
 made-fits c h (record′ image bytes) g l = record-fits c h image bytes (l .0 .0) (l .1) (l .0 .1) g
 made-fits c h linkFailed g l = failed-fits c h
 
--- The client after a call is the one that the call leads to, and its answer is read as that call's.
+-- `made` and `codeCall` agree: on the client after a call, and on its answer.
 made-call : (c : Client) (call : Call)
     → (made c call .told .client ≡ (codeCall c call) .1) × (readAs (made c call) ≡ codeAnswer (codeCall c call))
 unfolding made codeCall toldBy readAs
@@ -87,7 +87,7 @@ exported-held s a whole room call =
     exported-lent s a call ∙ sym (lent-enough (length s) (length a) (unheld s a call)
     (held s a (made (loaded s) call)) whole room)
 
--- A state that holds a client that fits, with these bytes behind it.
+-- A state that holds a client that fits, with these bytes after it.
 pub record Holds (s : List ℕ) (c : Client) (more : List ℕ) : Type 0 where
   pub whole : State.size ≤ length s
   pub client : loaded s ≡ c
@@ -102,7 +102,7 @@ saved-holds c h more = record {
   behind = drop-at (saved c) more State.size (saved-length c h);
 }
 
--- One exported call on it, and the state after it.
+-- One exported call on such a state, and the state after it.
 module _ (s : List ℕ) (c : Client) (more : List ℕ) (h : Holds s c more) (x : Lending) (k : Fair x) where
   pub told-fits : ToldFits (made c (x .call) .told)
   told-fits = made-fits c (h .fits) (x .call) (k .bytes) (k .lengths)
@@ -144,7 +144,7 @@ state-held (x ∷ xs) s c more h ks =
     (made-call c (x .call) .0)
     (state-held xs (n .state) (made c (x .call) .told .client) more (holds-after s c more h x (ks .0)) (ks .1)))
 
--- What a host reads after each is the client's own answer; the code; and what stands behind.
+-- After each call: what a host reads is the client's own answer; its code; and the bytes after state and answer.
 module _ (more : List ℕ) where
   reads-held : (xs : List Lending) (s : List ℕ) (c : Client) → Holds s c more → All Fair xs
       → map readFrom (heldBy s c xs) ≡ codeAnswers c (map (λ x. x .call) xs)
@@ -175,7 +175,7 @@ module _ (more : List ℕ) where
       ap₂ _∷_ (held-behind (made c (x .call)) (told-fits s c more h x (ks .0)) s (x .answer) more (k .behind))
       (behind-held xs (held s (x .answer) (made c (x .call)) .state) (made c (x .call) .told .client) k (ks .1))
 
--- The attached id of such a state.
+-- The attached id in such a state.
 pub views-held : (s : List ℕ) (c : Client) (more a : List ℕ) → Holds s c more → Answers.size ≤ length a
     → views s a ≡ showsAttached (attached c) a
 unfolding views
@@ -184,7 +184,7 @@ views-held s c more a h room =
     (showsAttached (attached (loaded s)) a) (h .whole) room)
     ∙ ap (λ (d : Client). showsAttached (attached d) a) (h .client)
 
--- Any bytes hold a client, and so do zero bytes: a new one.
+-- Any bytes hold a client; zero bytes hold a fresh one.
 pub any-holds : (s : List ℕ) → Bytes s → State.size ≤ length s → Holds s (loaded s) (drop State.size s)
 any-holds s b whole = record { whole = whole; client = refl; fits = loaded-fits s b whole; behind = refl }
 
@@ -193,7 +193,7 @@ zero-holds more = subst (λ (s : List ℕ). Holds (s ++ more) fresh more) fresh-
 
 -- Any calls on a state that holds a client.
 module _ (s : List ℕ) (c : Client) (more : List ℕ) (h : Holds s c more) (xs : List Lending) (ks : All Fair xs) where
-  -- Each leaves what the client's own call does on the client reached so far.
+  -- Each call leaves what the client's own call does, on the client reached so far.
   pub chain : exports s xs ≡ heldBy s c xs
   chain = exports-held xs s c more h ks
 
@@ -201,12 +201,15 @@ module _ (s : List ℕ) (c : Client) (more : List ℕ) (h : Holds s c more) (xs 
   pub chain-holds : Holds (stateAfter s xs) (reached c (map (λ x. x .call) xs)) more
   chain-holds = state-held xs s c more h ks
 
+  -- What a host reads after each call is the client's own answer.
   pub chain-reads : map readFrom (exports s xs) ≡ codeAnswers c (map (λ x. x .call) xs)
   chain-reads = ap (map readFrom) chain ∙ reads-held more xs s c h ks
 
+  -- Each code is made of the number and the length in its answer.
   pub chain-codes : All Coded (exports s xs)
   chain-codes = subst (All Coded) (sym chain) (codes-held more xs s c h ks)
 
+  -- The bytes after the state and after the answer are as they were.
   pub chain-behind : map behind (exports s xs) ≡ map (λ x. (more, drop Answers.size (x .answer))) xs
   chain-behind = ap (map behind) chain ∙ behind-held more xs s c h ks
 

@@ -1,4 +1,4 @@
--- A client that fits fits after every call: each start, a request, a record of bytes, a failed link.
+-- A client that fits its bytes still fits after every call: a start, a request, a record, a failed link.
 use Prim.Native.Nat.{ℕ, _+_, _-_, _*_, _%_, _<_, _≤_, _^_}
 use mathlib.Core.Bool.{Bool, true, false, cond}
 use mathlib.Core.List.{List, _++_}
@@ -28,6 +28,7 @@ use Rattle.walk_table.specs.Rows.{noTable}
 use Rattle.walk.specs.declared.Walk.{Walk}
 use Rattle.walk.specs.declared.Phase.the-variants.{Asked}
 use Rattle.walk.specs.Moves.{noWalk, begin}
+use Rattle.hearing.specs.Heard.{isLong}
 use Rattle.walk_step.specs.declared.End.{End}
 use Rattle.walk_step.specs.declared.End.the-variants as End
 use Rattle.walk_step.specs.Steps.{Goes}
@@ -76,7 +77,7 @@ use Rattle.host_theory.proofs.NumbersFit.{SaysFits, ProgressFits, no-pr
 use Rattle.host_theory.proofs.NumbersFit.{bare-fits, end-fits}
 use Rattle.host_theory.proofs.JobsFit.{ThenFits, NextFits, accepted-fits, declined-fits}
 
--- What is answered to a start or a request.
+-- The answer to a start or a request fits.
 pub record StartedFits (s : Started) : Type 0 where
   pub client : Fits (s .client)
   pub says : SaysFits (s .says)
@@ -85,7 +86,7 @@ onward-says : SaysFits Says.Onward
 unfolding noteOf
 onward-says = going-fits 0 0 (omega arith)
 
--- A walk of a prefix.
+-- A walk that begins under a prefix.
 begin-fits : (x : Id) → IdFits x → WalkFits (begin x)
 unfolding begin noWalk
 begin-fits x h =
@@ -206,7 +207,7 @@ module _ (c : Client) (h : Fits c) where
   unfolding startSetBaud
   set-baud-fits baud bootloader inBoot k = resets-fits _ inBoot k
 
--- A request: of every client, none has more than 1,024 bytes of payload.
+-- Requests: none has a payload of more than 1,024 bytes, whatever the client.
 payload-short : (c : Client) (p : Phase) (image : List ℕ) → length (frameOf c p image .payload) ≤ 1024
 unfolding frameOf searchFrame demandOf payloadOf le
 payload-short c (Select s) image =
@@ -264,7 +265,7 @@ module _ (c : Client) (h : Fits c) where
           (λ e. refuse-fits c h OtherImage (bare-fits _)) (λ e. asked-fits p k image buffer)
       go (Waiting p) k = refuse-fits c h OutOfTurn (bare-fits _)
 
--- What is told: the client, and what stands beside it in the answer.
+-- The answer to a record fits: the client, and everything beside it.
 pub record ToldFits (t : Told) : Type 0 where
   pub client : Fits (t .client)
   pub says : SaysFits (t .says)
@@ -322,7 +323,7 @@ stop-says End.LongId = bare-fits _
 stop-says End.TableFull = bare-fits _
 stop-says End.Unaddressed = end-fits 23 5 0 false
 
--- A record that a Select hears.
+-- A record heard after a Select.
 module _ (c : Client) (h : Fits c) (at : ℕ) (small : at < 2 ^ 64) where
   attaches-fits : (any : Bool) (x : Id) → IdFits x → ToldFits (attaches c any x at)
   unfolding attaches noteOf outcomeNote
@@ -359,7 +360,7 @@ module _ (c : Client) (h : Fits c) (at : ℕ) (small : at < 2 ^ 64) where
     probed-fits : (d : Heard) → ToldFits (probed c d x at)
     unfolding probed noteOf refusalNote outcomeNote
     probed-fits d =
-        chosen ToldFits (Steps.long d) _ _ (λ e. stops-fits c h _ (bare-fits _) at small)
+        chosen ToldFits (isLong d) _ _ (λ e. stops-fits c h _ (bare-fits _) at small)
         (λ e. over-fits c h _ (end-fits 0 1 (heardTag d) false) x k noTable no-table-fits at small)
 
     hears-fits : (s : Search) (d : Heard) → ToldFits (hears c s d x at)
@@ -370,7 +371,7 @@ module _ (c : Client) (h : Fits c) (at : ℕ) (small : at < 2 ^ 64) where
     hears-fits (Backing given) d = backed-fits given
     hears-fits (Walking q) d = walked-fits _ _ (step-fits (c .walk) (h .walk) x k q d)
 
--- A record that answers a job's request: its payload and its status are of the record's bytes.
+-- A record heard after a job's request: the payload and status of its reply are bytes of the record.
 payload-bytes : (bytes payload : List ℕ) (end : ℕ) → Bytes bytes → answer bytes ≡ answered (ok payload) end
     → Bytes payload
 payload-bytes bytes payload end b e =
@@ -450,7 +451,7 @@ module _ (c : Client) (h : Fits c) (image bytes : List ℕ) (small : length imag
       go (Waiting p) k = chosen ToldFits (otherImage p (length image)) _ _
           (λ e. refuses-fits c h OtherImage (bare-fits _)) (λ e. answered-fits p k)
 
--- A link that failed.
+-- A failed link.
 pub failed-fits : (c : Client) → Fits c → ToldFits (linkFailed c)
 unfolding linkFailed noteOf refusalNote
 failed-fits c h = go (c .turn)

@@ -1,5 +1,4 @@
--- What each job makes of the answer to its request fits: the information, the next address, the next offset, the
--- retries.
+-- A job fits after each reply to its request: the information, the next address, the next offset, the retries.
 use Prim.Native.Nat.{ℕ, _+_, _-_, _*_, _/_, _%_, _<_, _≤_, _^_}
 use mathlib.Core.Bool.{false, _&&_}
 use mathlib.Core.List.{List}
@@ -74,7 +73,7 @@ info-fits payload h = record {
   payload = field-below 2 16 payload h;
 }
 
--- The address after another is below the capacity.
+-- The next erase address is below the capacity.
 abbrev Below : ℕ → Erase → Type 0
 Below c (At a) = a < c
 Below c Done = Unit {0}
@@ -104,7 +103,7 @@ unfolding reported
 reported-small n = chosen (λ (x : ℕ). x < 2 ^ 32) (leb n 0xFFFFFFFF) _ _ (λ e. omega (arith, leb-true n 0xFFFFFFFF e))
     (λ e. omega arith)
 
--- How many chunks: each is of four bytes at least.
+-- The number of chunks: each has at least four bytes.
 over-four : (x c : ℕ) → 4 ≤ c → 4 * (x / c) ≤ x
 over-four x c h = omega (arith, div-mul-le-self x c, mul-le-mul-left (x / c) h)
 

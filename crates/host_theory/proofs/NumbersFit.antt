@@ -43,7 +43,7 @@ pub refusing-fits : (number : ℕ) (k : Bool) (n first second : ℕ) → n < 2 ^
 unfolding refusing
 refusing-fits number k n first second hn hf hs = record { length = hn; first = hf; second = hs; info = no-info-fits }
 
--- A refusal that carries nothing, and an end without information.
+-- A refusal that carries nothing, and an outcome without information.
 pub bare-fits : (number : ℕ) → NoteFits (refusing number false 0 0 0)
 bare-fits number = refusing-fits number false 0 0 0 (omega arith) (omega arith) (omega arith)
 

@@ -1,5 +1,5 @@
--- What an exported call leaves that is refused with a number that changes no state: of any state and any buffers, every
--- byte.
+-- An exported call that is refused with a number that changes no state leaves every byte as it was, for any state and
+-- any buffers.
 use Prim.Native.Nat.{ℕ, _%_, _<_, _≤_}
 use mathlib.Core.Bool.{Bool, true, false, cond}
 use mathlib.Core.List.{List, []}
@@ -48,7 +48,7 @@ use Rattle.refinement.proofs.refused.Requests.{asked-refused}
 use Rattle.refinement.proofs.refused.Records.{told-refused, failed-refused}
 use Rattle.host_theory.specs.ExportedCalls.{bufferOf, bufferless, exported, made, held}
 
--- The number of an answer is a byte; one that changes no state is a refusal's.
+-- The number of an answer is a byte, and an answer whose number changes no state is a refusal.
 refusal-number : (r : Refusal) → (noteOf (Refused r) .number ≡ numberOf r) × (numberOf r < 256)
 unfolding noteOf refusalNote refusing numberOf
 refusal-number Io = (refl, omega arith)
@@ -103,7 +103,7 @@ pub said-number : (says : Says) → codeOf says % 256 ≡ noteOf says .number
 unfolding codeOf
 said-number says = code-number (noteOf says .number) (noteOf says .length) (number-byte says)
 
--- The client and the request's buffer after such an answer.
+-- The client and the request buffer are as before the call.
 abbrev Kept : Client → Call → Type 0
 Kept c call = (made c call .told .client ≡ c) × (made c call .buffer ≡ bufferOf call)
 
@@ -149,8 +149,8 @@ lent-map {A} f n m short enough =
     go false true x y = refl
     go false false x y = refl
 
--- A call on buffers of any length: refused with the length that one lacks, and nothing written; else as the client's
--- own call leaves it.
+-- A call on buffers of any length. If one is too short, it is refused with the length needed and nothing is written.
+-- Else it leaves what the client's own call does.
 module _ (s a : List ℕ) where
   abbrev pub unheld : Call → ℕ → Requested
   unheld call code = record { code = code; state = s; buffer = bufferOf call; answer = a }
@@ -187,7 +187,7 @@ module _ (s a : List ℕ) where
   exported-lent (record′ image bytes) = tells-lent _
   exported-lent linkFailed = tells-lent _
 
-  -- Every byte of the state and of the request's buffer is as it was.
+  -- No byte of the state or of the request buffer changes.
   abbrev Untouched : Call → Requested → Type 0
   Untouched call e = changesNoState (e .code % 256) ≡ true → (e .state ≡ s) × (e .buffer ≡ bufferOf call)
 
@@ -205,7 +205,7 @@ module _ (s a : List ℕ) where
       (either (Untouched call) (ltb (length s) State.size) (λ h. (refl, refl))
       (either (Untouched call) (ltb (length a) Answers.size) (λ h. (refl, refl)) (held-untouched call)))
 
-  -- A state or an answer that is too short: the answer too.
+  -- With a state or an answer's buffer that is too short, no byte of the answer's buffer changes either.
   abbrev Unwritten : Call → Requested → Type 0
   Unwritten call e = (e .state ≡ s) × ((e .buffer ≡ bufferOf call) × (e .answer ≡ a))
 
@@ -219,7 +219,7 @@ module _ (s a : List ℕ) where
       by-test (Unwritten call) (ltb (length a) Answers.size) (λ k. (refl, (refl, refl)))
       (λ k. absurd (n (ltb-false (length s) State.size h) (ltb-false (length a) Answers.size k)))))
 
--- A text or an id that is refused: the buffer for it is as it was.
+-- Where an id's text or a text's id is refused, its output buffer is as it was.
 pub text-untouched : (id text : List ℕ) → (Export.uidHex id text .code % 256 ≡ 0 → ⊥)
     → Export.uidHex id text .bytes ≡ text
 unfolding written writes writtenCode

@@ -1,4 +1,4 @@
--- A table fits after a row is put, after an id is kept and after the sort.
+-- A table still fits after a row is set, after an id is kept and after the sort.
 use Prim.Native.Nat.{ℕ, zero, suc, _+_, _*_, _<_, _≤_}
 use mathlib.Core.Bool.{Bool, true, false, cond}
 use mathlib.Core.List.{List, [], _∷_, _++_}

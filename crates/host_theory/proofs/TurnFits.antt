@@ -1,4 +1,4 @@
--- What a turn's numbers fit by, said of the turn itself.
+-- A turn fits: the ranges of its numbers, stated for the turn itself.
 use Prim.Native.Nat.{ℕ, _<_, _^_}
 use mathlib.Core.Bool.{false}
 use native.Mathlib.Omega.{arith}
@@ -39,7 +39,7 @@ TurnFits Idle = Unit {0}
 TurnFits (Ready p) = PhaseFits p
 TurnFits (Waiting p) = PhaseFits p
 
--- The numbers of a turn that fits fit.
+-- If a turn fits, so do its numbers.
 tag-small : (why : Purpose) → tagOf why < 2 ^ 8
 unfolding tagOf
 tag-small Tell = omega arith
@@ -88,7 +88,7 @@ turn-flat Idle h = selecting-fits 0 (omega arith) 0 0 false false (omega arith) 
 turn-flat (Ready p) h = phase-flat 1 (omega arith) p h
 turn-flat (Waiting p) h = phase-flat 2 (omega arith) p h
 
--- And a turn whose numbers fit fits.
+-- If its numbers fit, so does the turn.
 job-back : (turn : ℕ) (j : Job) → FlatFits (jobFlat turn j) → JobFits j
 unfolding jobFlat demanding
 job-back turn (Informing why) h = h .size

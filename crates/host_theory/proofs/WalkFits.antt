@@ -1,4 +1,4 @@
--- A walk fits after each of its moves, and so after each step.
+-- A walk still fits after each of its moves, and so after each step.
 use Prim.Native.Nat.{ℕ, zero, suc, _+_, _-_, _*_, _<_, _≤_, _^_}
 use mathlib.Core.Bool.{Bool, true, false, _&&_, cond}
 use mathlib.Core.List.{List}

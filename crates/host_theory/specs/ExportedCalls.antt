@@ -1,5 +1,4 @@
--- The exported calls, one after the other: what each leaves in the buffers lent, its code, and the client's own answer
--- that they hold.
+-- The exported calls, one after the other: what each leaves in its buffers, its code, and the client's own answer.
 use Prim.Native.Nat.{ℕ, _<_, _≤_, _^_}
 use mathlib.Core.List.{List, [], _∷_}
 use mathlib.Core.Option.{none, some}
@@ -29,8 +28,8 @@ use Rattle.host_buffers.specs.Codes.{coded}
 use Rattle.host_buffers.specs.Hosts.{Exported, Requested, toldBy, leaves, handed}
 use Rattle.host_buffers.specs.Exports as Export
 
--- What the types of the arguments give: an image or a record that is lent has a length of 64 bits, and an image and a
--- baud are bytes.
+-- What the types of the arguments give: the length of an image or a record is below 2 ^ 64; a baud, and the bytes of an
+-- image lent with a record, are below 256.
 abbrev pub Lent : Call → Type 0
 Lent (startSelect bytes bits) = Unit {0}
 Lent startDeselect = Unit {0}
@@ -45,7 +44,7 @@ Lent (request image buffer) = length image < 2 ^ 64
 Lent (record′ image bytes) = ((length image < 2 ^ 64) × Bytes image) × (length bytes < 2 ^ 64)
 Lent linkFailed = Unit {0}
 
--- The request's buffer that a call is lent.
+-- The request buffer lent to a call; empty for a call without one.
 abbrev pub bufferOf : Call → List ℕ
 bufferOf (startSelect bytes bits) = []
 bufferOf startDeselect = []
@@ -60,10 +59,11 @@ bufferOf (request image buffer) = buffer
 bufferOf (record′ image bytes) = []
 bufferOf linkFailed = []
 
--- What the exported function of a call leaves of a state, of an answer's buffer and of the request's.
+-- What a call without a request buffer leaves.
 abbrev pub bufferless : Exported → Requested
 bufferless e = handed e []
 
+-- What the exported function of a call leaves in the state s, the answer's buffer a and the request buffer.
 unfoldable pub exported : List ℕ → List ℕ → Call → Requested
 exported s a (startSelect bytes bits) = bufferless (Export.startSelect s bytes bits a)
 exported s a startDeselect = bufferless (Export.startDeselect s a)
@@ -79,17 +79,18 @@ exported s a (request image buffer) = Export.request s image buffer a
 exported s a (record′ image bytes) = bufferless (Export.record′ s image bytes a)
 exported s a linkFailed = bufferless (Export.linkFailed s a)
 
--- A call, with the buffer that is lent for its answer.
+-- A call, with the buffer lent for its answer.
 pub record Lending : Type 0 where
   pub call : Call
   pub answer : List ℕ
 
+-- What is asked of a call: byte arguments, lengths as the types give them, and room for the answer.
 pub record Fair (x : Lending) : Type 0 where
   pub bytes : Good (x .call)
   pub lengths : Lent (x .call)
   pub room : Answers.size ≤ length (x .answer)
 
--- One after the other: each is lent the state as the one before left it.
+-- One call after the other: each gets the state that the one before left.
 unfoldable pub exports : List ℕ → List Lending → List Requested
 exports s [] = []
 exports s (x ∷ xs) = exported s (x .answer) (x .call) ∷ exports (exported s (x .answer) (x .call) .state) xs
@@ -99,7 +100,7 @@ unfoldable pub stateAfter : List ℕ → List Lending → List ℕ
 stateAfter s [] = s
 stateAfter s (x ∷ xs) = stateAfter (exported s (x .answer) (x .call) .state) xs
 
--- The client's own answer to a call, and the request's buffer after it.
+-- The client's own answer to a call, and the request buffer after it.
 pub record Made : Type 0 where
   pub told : Told
   pub buffer : List ℕ
@@ -128,11 +129,11 @@ made c (request image buffer) = askedBy (CodeRequest.request c image buffer)
 made c (record′ image bytes) = toldAs (CodeRecord.record′ c image bytes)
 made c linkFailed = toldAs (CodeRecord.linkFailed c)
 
--- An answer in the buffers that are lent: as a call leaves it.
+-- The buffers after a call with this answer.
 unfoldable pub held : List ℕ → List ℕ → Made → Requested
 held s a m = handed (leaves (m .told) s a) (m .buffer)
 
--- What some calls leave, one after the other, on the state and the client reached so far.
+-- What some calls leave, one after the other, from the state and the client reached so far.
 unfoldable pub heldBy : List ℕ → Client → List Lending → List Requested
 heldBy s c [] = []
 heldBy s c (x ∷ xs) = held s (x .answer) (made c (x .call))
@@ -168,7 +169,7 @@ loadedNote b = record {
 unfoldable pub loadedGain : List ℕ → Gain
 loadedGain b = record { made = flagged (byte 5 b); done = field 24 8 b; total = field 32 8 b }
 
--- What it reads in all that a call leaves.
+-- What a host reads in everything that a call leaves.
 unfoldable pub readFrom : Requested → Answer
 readFrom e = codeAnswer (
   record {
@@ -180,10 +181,10 @@ readFrom e = codeAnswer (
   loaded (e .state),
 )
 
--- A code that is the number and the length in the answer.
+-- The code is made of the number and the length in the answer.
 abbrev pub Coded : Requested → Type 0
 Coded e = e .code ≡ coded (byte 0 (e .answer)) (field 16 8 (e .answer))
 
--- What stands behind the state and behind the answer.
+-- The bytes after the state and after the answer.
 abbrev pub behind : Requested → List ℕ × List ℕ
 behind e = (drop State.size (e .state), drop Answers.size (e .answer))

@@ -1,2 +1,1 @@
-// A client that fits its bytes fits them after every call, so that the exported calls chain: what they leave and answer
-// over any calls. No code.
+// The exported calls, over any list of calls: what they leave and answer is what the client's own calls say. No code.

@@ -1,4 +1,4 @@
--- A turn's numbers are read as that turn, and the turn of numbers that fit has numbers that fit.
+-- The numbers of a turn give that turn back, and the turn of numbers that fit has numbers that fit.
 use Prim.Native.Nat.{ℕ, _<_, _^_}
 use mathlib.Core.Bool.{Bool, false, cond}
 use mathlib.Core.Path.{_≡_, refl, _∙_, ap}
@@ -70,7 +70,7 @@ job-kind turn (Writing n info offset retries) = (refl, refl)
 job-kind turn (Verifying n info) = (refl, refl)
 job-kind turn (Resetting reset) = (refl, refl)
 
--- By the kind and by the turn's tag.
+-- The phase by its kind, and the turn by its number.
 phase-by : (f : Flat) (k : ℕ) → f .kind ≡ k
     → phaseOf f ≡ cond (eqb k 1) (Demand (jobOf f)) (cond (eqb k 2) (Leave (f .reset)) (Select (searchOf f)))
 unfolding phaseOf
@@ -163,7 +163,7 @@ module _ (turn : ℕ) (small : turn < 2 ^ 8) where
     baud = hz;
   }
 
--- The numbers of the turn that numbers stand for.
+-- The numbers of the turn that some numbers stand for.
 module _ (f : Flat) (h : FlatFits f) where
   purpose-fits : (tagOf (purposeOf (f .purpose) (f .size)) < 2 ^ 8)
       × (sizeOf (purposeOf (f .purpose) (f .size)) < 2 ^ 64)

@@ -1,4 +1,4 @@
--- The ways through a turn's numbers and back, from the facts that the code has.
+-- Lemmas for a turn's numbers and back: one for each path through the code.
 use Prim.Native.Nat.{ℕ}
 use mathlib.Core.Bool.{Bool, false}
 use mathlib.Core.Path.{_≡_}
@@ -10,11 +10,11 @@ use Rattle.host_turn.specs.declared.Flat.{Flat}
 use Rattle.image.specs.InfoBytes.{noInfo}
 use Rattle.host_turn.specs.Turns.{noReset, jobless, selecting, demanding, flatOf}
 
--- A number that is one case's is no other's.
+-- A number that names one case does not name another.
 pub other-case : (x n m : ℕ) → x ≡ n → eqb n m ≡ false → eqb x m ≡ false
 other-case x n m e h = rw e h
 
--- The case of a value that is known.
+-- A match on a value whose case is known.
 module _ {A B C : Type 0} (f : A → B → C) where
   pub at-case : (a : A) (x y : B) (r : C) → x ≡ y → r ≡ f a y → r ≡ f a x
   at-case a x y r e h = rw e h
@@ -49,7 +49,7 @@ pub selecting-is : (turn search step : ℕ) (given other : Bool) (z : Reset) (r 
 unfolding selecting
 selecting-is turn search step given other z r e h = rw e at h
 
--- With no information, and with no reset.
+-- Without information, without a reset, or without both.
 module _ (turn job purpose size address offset retries p n : ℕ) (i : Info) (z : Reset) (r : Flat) (ep : p ≡ purpose)
     (en : n ≡ size) where
   pub demanding-neither : i ≡ noInfo → z ≡ noReset → r ≡ demanding turn job p n i address offset retries z

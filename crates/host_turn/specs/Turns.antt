@@ -1,4 +1,4 @@
--- A turn as numbers and flags, and the turn of any numbers and flags.
+-- A turn as numbers and flags, and the turn that any numbers and flags stand for.
 use Prim.Native.Nat.{ℕ, _<_, _^_}
 use mathlib.Core.Bool.{Bool, false, cond}
 use lib.Dec.{eqb}
@@ -22,7 +22,7 @@ use Rattle.host_turn.specs.declared.Flat.{Flat}
 unfoldable pub noReset : Reset
 noReset = record { bootloader = false; given = false; baud = 0 }
 
--- Without a job, what a job has is zero.
+-- The numbers of a phase without a job: the fields of a job are zero.
 abbrev pub jobless : ℕ → ℕ → ℕ → Bool → ℕ → Bool → Reset → Flat
 jobless turn kind search given step other reset = record {
   turn = turn;
@@ -41,7 +41,7 @@ jobless turn kind search given step other reset = record {
   reset = reset;
 }
 
--- The numbers of a Select, of a request with one answer, and of one whose answer is not awaited.
+-- The numbers of a Select, of a request with one answer, and of a Reset whose reply is not awaited.
 unfoldable pub selecting : ℕ → ℕ → Bool → ℕ → Bool → Flat
 selecting turn search given step other = jobless turn 0 search given step other noReset
 
@@ -107,7 +107,7 @@ flatOf Idle = selecting 0 0 false 0 false
 flatOf (Ready phase) = phaseFlat 1 phase
 flatOf (Waiting phase) = phaseFlat 2 phase
 
--- Numbers as a turn: one that stands for no case stands for the first.
+-- Numbers as a turn. A number that names no case is read as 0.
 unfoldable pub purposeOf : ℕ → ℕ → Purpose
 purposeOf purpose size = cond (eqb purpose 1) Clear (cond (eqb purpose 2) (Load size) Tell)
 
@@ -134,7 +134,7 @@ phaseOf f = cond (eqb (f .kind) 1) (Demand (jobOf f)) (cond (eqb (f .kind) 2) (L
 unfoldable pub turnOf : Flat → Turn
 turnOf f = cond (eqb (f .turn) 1) (Ready (phaseOf f)) (cond (eqb (f .turn) 2) (Waiting (phaseOf f)) Idle)
 
--- What the types of the fields give.
+-- The ranges of the fields, as their types give them.
 pub record FlatFits (f : Flat) : Type 0 where
   pub turn : f .turn < 2 ^ 8
   pub kind : f .kind < 2 ^ 8

@@ -1,5 +1,5 @@
-// A turn as numbers and flags of fixed widths, and back: any numbers are some turn, and a turn's own numbers are that
-// turn.
+// A turn as numbers and flags of fixed widths, and back.
+// Any numbers give some turn, and the numbers of a turn give that turn back.
 use client::Job;
 use client::Phase;
 use client::Purpose;
@@ -12,7 +12,8 @@ ghost use Rattle.host_turn.specs.Turns.{noReset, jobless, selecting, dem
 ghost use Rattle.host_turn.specs.Turns.{walkingOf, searchFlat, jobFlat, phaseFlat, flatOf, purposeOf, stepOf};
 ghost use Rattle.host_turn.specs.Turns.{searchOf, jobOf, phaseOf, turnOf};
 
-// What a turn can hold. What a turn does not have is zero.
+// The fields of any turn. A field that a turn does not have is zero. A Select has `search` and `given`, a Select of a
+// walk also `step` and `other`. A request with one answer has the fields from `job` to `retries`. A Reset has `reset`.
 pub struct Flat {
     pub turn: u8,
     pub kind: u8,
@@ -40,7 +41,7 @@ pub fn no_reset() -> Reset
     }
 }
 
-// Without a job, what a job has is zero.
+// The numbers of a phase without a job: the fields of a job are zero.
 fn jobless(turn: u8, kind: u8, search: u8, given: bool, step: u8, other: bool, reset: Reset) -> Flat
     ensures { λ r. ⌜ r ≡ jobless turn kind search given step other reset ⌝ }
 {
@@ -63,6 +64,7 @@ fn jobless(turn: u8, kind: u8, search: u8, given: bool, step: u8, other: bool, r
     }
 }
 
+// The numbers of a Select.
 fn selecting(turn: u8, search: u8, given: bool, step: u8, other: bool) -> Flat
     ensures { λ r. ⌜ r ≡ selecting turn search given step other ⌝ }
 {
@@ -70,6 +72,7 @@ fn selecting(turn: u8, search: u8, given: bool, step: u8, other: bool) -> Flat
     jobless(turn, 0, search, given, step, other, reset)
 }
 
+// The numbers of a request with one answer.
 fn demanding(
     turn: u8,
     job: u8,
@@ -101,6 +104,7 @@ fn demanding(
     }
 }
 
+// The numbers of a Reset whose reply is not awaited.
 fn leaving(turn: u8, reset: Reset) -> Flat
     ensures { λ r. ⌜ r ≡ leaving turn reset ⌝ }
 {
@@ -117,6 +121,7 @@ fn tag_of(why: Purpose) -> u8
     }
 }
 
+// The image length of a purpose; 0 if it has none.
 fn size_of(why: Purpose) -> usize
     ensures { λ r. ⌜ r ≡ sizeOf why ⌝ }
 {
@@ -284,7 +289,7 @@ fn phase_of(f: Flat) -> Phase
     }
 }
 
-// The turn of some numbers: one that stands for no case stands for the first.
+// The turn of some numbers. A number that names no case is read as 0.
 pub fn turn_of(f: Flat) -> Turn
     ensures { λ r. ⌜ r ≡ turnOf f ⌝ }
 {

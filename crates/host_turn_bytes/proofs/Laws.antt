@@ -1,4 +1,4 @@
--- A turn's numbers from their bytes: those that were saved, those of any bytes, and those of bytes that are all zero.
+-- A turn's numbers loaded from bytes: from those that were saved, from any bytes, and from zero bytes.
 use Prim.Native.Nat.{ℕ, _+_}
 use mathlib.Core.Bool.{Bool, true, false}
 use mathlib.Core.List.{List, [], _∷_}
@@ -38,7 +38,7 @@ module _ (at : ℕ) (b : List ℕ) where
       )
 
 module _ (at : ℕ) (b : List ℕ) where
-  -- What bytes hold fits.
+  -- What is loaded from bytes fits.
   pub flat-fits : Bytes b → FlatFits (loadedFlat at b)
   unfolding loadedFlat loadedReset
   flat-fits h = record {
@@ -56,7 +56,7 @@ module _ (at : ℕ) (b : List ℕ) where
     baud = byte-below b (at + 47 + 2) h;
   }
 
-  -- What was saved is found again.
+  -- Loading returns what was saved.
   pub flat-back : (f : Flat) → FlatFits f → take 50 (drop at b) ≡ savedFlat f → loadedFlat at b ≡ f
   unfolding savedFlat tags work loadedFlat
   flat-back f h e =

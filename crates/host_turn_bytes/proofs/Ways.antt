@@ -1,4 +1,4 @@
--- The ways through the readers and writers of a turn's numbers, from the facts that the code has.
+-- Lemmas for the functions that load and save a turn's numbers: one for each path through the code.
 use Prim.Native.Nat.{ℕ, _+_, _≤_}
 use mathlib.Core.List.{List, [], _∷_, _++_}
 use mathlib.Core.Path.{_≡_, refl, _∙_}

@@ -1,4 +1,4 @@
--- A turn's numbers as 50 bytes: each in its width, lowest byte first; and the numbers that bytes hold from a place on.
+-- A turn's numbers as 50 bytes, each in its width, lowest byte first; and the numbers read from a place in some bytes.
 use Prim.Native.Nat.{ℕ, _+_}
 use mathlib.Core.Bool.{Bool, cond}
 use mathlib.Core.List.{List, [], _∷_, _++_}
@@ -11,7 +11,7 @@ use Rattle.host_turn.specs.declared.Flat.{Flat}
 abbrev pub flag : Bool → ℕ
 flag b = cond b 1 0
 
--- A byte other than 1 is no.
+-- A byte other than 1 is read as false.
 abbrev pub flagged : ℕ → Bool
 flagged n = eqb n 1
 

@@ -1,4 +1,4 @@
-// A turn's numbers in 50 bytes: saved at a place of a buffer, and loaded from one.
+// A turn's numbers in 50 bytes: saved to a place in a buffer, and loaded from one.
 use client::Reset;
 use host_turn::Flat;
 ghost use mathlib.Core.Path.{_≡_};
@@ -42,6 +42,7 @@ pub fn load_flat(bytes: &[u8], at: usize) -> Flat
     }
 }
 
+// The eight bytes that say which turn it is.
 fn save_tags(bytes: &mut [u8], at: usize, f: Flat)
     requires { ⌜ at + 8 ≤ length (now bytes) ⌝ }
     ensures { λ _. ⌜ now (bytes .exit)
@@ -72,7 +73,7 @@ fn save_reset(bytes: &mut [u8], at: usize, z: Reset)
     wire::put8(bytes, at + 2, z.baud);
 }
 
-// Where an erase, a write or a reset stands.
+// How far a job has come: the erase address, the write offset and its retries; and the reset's arguments.
 fn save_work(bytes: &mut [u8], at: usize, f: Flat)
     requires { ⌜ at + 16 ≤ length (now bytes) ⌝ }
     ensures { λ _. ⌜ now (bytes .exit)

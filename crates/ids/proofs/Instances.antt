@@ -7,7 +7,7 @@ use Rattle.paper.specs.Hearing.{bit}
 use Rattle.ids.specs.Ids.{setBit}
 use Rattle.ids.proofs.Laws.{set-same, set-other}
 
--- Bit 10 is bit 2 of byte 1.
+-- Bit 10 of two bytes is bit 2 of byte 1.
 pub set-same-met : bit (0xC1 ∷ 0x05 ∷ []) 10 ≡ true
 unfolding setBit
 set-same-met = set-same (0xC1 ∷ 0x01 ∷ []) 10 (omega arith)

@@ -1,4 +1,4 @@
--- A bit after one was set: the one that was set, and every other. The id of an id's value, and its bytes there.
+-- Setting a bit makes it 1 and changes no other bit. A value made from an id holds that id.
 use Prim.Native.Nat.{ℕ, suc, _+_, _*_, _/_, _%_, _^_, _-_, _<_, _≤_}
 use mathlib.Core.Bool.{true}
 use mathlib.Core.List.{List}
@@ -29,7 +29,7 @@ module _ (x j : ℕ) where
       odd : (q : ℕ) → (q * 2 + 1) % 2 ≡ 1
       odd q = omega arith
 
--- A bit below j is one of the rest by 2 ^ j.
+-- Bit k of n is bit k of n modulo a higher power of 2.
 bit-of-rest : (n k d : ℕ) → bitOf n k ≡ bitOf (n % 2 ^ (suc d + k)) k
 bit-of-rest n k d = sym (ap (λ (m : ℕ). m % 2) (field n (suc d) k) ∙ ap (λ (e : ℕ). n / 2 ^ k % 2 ^ e % 2) (split d)
     ∙ mod-mod-pow (n / 2 ^ k) d 1)
@@ -37,7 +37,7 @@ bit-of-rest n k d = sym (ap (λ (m : ℕ). m % 2) (field n (suc d) k) ∙ ap (λ
     split : (d : ℕ) → suc d ≡ d + 1
     split d = omega arith
 
--- A bit above j is one of the quotient.
+-- A shift by j + 1 + d is three shifts, by j, 1 and d.
 bit-of-top : (n j d : ℕ) → n / 2 ^ (j + 1 + d) ≡ n / 2 ^ j / 2 / 2 ^ d
 bit-of-top n j d = sym (ap (λ (m : ℕ). m / 2 ^ d) (shr-shr n j 1) ∙ shr-shr n (j + 1) d)
 
@@ -115,7 +115,7 @@ pub id-of-from : (id : List ℕ) → length id ≤ 16 → idOf (idFrom id) ≡ i
 unfolding idFrom
 id-of-from id h = take-append-seam id (replicate (16 - length id) 0)
 
--- The bytes of an id.
+-- The first n bytes of a value are its id, where n is the id's length.
 pub held : (x : Id) (n : ℕ) → n ≡ length (idOf x) → take n (x .bytes) ≡ idOf x
 held x n e =
     ap (λ (k : ℕ). take k (x .bytes)) e

@@ -1,4 +1,4 @@
--- Bits packed in bytes: one bit more that is set.
+-- Bits packed into bytes: one more bit that is 1.
 use Prim.Native.Nat.{ℕ, zero, suc, _+_, _-_, _*_, _/_, _%_, _^_, _<_, _≤_}
 use mathlib.Core.Bool.{Bool, true}
 use mathlib.Core.List.{List, [], _∷_}
@@ -20,7 +20,7 @@ binary-one q = binary-more q true
     put : (d m : ℕ) → d ≡ 0 → m ≡ binary q → binary q + 1 * 2 ^ length q ≡ (d / 2 * 2 + 1) * 2 ^ length q + m
     put d m e f = rw (e, f) (omega arith)
 
--- A bit of the first byte, and of the rest.
+-- Setting a bit in the first byte, and in the bytes after it.
 module _ (x : ℕ) (xs : List ℕ) (k : ℕ) where
   set-short : k < 8 → setBit (x ∷ xs) k ≡ withOne x k ∷ xs
   unfolding setBit
@@ -30,7 +30,7 @@ module _ (x : ℕ) (xs : List ℕ) (k : ℕ) where
   unfolding setBit
   set-long h = let d : k / 8 ≡ suc ((k - 8) / 8) = omega arith in let m : k % 8 ≡ (k - 8) % 8 = omega arith in rw (d, m)
 
--- A one bit more is that bit set.
+-- Packing one more bit that is 1 sets that bit.
 pub pack-one : (n : ℕ) (q : List Bool) → length q < 8 * n → packed n (q ▹ true) ≡ setBit (packed n q) (length q)
 unfolding packed
 pack-one zero q l = absurd (omega arith)

@@ -1,4 +1,4 @@
--- Shift and mask at a byte, as arithmetic.
+-- Shift and mask on a byte, as arithmetic.
 use Prim.Native.Nat.{ℕ, _+_, _*_, _/_, _%_, _^_, _<_, max}
 use mathlib.Core.Path.{_≡_, sym, _∙_, ap₂}
 use native.Mathlib.Omega.{arith}

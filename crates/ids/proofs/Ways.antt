@@ -1,4 +1,4 @@
--- The ways through the functions on ids, from the facts that the code has.
+-- Lemmas for each path through the functions on ids, from the facts that hold there.
 use Prim.Native.Nat.{ℕ, suc, _+_, _*_, _-_, _/_, _%_, _<_, _≤_}
 use mathlib.Core.Bool.{Bool, true, false}
 use mathlib.Core.List.{List, [], _∷_, _++_}
@@ -16,7 +16,7 @@ use Rattle.lore.proofs.Lists.{drop-replicate}
 use Rattle.paper.proofs.Bits.{bits-length, bits-at}
 use Rattle.ids.specs.Ids.{bitOf, idFrom}
 
--- The size of an id in 16 bytes.
+-- The size of an id: its len, but at most 16.
 module _ (bytes : List ℕ) (len : ℕ) (long : length bytes ≡ 16) where
   pub size-few : len < 16 → len ≡ length (take len bytes)
   size-few h = omega (arith, length-take len bytes)
@@ -28,7 +28,7 @@ pub bit-is : (bytes : List ℕ) (k a : ℕ) → a ≡ bitOf (getD bytes (k / 8) 
 unfolding bit
 bit-is bytes k a e = ap (λ (b : ℕ). eqb b 1) e
 
--- A bit of an id, inside and after it.
+-- A bit of an id, and a bit past its end.
 module _ (x : List ℕ) (len n k : ℕ) (xe : n ≡ length (take len x)) where
   pub bit-in : (r : Bool) → k < 8 * n → r ≡ bit x k → r ≡ getD (bitsOf (take len x)) k false
   unfolding bit
@@ -45,7 +45,7 @@ pub id-is : (id out : List ℕ) (i : ℕ) → i ≡ length id → out ≡ id ++ 
 unfolding idFrom
 id-is id out i e f = rw (e, f, drop-replicate {A = ℕ} 16 0 (length id))
 
--- As much of the bytes as the id has is the id.
+-- The first n bytes are the id, where n is its length.
 pub sized : (bytes : List ℕ) (len n : ℕ) → n ≡ length (take len bytes) → take n bytes ≡ take len bytes
 sized bytes len n e = go (decLt len (length bytes))
   where
@@ -53,7 +53,7 @@ sized bytes len n e = go (decLt len (length bytes))
     go (yes h) = let same : n ≡ len = omega (arith, length-take len bytes) in rw same
     go (no h) = take-all n bytes (omega (arith, length-take len bytes)) ∙ sym (take-all len bytes (omega arith))
 
--- The bytes from k on, the first of them by itself.
+-- The bytes from k on: the first of them and the rest, or none.
 at : (xb : List ℕ) (n k : ℕ) → n ≤ 16 → length xb ≡ 16 → k < n
     → drop k (take n xb) ≡ getD xb k 0 ∷ drop (k + 1) (take n xb)
 at xb n k le long h =

@@ -1,4 +1,4 @@
--- Bits of bytes as numbers, and the id that a value holds.
+-- The bits of a byte as arithmetic, and the id that a value of the code holds.
 use Prim.Native.Nat.{ℕ, _+_, _-_, _*_, _/_, _%_, _^_}
 use mathlib.Core.List.{List, _++_}
 use lib.ListN.{length, getD, take, set, replicate}
@@ -21,6 +21,6 @@ idOf x = take (x .len) (x .bytes)
 unfoldable pub noId : Id
 noId = record { bytes = replicate 16 0; len = 0 }
 
--- The value of an id of at most 16 bytes.
+-- The value that holds an id of at most 16 bytes.
 unfoldable pub idFrom : List ℕ → Id
 idFrom id = record { bytes = id ++ replicate (16 - length id) 0; len = length id }

@@ -1,4 +1,4 @@
-// A path of up to 128 bits in 16 bytes: cut at a bit, and compared with an id.
+// Paths of up to 128 bits in 16 bytes: cut at a bit, and compared with an id.
 use crate::Id;
 use crate::MAX_BYTES;
 ghost use mathlib.Core.Path.{_≡_};
@@ -17,7 +17,7 @@ pub fn low_bits(x: u8, j: usize) -> u8
     x & ((1 << j) - 1)
 }
 
-// The first k bits, the rest of the byte at k zero.
+// Clears bit k and the bits above it in the same byte; other bytes stay as they are.
 pub fn cut(bytes: [u8; MAX_BYTES], k: usize) -> [u8; MAX_BYTES]
     requires { ⌜ k < 128 ⌝ }
     ensures { λ r. ⌜ r ≡ cut bytes k ⌝ }
@@ -28,7 +28,7 @@ pub fn cut(bytes: [u8; MAX_BYTES], k: usize) -> [u8; MAX_BYTES]
     out
 }
 
-// Bit k is the same in both.
+// Whether bit k is the same in both.
 pub fn agree(x: [u8; MAX_BYTES], y: [u8; MAX_BYTES], k: usize) -> bool
     requires { ⌜ k < 128 ⌝ }
     ensures { λ r. ⌜ r ≡ Bool·beq (bit x k) (bit y k) ⌝ }
@@ -38,7 +38,7 @@ pub fn agree(x: [u8; MAX_BYTES], y: [u8; MAX_BYTES], k: usize) -> bool
     a == b
 }
 
-// The id begins with the first bits of the path.
+// Whether the id begins with the first `bits` bits of the path.
 pub fn begins(id: Id, path: [u8; MAX_BYTES], bits: usize) -> bool
     requires { ⌜ bits ≤ 128 ⌝ }
     ensures { λ r. ⌜ r ≡ begins (take bits (bitsOf path)) (bitsOf (idOf id)) ⌝ }

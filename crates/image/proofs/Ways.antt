@@ -1,4 +1,4 @@
--- The ways through the rules on device information and images, from the facts that the code has.
+-- Lemmas for each path through the rules on device information and images, from the facts that hold there.
 use Prim.Native.Nat.{ℕ, _+_, _-_, _*_, _/_, _%_, _^_, _<_, _≤_}
 use mathlib.Core.Bool.{Bool, true, false, not}
 use mathlib.Core.List.{List}
@@ -48,7 +48,7 @@ module _ (i : Paper.Info) where
   unfolding spansTooFar steps
   span r e = e
 
--- A number rounded down to a multiple fits where it does.
+-- A number rounded down to a multiple of e fits in 64 bits if it is below 2 ^ 40.
 pub rounds : (x e : ℕ) → x < 2 ^ 40 → x / e * e < 2 ^ 64
 rounds x e h = omega (arith, div-mul-le-self x e)
 

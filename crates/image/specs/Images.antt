@@ -1,4 +1,4 @@
--- The code's values as the paper has them.
+-- The paper's device information, key and erase addresses as values of the code, and back.
 use Prim.Native.Nat.{ℕ}
 use mathlib.Core.List.{List, [], _∷_}
 use mathlib.Core.Option.{Option}
@@ -14,6 +14,7 @@ use Rattle.image.specs.declared.Compat.the-variants.{Key, Missing}
 use Rattle.image.specs.declared.Erase.{Erase}
 use Rattle.image.specs.declared.Erase.the-variants.{At, Done}
 
+-- Device information of the code as the paper's, and of the paper as the code's.
 abbrev pub paperInfo : Info → Paper.Info
 paperInfo i = record {
   capacity = i .capacity;
@@ -48,6 +49,6 @@ abbrev pub firstOf : List ℕ → Erase
 firstOf [] = Done
 firstOf (a ∷ more) = At a
 
--- The address after this one in the row of addresses.
+-- The erase address after this one, or Done.
 unfoldable pub eraseAfter : Paper.Info → ℕ → Erase
 eraseAfter info address = firstOf (drop 1 (below (info .eraseSize) (info .capacity) address))

@@ -1,4 +1,5 @@
--- The device information as 18 bytes: each field in its width, lowest byte first; and the fields that bytes hold from a place on.
+-- The device information as 18 bytes, each field in its width, lowest byte first; and read back from a place of some
+-- bytes.
 use Prim.Native.Nat.{ℕ, _+_, _<_, _^_}
 use mathlib.Core.List.{List, [], _∷_, _++_}
 use Rattle.paper.specs.Frame.{le, byte, field}
@@ -35,7 +36,7 @@ loadedInfo at b = record {
   «max_payload» = field (at + 16) 2 b;
 }
 
--- What the types of the fields give.
+-- The bounds that the types of the fields give.
 pub record InfoFits (i : Info) : Type 0 where
   pub capacity : i .capacity < 2 ^ 32
   pub erase : i .«erase_size» < 2 ^ 16

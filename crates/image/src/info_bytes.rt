@@ -1,4 +1,4 @@
-// The device information's 18 bytes, in a payload and in a host's buffers: loaded from a place, and saved at one.
+// The 18 bytes of the device information, in a payload or in a host's buffers: loaded from a place, and saved to one.
 use crate::Info;
 ghost use mathlib.Core.Path.{_≡_};
 ghost use mathlib.Core.List.{_++_};
@@ -38,7 +38,7 @@ pub fn load(bytes: &[u8], at: usize) -> Info
     }
 }
 
-// The capacity, the erase size and the versions.
+// Saves the capacity, the erase size and the versions.
 fn save_geometry(bytes: &mut [u8], at: usize, i: Info)
     requires { ⌜ at + 10 ≤ length (now bytes) ⌝ }
     ensures { λ _. ⌜ now (bytes .exit)

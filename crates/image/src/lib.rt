@@ -9,7 +9,7 @@ ghost use Rattle.paper.specs.Answers.{sound, informed, spansTooFar, tooLarge, r
 ghost use Rattle.paper.specs.Answers.{padding};
 ghost use Rattle.image.specs.Images.{shownInfo, paperInfo, shownKey, eraseAfter};
 
-// Device geometry from an Info response.
+// The device information, as in the reply to an Info request.
 pub struct Info {
     pub capacity: u32,
     pub erase_size: u16,
@@ -21,24 +21,25 @@ pub struct Info {
     pub max_payload: u16,
 }
 
-// The information of a payload, or 5.
+// The device information in a payload. BadInfo is refusal 5.
 pub enum Informed {
     Sound(Info),
     BadInfo,
 }
 
+// The compatibility key of an image, if it has one.
 pub enum Compat {
     Key(u32),
     Missing,
 }
 
-// The address of the next Erase.
+// The address of the next Erase, or Done after the last.
 pub enum Erase {
     At(u32),
     Done,
 }
 
-// The information of an Info response: 5 for a short payload and for one that breaks the Info rule.
+// The device information in the payload of an Info reply. BadInfo if the payload is short or breaks the Info rule.
 pub fn device_info(payload: &[u8]) -> Informed
     ensures { λ r. ⌜ r ≡ shownInfo (informed (now (payload .entry))) ⌝ }
 {
@@ -52,7 +53,7 @@ pub fn device_info(payload: &[u8]) -> Informed
     Informed::BadInfo
 }
 
-// The compatibility key in an image's tail.
+// The compatibility key of an image: the four bytes that begin six before its end.
 pub fn image_compat(image: &[u8]) -> Compat
     ensures { λ r. ⌜ r ≡ shownKey (key (now (image .entry))) ⌝ }
 {
@@ -66,7 +67,7 @@ pub fn image_compat(image: &[u8]) -> Compat
     Compat::Missing
 }
 
-// An image's length in 32 bits, the largest number where it has more.
+// An image's length as reported in 32 bits: 2^32 - 1 if it is longer.
 pub fn reported(n: usize) -> u32
     ensures { λ r. ⌜ r ≡ reported n ⌝ }
 {
@@ -76,7 +77,7 @@ pub fn reported(n: usize) -> u32
     n as u32
 }
 
-// How many bytes FF make a length a multiple of 4.
+// How many bytes FF pad a length to a multiple of 4.
 pub fn padding(n: usize) -> usize
     ensures { λ r. ⌜ r ≡ padding n ⌝ }
 {
@@ -84,7 +85,7 @@ pub fn padding(n: usize) -> usize
 }
 
 impl Info {
-    // The Info rule.
+    // The Info rule: erase_size and capacity are not 0, and max_payload is at least 4.
     pub fn sound(self) -> bool
         ensures { λ r. ⌜ r ≡ sound (paperInfo self) ⌝ }
     {
@@ -97,7 +98,7 @@ impl Info {
         4 <= self.max_payload
     }
 
-    // The capacity rounded up to the erase size is above 2^32 - 1.
+    // Whether the capacity rounded up to the erase size is above 2^32 - 1.
     pub fn spans_too_far(self) -> bool
         ensures { λ r. ⌜ r ≡ spansTooFar (paperInfo self) ⌝ }
     {
@@ -110,14 +111,14 @@ impl Info {
         0xFFFF_FFFF < most / e * e
     }
 
-    // An image of n bytes exceeds the capacity.
+    // Whether an image of n bytes exceeds the capacity.
     pub fn too_large(self, n: usize) -> bool
         ensures { λ r. ⌜ r ≡ tooLarge (paperInfo self) n ⌝ }
     {
         (self.capacity as usize) < n
     }
 
-    // The device's key is set, and the image's is missing or different.
+    // Whether the device's key is set, and the image's key is missing or different.
     pub fn incompatible(self, image: &[u8]) -> bool
         ensures { λ r. ⌜ r ≡ incompatible (paperInfo self) (now (image .entry)) ⌝ }
     {
@@ -131,7 +132,7 @@ impl Info {
         }
     }
 
-    // How many bytes a Write carries at most.
+    // The most bytes that one Write carries.
     pub fn chunk(self) -> usize
         ensures { λ r. ⌜ r ≡ chunk (self .«max_payload») ⌝ }
     {
@@ -143,7 +144,7 @@ impl Info {
         }
     }
 
-    // The address that follows in the row 0, e, 2e .. below the capacity.
+    // The address after this one in 0, e, 2e .. below the capacity, where e is the erase size.
     pub fn erase_after(self, address: u32) -> Erase
         ensures { λ r. ⌜ r ≡ eraseAfter (paperInfo self) address ⌝ }
     {

@@ -1,4 +1,4 @@
-// The Writes of a flash: how long each is, what of the image it holds, whether it is the last, and how many there are.
+// The Writes of a flash: the length of each, its part of the image, whether it is the last, and how many there are.
 use crate::Info;
 ghost use mathlib.Core.Path.{_≡_};
 ghost use Prim.Native.Nat.{_+_, _^_, _<_};
@@ -8,7 +8,7 @@ ghost use Rattle.paper.specs.Flash.{writeSize};
 ghost use Rattle.image.specs.Images.{paperInfo};
 ghost use Rattle.image.specs.Pieces.{left, isLast, imageBytes, part, chunksTo, chunks};
 
-// The bytes of a padded image of n bytes from an offset on.
+// How many bytes are left from an offset on. The image has n bytes, and is padded.
 pub fn left(n: usize, offset: u64) -> usize
     requires { ⌜ n < 2 ^ 63 ⌝ }
     ensures { λ r. ⌜ r ≡ left n offset ⌝ }
@@ -31,7 +31,7 @@ pub fn size(info: Info, n: usize, offset: u64) -> usize
     if chunk <= rest { chunk } else { rest }
 }
 
-// The last Write ends the image.
+// Whether the Write at an offset is the last: it carries all that is left.
 pub fn last(info: Info, n: usize, offset: u64) -> bool
     requires { ⌜ n < 2 ^ 63 ⌝ }
     ensures { λ r. ⌜ r ≡ isLast (paperInfo info) n offset ⌝ }
@@ -39,7 +39,7 @@ pub fn last(info: Info, n: usize, offset: u64) -> bool
     left(n, offset) <= info.chunk()
 }
 
-// How many of a Write's bytes are the image's: none where its offset is past the end.
+// How many of a Write's bytes come from the image, the others being padding. None if the offset is past the end.
 pub fn image_bytes(n: usize, offset: u64, size: usize) -> usize
     ensures { λ r. ⌜ r ≡ imageBytes n offset size ⌝ }
 {
@@ -51,7 +51,7 @@ pub fn image_bytes(n: usize, offset: u64, size: usize) -> usize
     if size <= held { size } else { held }
 }
 
-// The part of the image from an offset on, of at most so many bytes.
+// The part of the image from an offset on, at most size bytes.
 pub fn part(image: &[u8], offset: u64, size: usize) -> &[u8]
     ensures { λ r. ⌜ now r ≡ part offset size (now (image .entry)) ⌝ }
 {
@@ -64,7 +64,7 @@ pub fn part(image: &[u8], offset: u64, size: usize) -> &[u8]
     &image[from..to]
 }
 
-// How many chunks end at the end of the one at an offset.
+// How many chunks are done after the one at an offset.
 pub fn chunks_to(info: Info, offset: u64) -> u64
     ensures { λ r. ⌜ r ≡ chunksTo (paperInfo info) offset ⌝ }
 {
@@ -75,7 +75,7 @@ pub fn chunks_to(info: Info, offset: u64) -> u64
     offset / chunk + 1
 }
 
-// How many chunks there are.
+// How many chunks an image of n bytes has, once it is padded.
 pub fn chunks(info: Info, n: usize) -> u64
     requires { ⌜ n < 2 ^ 63 ⌝ }
     ensures { λ r. ⌜ r ≡ chunks (paperInfo info) n ⌝ }

@@ -1,4 +1,4 @@
--- Reading a piece up to a line's end, and on from there, is reading it byte by byte.
+-- Reading a piece up to an event, and on from there, is reading it byte by byte.
 use Prim.Native.Nat.{ℕ, suc, _+_, _-_, _<_, _≤_}
 use mathlib.Core.Bool.{Bool, true, false, _||_, not, false≢true}
 use mathlib.Core.List.{List, [], _∷_}
@@ -23,10 +23,11 @@ use Rattle.log_feed.specs.FeedMachine.{Logged, byte, piece, more, joins,
 abbrev pub at : Reader → Replay → List ℕ → Logged
 at r v buf = record { log = logOf r v; bytes = buf }
 
+-- The log after what its reader read of a piece.
 abbrev on : Replay → Read → Logged
 on v f = record { log = met v (f .fed .reader) (f .fed .event) (f .bytes); bytes = f .bytes }
 
--- An ended log stays as it is.
+-- A log whose run has ended stays as it is.
 pub still : (r : Reader) (v : Replay) (buf : List ℕ) → isEnded (v .stage) ≡ true → (xs : List ℕ)
     → piece (at r v buf) xs ≡ at r v buf
 unfolding piece byte
@@ -36,7 +37,7 @@ still r v buf e (b ∷ bs) = ap (λ (s : Logged). piece s bs) kept ∙ still r v
     kept : byte (at r v buf) b ≡ at r v buf
     kept = rw e
 
--- How far a reading of xs goes, and what is left to do there.
+-- The reader reads k bytes of xs, up to an event. Reading the rest byte by byte then gives the log after all of xs.
 record Cut (xs : List ℕ) (i : ℕ) (r : Reader) (v : Replay) (buf : List ℕ) : Type 0 where
   k : ℕ
   place : feed (joins (v .stage)) i r buf xs .fed .at ≡ i + k
@@ -45,7 +46,7 @@ record Cut (xs : List ℕ) (i : ℕ) (r : Reader) (v : Replay) (buf : List ℕ) 
   all : more (feed (joins (v .stage)) i r buf xs .fed .event) ≡ true → k ≡ length xs
   some : more (feed (joins (v .stage)) i r buf xs .fed .event) ≡ false → 0 < k
 
--- After a character that reading goes on after, the log has the reader, and nothing else has changed.
+-- After a character that reading does not stop at, only the reader of the log has changed.
 passed : (v : Replay) (r : Reader) (buf : List ℕ) → isEnded (v .stage) ≡ false → (e : Event)
     → halts e (joins (v .stage)) (r .over) ≡ false → met v r e buf ≡ logOf r v
 unfolding met lined
@@ -65,6 +66,7 @@ passed v r buf run Line h = go (v .stage) refl (r .over) refl h
 passed v r buf run Empty h = absurd (false≢true (sym h))
 passed v r buf run Bad h = absurd (false≢true (sym h))
 
+-- Where reading stopped there was an event.
 no-more : (e : Event) (j o : Bool) → halts e j o ≡ true → more e ≡ true → ⊥
 no-more More j o h m = false≢true h
 no-more Line j o h m = false≢true m
@@ -137,7 +139,7 @@ cut (b ∷ bs) i r v buf run = go (cut bs (i + 1) (step r buf b .step .reader) v
     go c true q = stopped v run b bs i r buf q
     go c false q = onto v run b bs i r buf q c
 
--- A stretch from a place on, and what is left to do after it.
+-- One pass of the loop, from place i on. Reading the rest byte by byte then gives the log after all bytes from i on.
 record Onward (xs : List ℕ) (i : ℕ) (w : Log) (buf : List ℕ) (s : Spanned) : Type 0 where
   within : s .span .at ≤ length xs
   same : piece (record { log = s .span .log; bytes = s .bytes }) (drop (s .span .at) xs)
@@ -184,7 +186,7 @@ module _ (xs : List ℕ) (i : ℕ) (w : Log) (buf : List ℕ) (room : i ≤ leng
   unfolding stretch
   onward = by-test (Onward xs i w buf) (isEnded (w .replay .stage)) ended running-on
 
--- As the loop has the facts.
+-- The same with the facts that the loop of feed has.
 module _ (xs buf₀ buf buf′ : List ℕ) (w₀ w : Log) (i : ℕ) (s : Span)
     (q : piece (record { log = w; bytes = buf }) (drop i xs) ≡ piece (record { log = w₀; bytes = buf₀ }) xs)
     (room : i ≤ length xs) (e : record { span = s; bytes = buf′ } ≡ stretch w buf i (drop i xs)) where

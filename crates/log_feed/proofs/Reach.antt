@@ -1,4 +1,4 @@
--- A log that was reached by feeding pieces: what a program that reads can say of itself.
+-- A log after some pieces: what a program that reads knows of it at the start, after one piece, and after more.
 use mathlib.Core.List.{List, [], _∷_, _++_}
 use mathlib.Core.Path.{_≡_, refl, sym, _∙_, ap}
 use Prim.Native.Nat.{ℕ}

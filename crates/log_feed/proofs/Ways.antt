@@ -1,4 +1,4 @@
--- The ways through the log's small functions, from the facts that the code has.
+-- A lemma for each way through the functions other than feed, with the facts known there as its premises.
 use Prim.Native.Nat.{ℕ}
 use mathlib.Core.Bool.{Bool, true, false}
 use mathlib.Core.List.{List, [], _∷_}

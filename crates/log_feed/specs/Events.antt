@@ -1,4 +1,4 @@
--- What the reader met makes of a log.
+-- The log after an event of its reader.
 use Prim.Native.Nat.{ℕ}
 use mathlib.Core.Bool.{false, cond}
 use mathlib.Core.List.{List}
@@ -11,6 +11,7 @@ use Rattle.log_run.specs.declared.Replay.{Replay}
 use Rattle.log_run.specs.Run.{onStage, stops, opens, takes}
 use Rattle.log_feed.specs.declared.events.Log.{Log}
 
+-- A reader before the first byte of a record.
 abbrev pub idle : Reader
 idle = record { place = Start; len = 0; over = false }
 
@@ -23,13 +24,13 @@ lined v r buf =
     onStage (v .stage) (logOf idle (opens v (take (r .len) buf)))
     (cond (r .over) (logOf idle (stops v 22)) (logOf r v)) (λ k. logOf r v)
 
--- An empty line: as line one, or at the end of a record.
+-- An empty line: it is line one, or it ends a record.
 unfoldable pub emptied : Replay → Reader → List ℕ → Log
 emptied v r buf =
     onStage (v .stage) (lined v r buf)
     (cond (r .over) (logOf idle (stops v 22)) (logOf idle (takes v (take (r .len) buf))))
     (λ k. logOf r v)
 
--- What the reader met.
+-- Any event. A bad character ends the run with 22.
 unfoldable pub met : Replay → Reader → Event → List ℕ → Log
 met v r e buf = onEvent e (logOf r v) (lined v r buf) (emptied v r buf) (logOf idle (stops v 22))

@@ -1,4 +1,4 @@
--- The log read byte by byte: what a byte, a piece and the end of the input do.
+-- The log after one byte, after a piece, and at the end of the input.
 use Prim.Native.Nat.{ℕ}
 use mathlib.Core.Bool.{Bool, true, false, cond}
 use mathlib.Core.List.{List, [], _∷_}
@@ -13,26 +13,28 @@ use Rattle.log_feed.specs.declared.events.Log.{Log}
 use Rattle.log_feed.specs.Events.{idle, logOf, met}
 use Rattle.log_feed.specs.declared.Span.{Span}
 
--- Whether lines are joined to a record.
+-- Whether lines are joined to a record: only while a Select is out.
 abbrev pub joins : Stage → Bool
 joins s = onStage s false true (λ k. false)
 
--- Whether a place is within a line.
+-- Whether a place is inside a line.
 abbrev pub inside : Place → Bool
 inside p = onPlace p false true (λ h. true)
 
--- Whether a piece was read to its end.
+-- Whether there was no event: the piece was read to its end.
 abbrev pub more : Event → Bool
 more e = onEvent e true false false false
 
--- A log, with the buffer that is lent to it.
+-- A log, and the buffer that is lent to it.
 pub record Logged : Type 0 where
   pub log : Log
   pub bytes : List ℕ
 
+-- The log after a step of its reader.
 abbrev pub after : Replay → Stepped → Logged
 after v s = record { log = met v (s .step .reader) (s .step .event) (s .bytes); bytes = s .bytes }
 
+-- One byte. After the end of the run nothing changes.
 unfoldable pub byte : Logged → ℕ → Logged
 byte s b = cond (isEnded (s .log .replay .stage)) s (after (s .log .replay) (step (s .log .reader) (s .bytes) b))
 
@@ -40,11 +42,12 @@ unfoldable pub piece : Logged → List ℕ → Logged
 piece s [] = s
 piece s (b ∷ bs) = piece (byte s b) bs
 
--- The rest of a piece from a place on, read up to an event.
+-- A part of a piece, and the buffer after it.
 pub record Spanned : Type 0 where
   pub span : Span
   pub bytes : List ℕ
 
+-- The log after what its reader read of a piece.
 abbrev pub reached : Replay → Read → Spanned
 reached v f = record {
   span = record
@@ -53,6 +56,7 @@ reached v f = record {
       f .bytes;
 }
 
+-- A piece is read from place i on, up to the next event or to its end.
 unfoldable pub stretch : Log → List ℕ → ℕ → List ℕ → Spanned
 stretch w buf i xs =
     cond (isEnded (w .replay .stage)) (record { span = record { log = w; at = i; done = true }; bytes = buf })
@@ -61,6 +65,6 @@ stretch w buf i xs =
 unfoldable pub begun : Log
 begun = logOf idle Replays.begun
 
--- "a last one that isn't empty may lack it."
+-- "A line ends in LF; a last one that isn't empty may lack it."
 unfoldable pub lastLine : Logged → Logged
 lastLine s = cond (inside (s .log .reader .place)) (piece s (10 ∷ [])) s

@@ -1,4 +1,4 @@
-// What the reader met makes of a log: the end of line one, of a line of a record, of a record, or a bad character.
+// Handling the events of a log's reader: the end of line one, of a line of a record, of a record, or a bad character.
 use log_lines::Event;
 use log_lines::Place;
 use log_lines::Reader;
@@ -7,6 +7,7 @@ use log_run::Stage;
 ghost use mathlib.Core.Path.{_≡_};
 ghost use Rattle.log_feed.specs.Events.{idle, logOf, lined, emptied, met};
 
+// The state of a log: its reader and its run.
 pub struct Log {
     pub reader: Reader,
     pub replay: Replay,
@@ -47,7 +48,7 @@ fn lined(v: Replay, r: Reader, buf: &[u8]) -> Log
     }
 }
 
-// An empty line: as line one, or at the end of a record.
+// An empty line: it is line one, or it ends a record.
 fn emptied(v: Replay, r: Reader, buf: &[u8]) -> Log
     ensures { λ w. ⌜ w ≡ emptied v r (now (buf .entry)) ⌝ }
 {
@@ -65,7 +66,7 @@ fn emptied(v: Replay, r: Reader, buf: &[u8]) -> Log
     }
 }
 
-// What the reader met.
+// Handles an event. A bad character ends the run with 22.
 pub fn met(v: Replay, r: Reader, e: Event, buf: &[u8]) -> Log
     ensures { λ w. ⌜ w ≡ met v r e (now (buf .entry)) ⌝ }
 {

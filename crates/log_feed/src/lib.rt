@@ -1,4 +1,4 @@
-// The bench log: pieces of the input in, the answer of the discovery out.
+// The bench log: it reads the input in pieces, and returns the answer of the discovery.
 pub mod events;
 
 use crate::events::Log;
@@ -11,14 +11,14 @@ ghost use lib.ListN.{drop};
 ghost use Rattle.log_run.specs.Run.{answer};
 ghost use Rattle.log_feed.specs.FeedMachine.{joins, inside, more, begun, Logged, stretch, piece, lastLine};
 
-// A log after a stretch of a piece: how far the piece was read, and whether nothing of it is left to read.
+// The log after a part of a piece, how far the piece was read, and whether it is done.
 struct Span {
     pub log: Log,
     pub at: usize,
     pub done: bool,
 }
 
-// Whether lines are joined to a record.
+// Whether lines are joined to a record: only while a Select is out.
 fn joins(stage: Stage) -> bool
     ensures { λ r. ⌜ r ≡ joins stage ⌝ }
 {
@@ -29,7 +29,7 @@ fn joins(stage: Stage) -> bool
     }
 }
 
-// Whether a place is within a line.
+// Whether a place is inside a line.
 fn inside(place: Place) -> bool
     ensures { λ r. ⌜ r ≡ inside place ⌝ }
 {
@@ -40,7 +40,7 @@ fn inside(place: Place) -> bool
     }
 }
 
-// Whether a piece was read to its end.
+// Whether there was no event: the piece was read to its end.
 fn more(e: Event) -> bool
     ensures { λ r. ⌜ r ≡ more e ⌝ }
 {
@@ -52,6 +52,7 @@ fn more(e: Event) -> bool
     }
 }
 
+// A log before its first byte.
 pub fn begun() -> Log
     ensures { λ r. ⌜ r ≡ begun ⌝ }
 {
@@ -60,7 +61,7 @@ pub fn begun() -> Log
     crate::events::log_of(reader, replay)
 }
 
-// One stretch of a piece: up to the next event in it, or to its end.
+// Reads a piece from a place on, up to the next event or to its end. After the end of the run it reads nothing.
 fn stretch(log: Log, from: usize, bytes: &[u8], buf: &mut [u8]) -> Span
     ensures { λ r. ⌜ record { span = r; bytes = now (buf .exit) }
         ≡ stretch log (now (buf .entry)) from (drop from (now (bytes .entry))) ⌝ }
@@ -84,7 +85,7 @@ fn stretch(log: Log, from: usize, bytes: &[u8], buf: &mut [u8]) -> Span
     }
 }
 
-// A piece of the input, of any length. The buffer holds a record, or line one, between one piece and the next.
+// Reads a piece of the input, of any length. Between pieces the buffer holds what was read of line one or of a record.
 pub fn feed(log: Log, bytes: &[u8], buf: &mut [u8]) -> Log
     ensures { λ r. ⌜ record { log = r; bytes = now (buf .exit) }
         ≡ piece (record { log = log; bytes = now (buf .entry) }) (now (bytes .entry)) ⌝ }
@@ -102,7 +103,7 @@ pub fn feed(log: Log, bytes: &[u8], buf: &mut [u8]) -> Log
     w
 }
 
-// The LF that a last line may lack.
+// Adds the LF that may be missing from a last line.
 fn last_line(log: Log, buf: &mut [u8]) -> Log
     ensures { λ r. ⌜ record { log = r; bytes = now (buf .exit) }
         ≡ lastLine (record { log = log; bytes = now (buf .entry) }) ⌝ }
@@ -115,7 +116,7 @@ fn last_line(log: Log, buf: &mut [u8]) -> Log
     log
 }
 
-// The end of the input.
+// The answer at the end of the input.
 pub fn finish(log: Log, buf: &mut [u8]) -> Answer
     ensures { λ r. ⌜ r ≡ answer (lastLine (record { log = log; bytes = now (buf .entry) }) .log .replay) ⌝ }
     ensures { λ _. ⌜ now (buf .exit) ≡ lastLine (record { log = log; bytes = now (buf .entry) }) .bytes ⌝ }

@@ -1,4 +1,4 @@
--- What reading a byte, and a piece, does to a reader and its buffer.
+-- The reader and its buffer after one character, and after a piece.
 use Prim.Native.Nat.{ℕ, _+_, _*_, _%_}
 use mathlib.Core.Bool.{Bool, true, false, _||_, not, cond}
 use mathlib.Core.List.{List, [], _∷_}
@@ -16,6 +16,7 @@ use Rattle.log_lines.specs.declared.Reader.{Reader}
 use Rattle.log_lines.specs.declared.Step.{Step}
 use Rattle.log_lines.specs.declared.Fed.{Fed}
 
+-- A value for each case.
 abbrev pub onPlace {ℓ} : {A : Type ℓ} → Place → A → A → (ℕ → A) → A
 onPlace Start s e o = s
 onPlace Even s e o = e
@@ -34,7 +35,7 @@ onEvent Line m l e b = l
 onEvent Empty m l e b = e
 onEvent Bad m l e b = b
 
--- one character at a place of a line
+-- What a character is at a place in a line.
 unfoldable pub turn : Place → ℕ → Turn
 turn p b =
     cond (eqb b 10) (onPlace p Turn.Empty Turn.Line (λ h. Turn.Bad))
@@ -42,24 +43,26 @@ turn p b =
     (onPlace p (Half (digit b)) (Half (digit b)) (λ h. Whole (h % 16 * 16 + digit b)))
     Turn.Bad)
 
--- a step, with the buffer afterwards
+-- A step, and the buffer after it.
 pub record Stepped : Type 0 where
   pub step : Step
   pub bytes : List ℕ
 
+-- The reader at another place in the line.
 abbrev pub at : Reader → Place → Reader
 at r p = record { place = p; len = r .len; over = r .over }
 
 abbrev pub told : Reader → Event → List ℕ → Stepped
 told r e buf = record { step = record { reader = r; event = e }; bytes = buf }
 
--- a byte of text goes to the next place of the buffer; one too many is only noted
+-- A byte is added to the buffer. If there is no room, only over is set.
 unfoldable pub keep : Reader → ℕ → List ℕ → Stepped
 keep r v buf =
     cond (ltb (r .len) (length buf))
     (told (record { place = Even; len = r .len + 1; over = r .over }) More (set buf (r .len) v))
     (told (record { place = Even; len = r .len; over = true }) More buf)
 
+-- One character is read.
 unfoldable pub step : Reader → List ℕ → ℕ → Stepped
 step r buf b =
     onTurn (turn (r .place) b)
@@ -69,20 +72,21 @@ step r buf b =
     (told (at r Start) Empty buf)
     (told r Bad buf)
 
--- what was read of a piece, with the buffer afterwards
+-- The result of reading a piece, and the buffer after it.
 pub record Read : Type 0 where
   pub fed : Fed
   pub bytes : List ℕ
 
+-- The result of reading a piece up to place i, after this step.
 abbrev pub went : ℕ → Stepped → Read
 went i s = record { fed = record { reader = s .step .reader; at = i; event = s .step .event }; bytes = s .bytes }
 
--- whether reading halts after a character
+-- Whether reading stops after a character. At the end of a line it goes on if lines are joined and there was room.
 abbrev pub halts : Event → Bool → Bool → Bool
 halts e joined over = onEvent e false (over || not joined) true true
 
--- up to the first empty line or bad character, or the end of the piece; a line's end is passed only where lines are
--- joined and each byte had room; i counts the place
+-- A piece is read from place i on, up to the first empty line or bad character, or its end. Reading also stops at the
+-- end of a line, unless lines are joined and every byte had room.
 unfoldable pub feed : Bool → ℕ → Reader → List ℕ → List ℕ → Read
 feed joined i r buf [] = went i (told r More buf)
 feed joined i r buf (b ∷ bs) =

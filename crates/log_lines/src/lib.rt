@@ -1,17 +1,17 @@
-// Lines of hexadecimal, read in pieces of any length and in constant memory: the bytes go to a buffer that the caller
-// lends.
+// Reads lines of hexadecimal, in pieces of any length and in constant memory, into a buffer that the caller lends.
 ghost use mathlib.Core.Path.{_≡_};
 ghost use lib.ListN.{take, drop};
 ghost use Rattle.log_lines.specs.Reading.{turn, step, keep, halts, feed};
 
-// Where in a line the reader stands.
+// Where in a line the reader is. Start: at its start. Even: after whole bytes. Odd: after a byte's first digit.
 pub enum Place {
     Start,
     Even,
     Odd(u8),
 }
 
-// What a character does.
+// What a character is. Half: the first digit of a byte. Whole: the second, with the value of the byte. Line: the end of
+// a line. Empty: an empty line. Bad: a bad character.
 pub enum Turn {
     Half(u8),
     Whole(u8),
@@ -20,7 +20,7 @@ pub enum Turn {
     Bad,
 }
 
-// What the reader met: nothing yet, the end of a line, an empty line, or what is no hexadecimal.
+// An event of the reader. More: none yet. Line: the end of a line. Empty: an empty line. Bad: a bad character.
 pub enum Event {
     More,
     Line,
@@ -28,33 +28,34 @@ pub enum Event {
     Bad,
 }
 
-// The bytes kept so far are the first len of the buffer; over says that there was no room for one.
+// The first len bytes of the buffer are those read so far. If over is set, there was no room for a byte.
 pub struct Reader {
     pub place: Place,
     pub len: usize,
     pub over: bool,
 }
 
+// The reader after one character, and the event.
 pub struct Step {
     pub reader: Reader,
     pub event: Event,
 }
 
-// What was met in a piece, and how far it was read.
+// The reader after a piece, how far it read, and the event.
 pub struct Fed {
     pub reader: Reader,
     pub at: usize,
     pub event: Event,
 }
 
-// The first n bytes, or all.
+// The first n bytes, or all if there are fewer.
 pub fn front(s: &[u8], n: usize) -> &[u8]
     ensures { λ r. ⌜ now r ≡ take n (now (s .entry)) ⌝ }
 {
     if n <= s.len() { &s[..n] } else { s }
 }
 
-// One character at a place of a line.
+// What a character is at a place in a line.
 pub fn taken(p: Place, b: u8) -> Turn
     ensures { λ r. ⌜ r ≡ turn p b ⌝ }
 {
@@ -77,7 +78,7 @@ pub fn taken(p: Place, b: u8) -> Turn
     }
 }
 
-// Whether reading halts after a character.
+// Whether reading stops after a character. At the end of a line it goes on if lines are joined and there was room.
 pub fn halts(e: Event, joined: bool, over: bool) -> bool
     ensures { λ r. ⌜ r ≡ halts e joined over ⌝ }
 {
@@ -90,7 +91,7 @@ pub fn halts(e: Event, joined: bool, over: bool) -> bool
 }
 
 impl Reader {
-    // A byte goes to the next place of the buffer; one too many is only noted.
+    // Adds a byte to the buffer. If there is no room, only over is set.
     pub fn keep(self, v: u8, buf: &mut [u8]) -> Step
         ensures { λ r. ⌜ record { step = r; bytes = now (buf .exit) } ≡ keep self v (now (buf .entry)) ⌝ }
     {
@@ -116,7 +117,7 @@ impl Reader {
         }
     }
 
-    // At another place, all else as it was.
+    // The reader at another place in the line, with an event.
     pub fn at(self, p: Place, e: Event) -> Step
         ensures { λ r. ⌜ r ≡ record { reader = record { place = p; len = self .len; over = self .over }; event = e } ⌝ }
     {
@@ -130,7 +131,7 @@ impl Reader {
         }
     }
 
-    // One character.
+    // Reads one character.
     pub fn step(self, b: u8, buf: &mut [u8]) -> Step
         ensures { λ r. ⌜ record { step = r; bytes = now (buf .exit) } ≡ step self (now (buf .entry)) b ⌝ }
     {
@@ -148,8 +149,8 @@ impl Reader {
         }
     }
 
-    // Up to the first empty line or bad character, or the end of the piece. A line's end is passed only where lines are
-    // joined and each byte had room.
+    // Reads up to the first empty line or bad character, or the end of the piece. It also stops at the end of a line,
+    // unless lines are joined and every byte had room.
     pub fn feed(self, joined: bool, from: usize, piece: &[u8], buf: &mut [u8]) -> Fed
         ensures { λ r. ⌜ record { fed = r; bytes = now (buf .exit) }
             ≡ feed joined from self (now (buf .entry)) (drop from (now (piece .entry))) ⌝ }

@@ -1,4 +1,4 @@
--- The ways through writing the output, from the facts that the code has.
+-- A lemma for each way through the writing of the output, with the facts known there as its premises.
 use Prim.Native.Nat.{ℕ, zero, suc, _+_, _-_, _*_, _<_, _≤_}
 use mathlib.Core.List.{List, [], _∷_, _++_, append-assoc, map, map-append}
 use mathlib.Core.Path.{_≡_, refl, sym, _∙_, ap}
@@ -27,7 +27,7 @@ use Rattle.log_listing.specs.Listing.{used, inRow, firstIds, line, Place
 pub line-length : (bytes : List ℕ) → length (line bytes) ≡ 2 * length bytes + 1
 line-length bytes = omega (arith, length-append (hexText bytes) (10 ∷ []), hexText-length bytes)
 
--- The digits, and LF after them.
+-- A line: the digits, and LF after them.
 module _ (bytes out out′ : List ℕ) (w : Written) (fits : length bytes ≤ 16) (room : 2 * length bytes < length out)
     (e : record { answer = w; bytes = out′ } ≡ written bytes out) where
   abbrev n : ℕ
@@ -56,7 +56,7 @@ module _ (bytes out out′ : List ℕ) (w : Written) (fits : length bytes ≤ 16
   pub line-wrote : record { len = n + 1; bytes = set out′ n 10 } ≡ placed (line bytes) out
   line-wrote = rw (line-length bytes, closed)
 
--- A text placed after another.
+-- A text written after another is both as one text.
 module _ (a b out₀ out part : List ℕ) (at k : ℕ) (e : record { len = at; bytes = out } ≡ placed a out₀)
     (p : record { len = k; bytes = part } ≡ placed b (take (length out - at) (drop at out))) where
   here : at ≡ length a
@@ -88,7 +88,7 @@ module _ (a b out₀ out part : List ℕ) (at k : ℕ) (e : record { len = at; b
       size : at + k ≡ length (a ++ b)
       size = omega (arith, here, ap (λ (x : Placed). x .len) p, length-append a b)
 
--- The bytes of an id.
+-- The line of an id fits in 33 bytes.
 module _ (x : Id) (n : ℕ) (e : n ≡ length (idOf x)) (h : n ≤ 16) where
   pub id-short : length (take n (x .bytes)) ≤ 16
   id-short = omega (arith, id-part x n e)
@@ -104,7 +104,7 @@ pub id-wrote : (x : Id) (n k : ℕ) (out out′ : List ℕ) → n ≡ length (id
     → record { len = k; bytes = out′ } ≡ placed (line (idOf x)) out
 id-wrote x n k out out′ en e = e ∙ ap (λ (l : List ℕ). placed (line l) out) (held x n en)
 
--- One id more.
+-- The loop over the ids: one more id.
 rows-more : (n : ℕ) (t : Table) (i : ℕ) → rows t i (suc n) ≡ rows t i n ++ (row t (i + n) ∷ [])
 unfolding rows
 rows-more zero t i = ap (λ (k : ℕ). row t k ∷ []) here

@@ -1,4 +1,4 @@
--- What is written of an answer, at the front of a buffer.
+-- The text of an answer, and the buffer that it is written to.
 use Prim.Native.Nat.{ℕ}
 use mathlib.Core.Bool.{cond}
 use mathlib.Core.List.{List, [], _∷_, _++_, map}
@@ -13,7 +13,7 @@ use Rattle.walk_table.specs.declared.Table.{Table}
 use Rattle.walk_table.specs.Rows.{rows}
 use Rattle.log_listing.specs.declared.Answer.{Answer}
 
--- The rows in use; a table has no more than 64.
+-- How many rows are in use: at most 64.
 unfoldable pub used : Table → ℕ
 used t = cond (ltb (t .count) 64) (t .count) 64
 
@@ -24,16 +24,19 @@ inRow x = idOf (x .id)
 unfoldable pub firstIds : Table → ℕ → List Paper.Id
 firstIds t n = map inRow (rows t 0 n)
 
+-- Bytes as hexadecimal digits, and LF.
 abbrev pub line : List ℕ → List ℕ
 line bytes = hexText bytes ++ (10 ∷ [])
 
--- How much was written, and the buffer afterwards.
+-- How many bytes were written, and the buffer after that.
 pub record Placed : Type 0 where
   pub len : ℕ
   pub bytes : List ℕ
 
+-- A text written to the front of a buffer. The bytes after it stay.
 abbrev pub placed : List ℕ → List ℕ → Placed
 placed text buffer = record { len = length text; bytes = text ++ drop (length text) buffer }
 
+-- The whole output.
 unfoldable pub text : Answer → List ℕ
 text a = idLines (firstIds (a .found) (used (a .found))) ++ lastLine (a .code) (used (a .found)) (a .selects)

@@ -1,4 +1,4 @@
-// What the bench log writes: a line for each id found, and the line of the answer.
+// Writes the output of the bench log: a line for each id found, and the line of the answer.
 use ids::Id;
 use walk_table::Table;
 ghost use mathlib.Core.Path.{_≡_};
@@ -9,14 +9,14 @@ ghost use Rattle.paper.specs.Log.{idLines, lastLine};
 ghost use Rattle.ids.specs.Ids.{idOf};
 ghost use Rattle.log_listing.specs.Listing.{used, firstIds, line, placed, text};
 
-// The answer's number, the Selects handed out, and the ids found.
+// The answer of a run: its number, how many Selects were handed out, and the ids found.
 pub struct Answer {
     pub code: u8,
     pub selects: u16,
     pub found: Table,
 }
 
-// The digits of some bytes, and LF.
+// Writes bytes as hexadecimal digits, and LF.
 fn put_line(bytes: &[u8], out: &mut [u8]) -> usize
     requires { ⌜ length (now bytes) ≤ 16 ⌝ }
     requires { ⌜ 2 * length (now bytes) < length (now out) ⌝ }
@@ -30,7 +30,7 @@ fn put_line(bytes: &[u8], out: &mut [u8]) -> usize
     n + 1
 }
 
-// The line of an id.
+// Writes the line of an id.
 fn put_id(id: Id, out: &mut [u8]) -> usize
     requires { ⌜ 33 ≤ length (now out) ⌝ }
     ensures { λ r. ⌜ record { len = r; bytes = now (out .exit) } ≡ placed (line (idOf id)) (now (out .entry)) ⌝ }
@@ -41,7 +41,7 @@ fn put_id(id: Id, out: &mut [u8]) -> usize
     put_line(&bytes[..n], out)
 }
 
-// The lines of the first n ids.
+// Writes the lines of the first n ids.
 fn put_ids(found: Table, n: usize, out: &mut [u8]) -> usize
     requires { ⌜ n ≤ 64 ⌝ }
     requires { ⌜ 33 * n ≤ length (now out) ⌝ }
@@ -61,7 +61,7 @@ fn put_ids(found: Table, n: usize, out: &mut [u8]) -> usize
     at
 }
 
-// The line of the answer: its number, the count of ids, the Selects with the high byte first.
+// Writes the line of the answer: its number, the count of ids, and the Selects with the high byte first.
 fn put_last(code: u8, count: u8, selects: u16, out: &mut [u8]) -> usize
     requires { ⌜ 9 ≤ length (now out) ⌝ }
     ensures { λ r. ⌜ record { len = r; bytes = now (out .exit) }
@@ -74,7 +74,7 @@ fn put_last(code: u8, count: u8, selects: u16, out: &mut [u8]) -> usize
     put_line(&bytes, out)
 }
 
-// The rows in use, of which there are 64 at most.
+// How many rows are in use: at most 64.
 fn used(found: Table) -> usize
     ensures { λ r. ⌜ r ≡ used found ⌝ }
     ensures { λ r. ⌜ r ≤ 64 ⌝ }
@@ -98,7 +98,7 @@ fn put_all(answer: Answer, out: &mut [u8]) -> usize
     at + k
 }
 
-// The whole output at the front of the buffer, which is long enough for any.
+// Writes the whole output to the front of the buffer. It always fits: 64 lines of 33 bytes, and one of 9.
 pub fn show(answer: Answer, out: &mut [u8; 2121]) -> usize
     ensures { λ r. ⌜ record { len = r; bytes = now (out .exit) } ≡ placed (text answer) (now (out .entry)) ⌝ }
 {

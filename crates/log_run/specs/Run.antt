@@ -1,4 +1,4 @@
--- What line one, a record and the end of the input make of a discovery over a log.
+-- A discovery over a log: the run after line one and after a record, and its answer at the end of the input.
 use Prim.Native.Nat.{ℕ, _+_, _%_}
 use mathlib.Core.Bool.{Bool, true, false, cond}
 use mathlib.Core.List.{List, []}
@@ -24,7 +24,7 @@ use Rattle.log_run.specs.declared.Stage.{Stage}
 use Rattle.log_run.specs.declared.Stage.the-variants.{First, Running, Ended}
 use Rattle.log_run.specs.declared.Replay.{Replay}
 
--- The cases.
+-- A value for each case.
 abbrev pub onStage {ℓ} : {A : Type ℓ} → Stage → A → A → (ℕ → A) → A
 onStage First f r e = f
 onStage Running f r e = r
@@ -37,7 +37,7 @@ onSays Onward g c o v r = o
 onSays (Over x) g c o v r = v x
 onSays (Refused x) g c o v r = r x
 
--- The number that a run ends with.
+-- The number of an outcome.
 abbrev pub outcome : Outcome → ℕ
 outcome Outcome.Quiet = 0
 outcome (Outcome.Heard h) = 0
@@ -46,21 +46,25 @@ outcome Outcome.Found = 0
 outcome (Outcome.Knows info) = 0
 outcome Outcome.Unaddressed = 23
 
+-- The number that a run ends with, from what a call says.
 abbrev pub code : Says → ℕ
 code says = onSays says (λ n. 0) (λ n. 0) 0 outcome numberOf
 
 abbrev pub isEnded : Stage → Bool
 isEnded s = onStage s false false (λ k. true)
 
+-- A run before line one.
 unfoldable pub begun : Replay
 begun = record { client = fresh; stage = First; selects = 0; found = noTable }
 
+-- A run that has ended with a number.
 abbrev pub ended : Client → ℕ → Table → ℕ → Replay
 ended c k found n = record { client = c; stage = Ended n; selects = k; found = found }
 
 abbrev pub stops : Replay → ℕ → Replay
 stops v n = ended (v .client) (v .selects) (v .found) n
 
+-- A run with one more Select out.
 abbrev pub running : Client → ℕ → Replay
 running c k = record { client = c; stage = Running; selects = (k + 1) % 65536; found = noTable }
 
@@ -70,17 +74,18 @@ isGranted says = onSays says (λ n. true) (λ n. false) false (λ o. false) (λ 
 abbrev pub isOnward : Says → Bool
 isOnward says = onSays says (λ n. false) (λ n. false) true (λ o. false) (λ r. false)
 
--- One Select more is out, if it was granted.
+-- The run after asking for a Select: one more is out if it was granted. If not, the run ends.
 unfoldable pub handed : Started → ℕ → Replay
 handed s k = cond (isGranted (s .says)) (running (s .client) k) (ended (s .client) k noTable (code (s .says)))
 
--- The next Select, asked for with a buffer that is long enough for any.
+-- A buffer that is long enough for any Select.
 unfoldable pub room : List ℕ
 room = replicate 64 0
 
 abbrev pub asked : Client → ℕ → Replay
 asked c k = handed (request c [] room .answer) k
 
+-- The next Select is asked for if the operation goes on. If not, the run ends.
 unfoldable pub goes : Says → Client → ℕ → Table → Replay
 goes says c k found = cond (isOnward says) (asked c k) (ended c k found (code says))
 
@@ -91,6 +96,7 @@ opens v line =
     (λ given. goes (startDiscover (v .client) given .says) (startDiscover (v .client) given .client)
     (v .selects) noTable)
 
+-- A record is handed to the client.
 unfoldable pub takes : Replay → List ℕ → Replay
 takes v bytes =
     goes (record′ (v .client) [] bytes .says) (record′ (v .client) [] bytes .client) (v .selects)

@@ -1,4 +1,4 @@
-// A discovery over the records of a log: the line that opens it, then what each record makes of the client.
+// A discovery over a log: line one starts it, and each record is handed to the client.
 use client::Client;
 use client::Outcome;
 use client::Says;
@@ -8,13 +8,14 @@ ghost use mathlib.Core.Path.{_≡_};
 ghost use Rattle.log_run.specs.Run.{outcome, code, isEnded, isGranted, isOnward, begun, ended, asked, goes};
 ghost use Rattle.log_run.specs.Run.{opens, takes, answer};
 
-// Line one is still to come; a Select is out; the run has ended with an answer.
+// First: line one is not read yet. Running: a Select is out. Ended: the run has ended with a number.
 pub enum Stage {
     First,
     Running,
     Ended(u8),
 }
 
+// A run: its client, its stage, how many Selects were handed out, and the ids found.
 pub struct Replay {
     pub client: Client,
     pub stage: Stage,
@@ -22,6 +23,7 @@ pub struct Replay {
     pub found: Table,
 }
 
+// The number of an outcome: 23 for Unaddressed, else 0.
 fn outcome(o: Outcome) -> u8
     ensures { λ n. ⌜ n ≡ outcome o ⌝ }
 {
@@ -35,7 +37,7 @@ fn outcome(o: Outcome) -> u8
     }
 }
 
-// The number that a run ends with.
+// The number that a run ends with, from what a call says.
 pub fn code(says: Says) -> u8
     ensures { λ n. ⌜ n ≡ code says ⌝ }
 {
@@ -58,6 +60,7 @@ pub fn is_ended(stage: Stage) -> bool
     }
 }
 
+// A run before line one.
 pub fn begun() -> Replay
     ensures { λ r. ⌜ r ≡ begun ⌝ }
 {
@@ -71,6 +74,7 @@ pub fn begun() -> Replay
     }
 }
 
+// A run that has ended with a number.
 pub fn ended(client: Client, selects: u16, found: Table, code: u8) -> Replay
     ensures { λ r. ⌜ r ≡ ended client selects found code ⌝ }
 {
@@ -106,7 +110,7 @@ fn is_onward(says: Says) -> bool
     }
 }
 
-// The next Select is asked for, and counted if it is handed out.
+// Asks for the next Select, and counts it if it is granted. If not, the run ends.
 fn asked(client: Client, selects: u16) -> Replay
     ensures { λ r. ⌜ r ≡ asked client selects ⌝ }
 {
@@ -127,7 +131,7 @@ fn asked(client: Client, selects: u16) -> Replay
     ended(next, selects, found, code(says))
 }
 
-// After a call that goes on, the next Select; after any other, the end.
+// Asks for the next Select if the operation goes on. If not, the run ends.
 fn goes(says: Says, client: Client, selects: u16, found: Table) -> Replay
     ensures { λ r. ⌜ r ≡ goes says client selects found ⌝ }
 {
@@ -138,7 +142,7 @@ fn goes(says: Says, client: Client, selects: u16, found: Table) -> Replay
 }
 
 impl Replay {
-    // The end, with all else as it was.
+    // Ends the run with a number. All else stays.
     pub fn stops(self, code: u8) -> Replay
         ensures { λ r. ⌜ r ≡ ended (self .client) (self .selects) (self .found) code ⌝ }
     {
@@ -147,7 +151,7 @@ impl Replay {
         ended(client, self.selects, found, code)
     }
 
-    // Line one: 01 and a prefix.
+    // Line one, 01 and a prefix, starts the discovery. Any other line one ends the run with 22.
     pub fn opens(self, line: &[u8]) -> Replay
         ensures { λ r. ⌜ r ≡ opens self (now (line .entry)) ⌝ }
     {
@@ -164,7 +168,7 @@ impl Replay {
         goes(says, next, self.selects, Table::none())
     }
 
-    // A record.
+    // Hands a record to the client.
     pub fn takes(self, bytes: &[u8]) -> Replay
         ensures { λ r. ⌜ r ≡ takes self (now (bytes .entry)) ⌝ }
     {
@@ -177,7 +181,7 @@ impl Replay {
         goes(says, next, self.selects, found)
     }
 
-    // The end of the input: no line one, or no record for the Select that is out.
+    // The answer at the end of the input: 22 without line one, 1 without the record of the Select that is out.
     pub fn answer(self) -> Answer
         ensures { λ r. ⌜ r ≡ answer self ⌝ }
     {

@@ -1,4 +1,4 @@
--- What a byte does to a log that has not ended, for each kind of character.
+-- How one byte changes a log that has not ended, for each kind of character.
 use Prim.Native.Nat.{ℕ, _+_, _*_, _%_, _<_, _≤_}
 use mathlib.Core.Bool.{Bool, true, false}
 use mathlib.Core.List.{List}

@@ -1,5 +1,5 @@
--- A conversation over records asks no more Selects than over any wire that hears them, so a log's count is below
--- 65,536.
+-- A conversation over records sends no more Selects than over a wire that returns these records. So a log's count is
+-- below 65,536.
 use Prim.Native.Nat.{ℕ, zero, suc, _+_, _-_, _≤_, _<_}
 use mathlib.Core.Path.{_≡_, refl, _∙_, ap}
 use native.Mathlib.Omega.{arith}
@@ -9,14 +9,14 @@ use Rattle.paper.specs.Walk.{Walk, return, stop, select, Wire, run, discover}
 use Rattle.theory.proofs.walk.Bound.{discover-bound}
 use Rattle.theory.proofs.walk.MachineIsWalk.{run-later}
 
--- What is heard after so many records more.
+-- What is heard in record j, counted from 0; nothing after the last.
 unfoldable heardIn : Records → ℕ → Heard
 heardIn missing j = nothing
 heardIn spoilt j = nothing
 heardIn (next bytes rs) zero = hear bytes
 heardIn (next bytes rs) (suc j) = heardIn rs j
 
--- Wires that agree from a Select on.
+-- On wires that agree from Select k on, a walk ends alike.
 run-same : {A : Type 0} (w : Walk A) (f g : Wire) (k : ℕ) → ((j : ℕ) (p : Prefix) → f (k + j) p ≡ g (k + j) p)
     → run f k w ≡ run g k w
 unfolding run
@@ -30,7 +30,7 @@ run-same (select p h) f g k e = ap (λ (x : Heard). run f (suc k) (h x)) here �
     later : (j : ℕ) (p : Prefix) → f (suc k + j) p ≡ g (suc k + j) p
     later j p = let z : k + suc j ≡ suc k + j = omega arith in rw z at (e (suc j) p)
 
--- The wire of some records, from Select k on.
+-- The wire that returns some records, from Select k on.
 abbrev wireOf : Records → ℕ → Wire
 wireOf rs k j p = heardIn rs (j - k)
 

@@ -1,5 +1,5 @@
--- Line one read byte by byte is the paper's line one, also where it is longer than the buffer: the prefix is then over
--- 16 bytes.
+-- Line one read byte by byte is document 01's line one. This holds also if it is longer than the buffer: then the
+-- prefix is over 16 bytes, and is refused.
 use Prim.Native.Nat.{ℕ, _+_, _*_, _%_, _<_, _≤_}
 use mathlib.Core.Bool.{Bool, true, false, cond}
 use mathlib.Core.List.{List, [], _∷_, _++_, append-assoc, append-nil}
@@ -32,7 +32,7 @@ use Rattle.log_theory.proofs.ReadToEnd.{ran, ran-byte, ran-ended, end-s
 use Rattle.log_theory.proofs.ReadToEnd.{goes-settled}
 use Rattle.log_theory.proofs.RecordsRead.{lines-lf, lines-other, stored, resumed, rest}
 
--- What is left of a run from a place within line one, its bytes so far being acc.
+-- The run from a place in line one to its end. `acc` are the bytes of the line so far, `ls` the text not yet read.
 unfoldable pub judged : ℕ → Replay → List ℕ → Option (List ℕ) → List (List ℕ) → Replay
 judged cap v acc t ls = onSome t (stops v 22) (λ bs. talk (opens v (acc ++ bs)) (joined cap [] ls))
 
@@ -105,7 +105,7 @@ opens-settled v line = go (prefixIn line)
     go (some given) = goes-settled (startDiscover (v .client) given .says) (startDiscover (v .client) given .client)
         (v .selects) noTable
 
--- Lines that begin alike and have over 16 prefix bytes are refused alike.
+-- Two versions of line one that begin with the same byte, each with a prefix of over 16 bytes. Both are refused alike.
 record Alike (acc held : List ℕ) : Type 0 where
   b : ℕ
   xs : List ℕ
@@ -156,7 +156,7 @@ alike-first (b ∷ ys) x h = record {
   long′ = omega arith;
 }
 
--- The bytes of line one so far, by what the buffer holds of them.
+-- The bytes of line one so far: the buffer holds all of them, or a part that is refused alike.
 data Held (acc buf : List ℕ) (n : ℕ) : Bool → Type 0 where
   all : acc ≡ take n buf → n ≤ length buf → Held acc buf n false
   some-of : Alike acc (take n buf) → length buf ≤ n → Held acc buf n true
@@ -177,7 +177,7 @@ held-over acc buf n x false w k (all e h) =
     some-of (rw e (alike-first (take n buf) x (omega (arith, length-take-le n buf h)))) k
 held-over acc buf n x true w k (some-of a h) = some-of (alike-more acc (take n buf) x a) k
 
--- Line one, and all after it.
+-- Reading xs, from a place in line one, gives the run above.
 abbrev Opens : Replay → List ℕ → Type 0
 Opens v xs = (p : Place) (n : ℕ) (o : Bool) (buf acc : List ℕ) → 17 < length buf → Held acc buf n o
     → ran (at (reader p n o) v buf) xs ≡ opening (length buf) v p acc (lines xs)
@@ -277,7 +277,7 @@ module _ (v : Replay) (before : v .stage ≡ First) where
   first [] p n o buf acc wide held = at-end p n o buf acc held
   first (b ∷ bs) p n o buf acc wide held = one b bs (first bs) n o buf acc wide held p (eqb b 10) refl
 
-  -- From the beginning.
+  -- From the beginning of the input.
   pub from-start : (xs buf : List ℕ) → 17 < length buf
       → ran (at idle v buf) xs ≡ opening (length buf) v Start [] (lines xs)
   from-start xs buf wide = first xs Start 0 false buf [] wide (all refl (omega arith))

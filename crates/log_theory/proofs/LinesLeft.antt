@@ -1,5 +1,5 @@
--- What is left of a record's lines from a place within a line, and what a character makes of it: the paper's
--- definitions, one character further.
+-- The records still to come from a place within a line, and how each character changes them. They are the paper's
+-- definitions, shifted by one character.
 use Prim.Native.Nat.{ℕ, _+_, _*_, _%_, _<_, _≤_}
 use mathlib.Core.Bool.{true, false, cond}
 use mathlib.Core.List.{List, [], _∷_, _++_, append-assoc, append-nil}
@@ -15,11 +15,11 @@ use Rattle.paper.specs.Log.{Records, missing, spoilt, joined, longer}
 use Rattle.log_lines.specs.declared.Place.{Place}
 use Rattle.log_lines.specs.declared.Place.the-variants.{Start, Even, Odd}
 
--- One byte more at the front.
+-- One more byte at the front.
 abbrev pub behind : ℕ → Option (List ℕ) → Option (List ℕ)
 behind v t = onSome t none (λ bytes. some (v ∷ bytes))
 
--- The bytes of a line from its second digit on.
+-- The bytes of a line from its second digit on; h is the first.
 unfoldable pub odd : ℕ → List ℕ → Option (List ℕ)
 odd h [] = none
 odd h (b ∷ l) = cond (ltb (digit b) 16) (behind (h % 16 * 16 + digit b) (unhex l)) none
@@ -35,12 +35,13 @@ unfoldable pub fromOdd : ℕ → ℕ → List ℕ → List (List ℕ) → Record
 fromOdd cap h acc [] = spoilt
 fromOdd cap h acc (l ∷ ls) = carried cap acc (odd h l) ls
 
+-- The records from a place within a line: the first has the bytes `acc` so far, `ls` is the text not yet read.
 unfoldable pub from : ℕ → Place → List ℕ → List (List ℕ) → Records
 from cap Start acc ls = joined cap acc ls
 from cap Even acc ls = fromEven cap acc ls
 from cap (Odd h) acc ls = fromOdd cap h acc ls
 
--- A digit, and what is no digit.
+-- A character that is a digit, and one that is not.
 module _ (b : ℕ) (good : ltb (digit b) 16 ≡ true) where
   pub second : (l : List ℕ) → unhex (b ∷ l) ≡ odd (digit b) l
   unfolding unhex odd

@@ -1,5 +1,5 @@
--- The bench log's output: what is shown of any pieces of an input, once they are fed and finished, is document 01's
--- output of the whole.
+-- The bench log's output: once the pieces of an input are fed and finished, what is shown is document 01's output for
+-- the whole input.
 use Prim.Native.Nat.{ℕ, _+_, _≤_, _<_}
 use mathlib.Core.Bool.{Bool, true, false, cond}
 use mathlib.Core.List.{List, [], _∷_, _++_, map}
@@ -52,7 +52,7 @@ use Rattle.log_theory.proofs.WholeInput.{whole-text}
 use Rattle.log_theory.proofs.CountFits.{few-selects}
 use Rattle.log_theory.proofs.RecordsAreTalk.{numbered, Closed, asked-stands, talks}
 
--- What is written of a run that has ended.
+-- The answer of a run that has ended.
 abbrev of : ℕ → ℕ → Table → Answer
 of code selects found = record { code = code; selects = selects; found = found }
 
@@ -101,7 +101,7 @@ closed-text v e k small c =
     count : v .selects ≡ k
     count = omega (arith, c .selects)
 
--- A run that ends at once with a number, before any Select.
+-- A run that ends with a number before any Select.
 refused-text : (v : Replay) (n : ℕ) (rs : Records) → v ≡ Replays.ended (v .client) 0 noTable n
     → text (answer (talk v rs)) ≡ shown (stopped n) 0
 unfolding answer
@@ -156,7 +156,7 @@ module _ (given : Id) (bytes : All (λ b. b < 256) given) (rs : Records) where
       ap (λ (t : Started). text (answer (talk (from t) rs))) (started ∙ ap startedAs (long-starts e))
       ∙ refused-text (Replays.ended (clientOf Machine.fresh) 0 noTable 13) 13 rs refl
 
--- Line one, and what follows it.
+-- Line one, and the lines after it.
 abbrev paperLine : Option Id → List (List ℕ) → Ended (List Id) × ℕ
 paperLine t ls =
     onSome t (stopped 22, 0) (λ bytes. onSome (prefixIn bytes) (stopped 22, 0) (λ given.
@@ -194,7 +194,7 @@ pub run-output : (input : List ℕ) → text (answer (runOf input)) ≡ output i
 unfolding runOf output
 run-output input = opened-text (lines input)
 
--- The theorem.
+-- The theorem that `acceptance` promises.
 pub log-output : (ps : List (List ℕ)) (buf : List ℕ) → length buf ≡ 4096
     → text (answer (Bench.lastLine (pieces (record { log = Bench.begun; bytes = buf }) ps) .log .replay))
     ≡ output (concat ps)

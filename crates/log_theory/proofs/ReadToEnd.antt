@@ -1,4 +1,4 @@
--- A log read to the end of its input: an ended one stays as it is, and one whose record is too long ends with 22.
+-- A log read to the end of its input: one that has ended stays as it is, and one with a record too long ends with 22.
 use Prim.Native.Nat.{ℕ, _+_}
 use mathlib.Core.Bool.{Bool, true, false, false≢true}
 use mathlib.Core.List.{List, [], _∷_}
@@ -31,7 +31,7 @@ use Rattle.log_theory.specs.WholeTalk.{talk}
 use Rattle.log_theory.proofs.ByteSteps.{reader, at}
 use Rattle.log_theory.proofs.ByteSteps as Bytes
 
--- The run after xs and the end.
+-- The run after xs and the end of the input.
 unfoldable pub ran : Logged → List ℕ → Replay
 ran s xs = lastLine (piece s xs) .log .replay
 
@@ -50,7 +50,7 @@ talk-ended missing v e = refl
 talk-ended spoilt v e = rw e
 talk-ended (next bytes rs) v e = rw e (talk-ended rs v e)
 
--- The LF that a last line may lack.
+-- The end of the input ends a last line that has no LF.
 module _ (v : Replay) (run : isEnded (v .stage) ≡ false) (n : ℕ) (o : Bool) (buf : List ℕ) where
   pub end-even : ran (at (reader Even n o) v buf) [] ≡ lined v (reader Start n o) buf .replay
   unfolding ran lastLine piece
@@ -64,7 +64,7 @@ pub end-start : (v : Replay) (n : ℕ) (o : Bool) (buf : List ℕ) → ran (at (
 unfolding ran lastLine piece
 end-start v n o buf = refl
 
--- After a call the stage is not the first.
+-- Line one has been handled. This holds after every call of the client.
 unfoldable pub settled : Stage → Bool
 settled First = false
 settled Running = true
@@ -86,7 +86,7 @@ goes-settled Onward c k t = handed-settled (request c [] room .answer) k (reques
 goes-settled (Over o) c k t = refl
 goes-settled (Refused r) c k t = refl
 
--- Too many bytes in a record end in 22, whatever follows.
+-- A record longer than the buffer ends the run with 22, whatever follows.
 module _ (v : Replay) (run : v .stage ≡ Running) where
   going : isEnded (v .stage) ≡ false
   going = rw run

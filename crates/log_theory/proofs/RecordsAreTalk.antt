@@ -51,20 +51,20 @@ use Rattle.log_run.specs.Run.{running, handed, room, asked, goes, takes, answer
 use Rattle.log_theory.specs.WholeTalk.{talk}
 use Rattle.log_theory.proofs.ReadToEnd.{talk-ended}
 
--- The number of an end.
+-- The number with which a discovery ended; 0 for success.
 abbrev pub numbered : Ended (List Id) → ℕ
 numbered (done ids) = 0
 numbered (stopped n) = n
 
--- A run whose discovery has ended, after so many Selects.
+-- A run whose discovery ended like this, after k Selects.
 pub record Closed (v : Replay) (e : Ended (List Id)) (k : ℕ) : Type 0 where
   pub code : answer v .code ≡ numbered e
   pub found : v .found ≡ endTable e
   pub selects : v .selects ≡ k % 65536
   pub fits : FitsNext (ended e)
 
--- A run where the machine of the walk stands: with a Select out, which is one more than document 01 counts so far; or
--- ended.
+-- A run and the walk's machine in the same state. Either a Select is out, and the run has counted one more than
+-- document 01 so far; or both have ended.
 pub data Stands : Replay → Next → ℕ → Type 0 where
   out : (seed : ℕ) (id : Option Id) (s : State) (j k : ℕ)
       → Fits (record { seed = seed; id = id; turn = waiting (selecting (walking s)) }) → j ≡ suc k % 65536
@@ -82,7 +82,7 @@ pub data Stands : Replay → Next → ℕ → Type 0 where
 counted : (j k : ℕ) → j ≡ k % 65536 → (j + 1) % 65536 ≡ suc k % 65536
 counted j k e = omega arith
 
--- The next Select of a discovery is handed out.
+-- Handing out the next Select of a discovery.
 module _ (seed : ℕ) (id : Option Id) (s : State)
     (f : Fits (record { seed = seed; id = id; turn = ready (selecting (walking s)) })) where
   abbrev c : Machine.Client
@@ -146,7 +146,7 @@ number-ends (Refused r) p x t n e c k = ap (Replays.ended c k t) number
     number : numberOf r ≡ n
     number = cc
 
--- A record makes of a run what its hearing makes of the machine.
+-- A record changes a run as what is heard in it changes the machine.
 module _ (seed : ℕ) (id : Option Id) (s : State)
     (f : Fits (record { seed = seed; id = id; turn = waiting (selecting (walking s)) })) (bytes : List ℕ) (j k : ℕ)
     (e : j ≡ suc k % 65536) where
@@ -192,13 +192,14 @@ module _ (seed : ℕ) (id : Option Id) (s : State)
   took = rw takes-is (onto-stands (Walking.step s (hear bytes)) (step-fits s (hear bytes) (f .turn))
       (step-stops s (hear bytes)) settled-fits)
 
--- Document 01's conversation where the machine stands.
+-- Document 01's conversation from the machine's state on.
 over-step : (s : State) (rs : Records) (k : ℕ)
     → Log.overRecords (resumed (going s)) rs k
     ≡ Log.overRecords (Walk.select (Walking.request s) (λ h. resumed (Walking.step s h))) rs k
 unfolding resumed
 over-step s rs k = ap (λ (m : Walk.Walk (List Id)). Log.overRecords m rs k) (resume-step s)
 
+-- From a run and a machine in the same state, both end alike over these records.
 abbrev pub Talks : Records → Type 0
 Talks rs = (v : Replay) (n : Next) (k : ℕ) → Stands v n k
     → Closed (talk v rs) ((Log.overRecords (resumed n) rs k) .0) ((Log.overRecords (resumed n) rs k) .1)

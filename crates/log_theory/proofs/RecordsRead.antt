@@ -1,5 +1,5 @@
--- A record read byte by byte is the paper's record, and what is left of a run is the client's talk over the records
--- that are left.
+-- A record read byte by byte is document 01's record, and a run goes on as the client does over the records still to
+-- come.
 use Prim.Native.Nat.{ℕ, _+_, _*_, _%_, _<_, _≤_}
 use mathlib.Core.Bool.{Bool, true, false, false≢true}
 use mathlib.Core.List.{List, [], _∷_, _++_}
@@ -39,14 +39,15 @@ pub lines-other : (b : ℕ) (bs : List ℕ) → eqb b 10 ≡ false → lines (b 
 unfolding lines
 lines-other b bs e = rw e
 
--- One byte more in the buffer.
+-- Storing one more byte in the buffer.
 pub stored : (buf : List ℕ) (n x : ℕ) → n < length buf → take (n + 1) (set buf n x) ≡ take n buf ++ (x ∷ [])
 stored buf n x h = rw (add-one n) (take-suc-set buf n x h)
 
--- What is left of a run while a Select is out.
+-- The run from here on, while a Select is out: the client over the records still to come.
 abbrev pub left : Place → ℕ → Replay → List ℕ → List ℕ → Replay
 left p n v buf xs = talk v (from (length buf) p (take n buf) (lines xs))
 
+-- Reading xs byte by byte gives that run.
 abbrev pub Right : List ℕ → Type 0
 Right xs = (p : Place) (n : ℕ) (v : Replay) (buf : List ℕ) → v .stage ≡ Running → n ≤ length buf
     → ran (at (reader p n false) v buf) xs ≡ left p n v buf xs
@@ -54,7 +55,7 @@ Right xs = (p : Place) (n : ℕ) (v : Replay) (buf : List ℕ) → v .stage ≡ 
 going : (v : Replay) → v .stage ≡ Running → isEnded (v .stage) ≡ false
 going v e = rw e
 
--- A run that goes on after a record, or after line one.
+-- A run after line one or after a record.
 pub resumed : (xs : List ℕ) → Right xs → (v : Replay) (buf : List ℕ) → settled (v .stage) ≡ true
     → ran (at idle v buf) xs ≡ talk v (joined (length buf) [] (lines xs))
 unfolding from settled
@@ -77,7 +78,7 @@ module _ (b : ℕ) (bs : List ℕ) (ih : Right bs) (n : ℕ) (v : Replay) (buf :
   long : length acc ≡ n
   long = length-take-le n buf room
 
-  -- The paper's side, by the lines that are left.
+  -- Document 01's side, by the lines not yet read.
   paper : (p : Place) (ls : List (List ℕ)) (rs : Records) → lines (b ∷ bs) ≡ ls → from cap p acc ls ≡ rs
       → talk v rs ≡ left p n v buf (b ∷ bs)
   paper p ls rs e q = sym (ap (talk v) (ap (from cap p acc) e ∙ q))

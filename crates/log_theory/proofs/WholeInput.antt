@@ -1,4 +1,4 @@
--- The log read in any pieces is a function of the whole input: of line one, and the client's talk over the records.
+-- The log read in any pieces is a function of the whole input: line one, then the client over the records.
 use Prim.Native.Nat.{ℕ}
 use mathlib.Core.List.{List, [], _∷_, _++_}
 use mathlib.Core.Path.{_≡_, refl, sym, _∙_, ap}
@@ -31,7 +31,7 @@ unfolding opening openedBy judged
 opening-is [] = refl
 opening-is (l ∷ ls) = refl
 
--- Any pieces of an input, and its end.
+-- The run after the pieces of an input and its end.
 pub whole : (ps : List (List ℕ)) (buf : List ℕ) → length buf ≡ 4096
     → lastLine (pieces (record { log = begun; bytes = buf }) ps) .log .replay ≡ runOf (concat ps)
 unfolding ran runOf begun Replays.begun
@@ -41,7 +41,7 @@ whole ps buf h =
     ∙ ap (λ (cap : ℕ). opening cap Replays.begun Start [] (lines (concat ps))) h
     ∙ opening-is (lines (concat ps))
 
--- What is written of them.
+-- What is written for it.
 pub whole-text : (ps : List (List ℕ)) (buf : List ℕ) → length buf ≡ 4096
     → text (answer (lastLine (pieces (record { log = begun; bytes = buf }) ps) .log .replay))
     ≡ text (answer (runOf (concat ps)))

@@ -1,4 +1,4 @@
--- The client over the records of a whole input: line one, then one record after the other.
+-- The run of a whole input: line one, then one record after the other.
 use Prim.Native.Nat.{ℕ}
 use mathlib.Core.Bool.{cond}
 use mathlib.Core.List.{List, [], _∷_}
@@ -8,13 +8,13 @@ use Rattle.paper.specs.Log.{Records, missing, spoilt, next, joined, lines}
 use Rattle.log_run.specs.declared.Replay.{Replay}
 use Rattle.log_run.specs.Run.{isEnded, begun, stops, opens, takes}
 
--- Records after the end are ignored.
+-- Hands in each record; those after the end are ignored.
 unfoldable pub talk : Replay → Records → Replay
 talk v missing = v
 talk v spoilt = cond (isEnded (v .stage)) v (stops v 22)
 talk v (next bytes rs) = talk (cond (isEnded (v .stage)) v (takes v bytes)) rs
 
--- A line one, judged whole, and the lines after it.
+-- Line one, read as a whole, and the lines after it.
 unfoldable pub openedBy : List (List ℕ) → Replay
 openedBy [] = begun
 openedBy (l ∷ ls) = onSome (unhex l) (stops begun 22) (λ bytes. talk (opens begun bytes) (joined 4096 [] ls))

@@ -1,2 +1,1 @@
-// The bench log, whole: read in any pieces it is a function of the input, and what it writes is document 01's output.
-// No code.
+// The bench log as a whole: however its input is cut into pieces, what it writes is document 01's output. No code.

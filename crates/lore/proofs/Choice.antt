@@ -1,4 +1,4 @@
--- A choice by a test, from the fact that a branch of the code has: `search (ways, needs)`.
+-- Choices by a test, from the fact that holds in a branch of the code: `search (ways, needs)`.
 use mathlib.Core.Bool.{Bool, true, false, cond, _&&_, false≢true}
 use mathlib.Core.Path.{_≡_, refl, sym, _∙_}
 use borrow.Author.Tests.{lt-ltb, le-ltb, le-leb, lt-leb, eq-eqb, ne-eqb}
@@ -33,7 +33,7 @@ pub ruleset ways = (
   ne-eqb,
 )
 
--- What holds of both holds of the one that a test chooses.
+-- What holds for both values holds for the one that a test chooses.
 pub by-test : {A : Type 0} (P : A → Type 0) (b : Bool) {x y : A} → (b ≡ true → P x) → (b ≡ false → P y) → P (cond b x y)
 by-test P true h k = h refl
 by-test P false h k = k refl
@@ -44,7 +44,7 @@ either P b h k = by-test P b (λ e. h) (λ e. k)
 pub clash : {A : Type 0} (b : Bool) → b ≡ true → b ≡ false → A
 clash b h k = absurd (false≢true (sym k ∙ h))
 
--- The case of a value that is known: `search (at-value f, needs)`.
+-- f at a value that is known to equal another: `search (at-value f, needs)`.
 module _ {A B : Type 0} (f : A → B) where
   pub at-value : (x y : A) (r : B) → x ≡ y → r ≡ f y → r ≡ f x
   at-value x y r e h = rw e h

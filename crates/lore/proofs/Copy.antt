@@ -1,4 +1,4 @@
--- A copy to the front of a list, one element further; and at its end. The source is any list, a repeat too.
+-- A loop that copies a list to the front of another: one more element, and the end of the loop. The same for a fill.
 use Prim.Native.Nat.{ℕ, suc, _+_, _<_, _≤_}
 use mathlib.Core.List.{List, _++_, [], _∷_, append-assoc}
 use mathlib.Core.Path.{_≡_, sym, _∙_, ap}
@@ -21,7 +21,7 @@ module _ (s d l : List ℕ) (i : ℕ) (e : l ≡ take i s ++ drop i d) where
       same : (i : ℕ) (s : List ℕ) → i ≤ length s → length s ≤ i → length s ≡ i
       same i s h k = omega arith
 
--- The source is a repeat.
+-- A fill: the source is one value, repeated.
 module _ (n v : ℕ) (d l : List ℕ) (i : ℕ) (e : l ≡ take i (replicate n v) ++ drop i d) where
   pub fill-more : i < n → n ≤ length d → set l i v ≡ take (i + 1) (replicate n v) ++ drop (i + 1) d
   fill-more h room =

@@ -1,4 +1,4 @@
--- Parts of lists that the kit has no law for.
+-- Laws about parts of lists that the kit does not have.
 use Prim.Native.Nat.{ℕ, zero, suc, _-_, _≤_}
 use mathlib.Core.List.{List, [], _∷_, _++_}
 use mathlib.Core.Path.{_≡_, refl, ap}

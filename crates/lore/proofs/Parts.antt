@@ -1,4 +1,4 @@
--- A part from a place to the end that was lent, said of the whole.
+-- The part of a list from a place to the end, lent to be read or changed: what that means for the whole list.
 use Prim.Native.Nat.{ℕ, _+_, _-_}
 use mathlib.Core.List.{List, _++_, append-nil, append-assoc}
 use mathlib.Core.Path.{_≡_, sym, _∙_, ap}
@@ -16,7 +16,7 @@ mid-all a xs ys =
     (drop-of-length-le (drop a xs) {i = length xs - a} (omega (arith, length-drop a xs)))
     ∙ ap (λ (r : List ℕ). take a xs ++ r) (append-nil ys)
 
--- A list put into the part that was lent from a place on.
+-- A list written to the front of such a part.
 pub put-part : (at : ℕ) (s b d : List ℕ) → d ≡ s ++ drop (length s) (take (length b - at) (drop at b))
     → putMid at (length b - at) b d ≡ take at b ++ s ++ drop (at + length s) b
 put-part at s b d e =

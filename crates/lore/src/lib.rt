@@ -1,1 +1,1 @@
-// Laws on lists and choices that several crates need and the kit lacks. No code.
+// Laws about lists and choices that several crates need and the kit does not have. No code.

@@ -1,6 +1,6 @@
-// Runs of the Rust that were written down: the operations and the records come in, and what this client sends and how
-// it ends go out. The lines are those of tests/oracle: an operation, a record a line with 00 before its bytes, an empty
-// line.
+// Replays stored runs of the Rust: reads operations and records, and prints what this client sends and how it ends.
+// The input is that of tests/oracle: a line for the operation, a line for each record with 00 before its bytes, and an
+// empty line.
 use client::Client;
 use client::Outcome;
 use client::Progress;
@@ -17,7 +17,7 @@ use log_lines::Place;
 use log_lines::Reader;
 use walk_table::Table;
 
-// The client, whether an operation's line is next, and the length of the image that is flashed.
+// The client, whether the next line is an operation, and the length of the image that is flashed.
 struct Run {
     client: Client,
     opens: bool,
@@ -88,7 +88,7 @@ fn print_outcome(o: Outcome, id: Id) {
     }
 }
 
-// How a run ended; then the seed and the attached id.
+// Ends the line of a run's outcome; then the seed and the attached id.
 fn print_end(c: Client) {
     show::print(b"\ns");
     print_number(c.seed as u64);
@@ -111,7 +111,7 @@ fn print_progress(p: Progress) {
     }
 }
 
-// Where the unread rest of a record begins, and the progress made.
+// The place where the unread rest of a record begins, and the progress made.
 fn print_read(rest: usize, p: Progress) {
     show::print(b"@");
     print_number(rest as u64);
@@ -125,7 +125,7 @@ fn print_request(room: &[u8], n: usize) {
     show::print(b"\n");
 }
 
-// The next request, asked for and printed.
+// Asks for the next request and prints it.
 fn ask(c: Client, image: &[u8]) -> Client {
     let mut room = [0u8; 1036];
     let s = client_request::request(c, image, &mut room);
@@ -140,7 +140,7 @@ fn ask(c: Client, image: &[u8]) -> Client {
     next
 }
 
-// What a record made of the run.
+// Prints the answer to a record; if the operation goes on, asks for the next request.
 fn told(t: Told, image: &[u8]) -> Client {
     let says = t.says;
     let progress = t.progress;
@@ -175,7 +175,7 @@ fn wide(b: u8) -> usize {
     b as usize
 }
 
-// The operation of a line: its code, then its arguments.
+// Starts the operation of a line: its code, then its arguments.
 fn start(c: Client, code: u8, args: &[u8]) -> Started {
     if code == 1 {
         if args.len() < 1 {
@@ -216,7 +216,7 @@ fn start(c: Client, code: u8, args: &[u8]) -> Started {
     client_start::start_set_baud(c, args[2], args[0] == 1, args[1] == 1)
 }
 
-// A line: the operation that a run opens with, or a record.
+// Handles a line: the operation that begins a run, or a record.
 fn line(run: Run, bytes: &[u8], image: &mut [u8]) -> Run {
     let c = run.client;
     if bytes.len() < 1 {
@@ -270,7 +270,7 @@ struct State {
     reader: Reader,
 }
 
-// The line that is in the first n bytes of the buffer.
+// Handles the line in the first n bytes of the buffer.
 fn kept(run: Run, buf: &[u8], n: usize, image: &mut [u8]) -> Run {
     if n <= buf.len() {
         return line(run, &buf[0..n], image);
@@ -278,7 +278,7 @@ fn kept(run: Run, buf: &[u8], n: usize, image: &mut [u8]) -> Run {
     run
 }
 
-// One character of the input.
+// Reads one character of the input.
 fn step(state: State, b: u8, buf: &mut [u8], image: &mut [u8]) -> State {
     let run = state.run;
     let r = state.reader;
@@ -305,7 +305,7 @@ fn step(state: State, b: u8, buf: &mut [u8], image: &mut [u8]) -> State {
     }
 }
 
-// The character at a place of a page, if there is one.
+// Reads the character at place i of a page, if there is one.
 fn step_at(state: State, page: &[u8], i: usize, buf: &mut [u8], image: &mut [u8]) -> State {
     if i < page.len() {
         return step(state, page[i], buf, image);
@@ -313,7 +313,7 @@ fn step_at(state: State, page: &[u8], i: usize, buf: &mut [u8], image: &mut [u8]
     state
 }
 
-// The first n characters of a page.
+// Reads the first n characters of a page.
 fn feed(state: State, page: &[u8], n: usize, buf: &mut [u8], image: &mut [u8]) -> State {
     let mut s = state;
     let mut i = 0;
@@ -329,7 +329,7 @@ struct Pumped {
     state: State,
 }
 
-// One read, and what it brought.
+// Reads from the input once and feeds what was read.
 fn pump(state: State, page: &mut [u8], buf: &mut [u8], image: &mut [u8]) -> Pumped {
     let got = libc::read(STDIN_FILENO, page);
     if got <= 0 {
@@ -343,7 +343,7 @@ fn pump(state: State, page: &mut [u8], buf: &mut [u8], image: &mut [u8]) -> Pump
     }
 }
 
-// A proved loop has to end, and nothing says that the input does: the turns are counted down.
+// A proved loop must end, but the input need not: the reads are counted down.
 fn pump_all(page: &mut [u8], buf: &mut [u8], image: &mut [u8]) {
     let mut state = State {
         run: fresh(),

@@ -1,4 +1,4 @@
--- Rows of numbers a, a + e, a + 2e .. below c: the first of a row and the row after it.
+-- The numbers a, a + e, a + 2e .. below c: how many there are, the first one, and those after it.
 use Prim.Native.Nat.{ℕ, suc, _+_, _-_, _/_, _<_, _≤_}
 use mathlib.Core.List.{[], _∷_}
 use mathlib.Core.Path.{_≡_, sym, _∙_, ap}

@@ -1,4 +1,4 @@
--- The frame that answers a request: where it lies in the record, and what its payload is there.
+-- The frame that answers a request: where it is in the record, and where its payload is.
 use Prim.Native.Nat.{ℕ, zero, suc, _+_, _-_, _≤_}
 use mathlib.Core.Bool.{Bool, true, false, cond}
 use mathlib.Core.List.{List}
@@ -13,12 +13,12 @@ use Rattle.paper.specs.Answers.{Reply, ok, device, Answer, lost, answere
 use Rattle.paper.specs.Answers.{answer}
 use Rattle.paper.proofs.Readings.{Read, framed, read-known}
 
--- What a frame says, with its check right or not.
+-- The reply of a frame, by whether its check is right.
 abbrev pub saidBy : Bool → Frame → Reply
 saidBy true f = replyOf f
 saidBy false f = device status-CrcMismatch
 
--- A frame of the record, from a place on, that gives this reply and ends there.
+-- A frame of the record that gives the reply r and ends at the place end. Reading it begins at the place from.
 pub record Found (bytes : List ℕ) (r : Reply) (end : ℕ) : Type 0 where
   pub from : ℕ
   pub skip : ℕ
@@ -74,7 +74,7 @@ ok-payload true f payload e = go (eqb (f .status) status-Ok) e
     go false e = absurd (let z : _≡_ {A = ℕ} 0 1 = cc in omega arith)
 ok-payload false f payload e = absurd (let z : _≡_ {A = ℕ} 0 1 = cc in omega arith)
 
--- The payload of an answer of status Ok lies two bytes before the answer's end.
+-- The payload of an answer of status Ok ends two bytes before the answer does.
 pub answer-payload : (bytes payload : List ℕ) (end : ℕ) → answer bytes ≡ answered (ok payload) end
     → (end - (2 + length payload) + length payload ≤ length bytes)
     × (take (length payload) (drop (end - (2 + length payload)) bytes) ≡ payload)

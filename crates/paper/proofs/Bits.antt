@@ -1,4 +1,4 @@
--- The bits of an id one by one: how many there are, the one at a place, and a row of them in two parts.
+-- The bits of an id: how many there are, the bit at a place, and the bits of one byte.
 use Prim.Native.Nat.{ℕ, zero, suc, _+_, _-_, _*_, _/_, _%_, _^_, _<_, _≤_}
 use mathlib.Core.Bool.{Bool, false}
 use mathlib.Core.List.{List, _∷_, _++_}
@@ -24,13 +24,13 @@ module _ {A : Type 0} (f : ℕ → A) where
       in counting-at d n (suc k) i (omega arith) ∙ ap f e
 
 module _ {A : Type 0} where
-  -- The count in two parts.
+  -- Counting m + n numbers is counting m, then n more.
   pub counting-add : (f : ℕ → A) (m n k : ℕ) → counting f k (m + n) ≡ counting f k m ++ counting f (k + m) n
   unfolding counting
   counting-add f zero n k = rw (zero-add, add-zero)
   counting-add f (suc m) n k = rw (suc-add, add-suc) (ap (f k ∷_) (rw suc-add at (counting-add f m n (suc k))))
 
-  -- Two functions that agree on the numbers counted.
+  -- Two functions that agree on the numbers counted give the same list.
   pub counting-same : (f g : ℕ → A) (n k j : ℕ) → ((i : ℕ) → i < n → f (k + i) ≡ g (j + i))
       → counting f k n ≡ counting g j n
   unfolding counting
@@ -47,7 +47,7 @@ pub bits-at : (id : List ℕ) (k : ℕ) → k < 8 * length id → getD (bitsOf i
 unfolding bitsOf
 bits-at id k h = counting-at (bit id) false (8 * length id) 0 k h ∙ ap (bit id) (zero-add k)
 
--- r bits from the first bit of byte i on are those of that byte.
+-- The r bits from the first bit of byte i on are the lowest r bits of that byte.
 pub bits-byte : (id : List ℕ) (i r : ℕ) → r ≤ 8 → 8 * i + r ≤ 8 * length id
     → take r (drop (8 * i) (bitsOf id)) ≡ counting (λ k. eqb (getD id i 0 / 2 ^ k % 2) 1) 0 r
 unfolding bitsOf bit

@@ -1,5 +1,5 @@
--- What the rules on chunks and padding come to: a chunk is a multiple of 4 within 1024, a padded length a multiple of 4
--- within 3 bytes more, a Write the smaller of a chunk and what is left.
+-- What follows from the rules on chunks and padding. A chunk is a multiple of 4, at most 1024. A padded length is a
+-- multiple of 4, at most 3 bytes more. A Write is the smaller of a chunk and what is left.
 use Prim.Native.Nat.{ℕ, _+_, _-_, _*_, _/_, _%_, _<_, _≤_, min}
 use mathlib.Core.Bool.{Bool, true, false, cond}
 use mathlib.Core.Path.{_≡_, refl}
@@ -41,7 +41,7 @@ pub padded-close : (n : ℕ) → padded n < n + 4
 unfolding padding
 padded-close n = omega arith
 
--- A Write is a chunk or what is left.
+-- A Write is the smaller of a chunk and what is left.
 pub write-size : (info : Info) (n o : ℕ) → writeSize info n o ≡ min (chunk (info .maxPayload)) (padded n - o)
 write-size info n o = go (leb (chunk (info .maxPayload)) (padded n - o)) refl
   where

@@ -1,4 +1,4 @@
--- Lists put one behind another at a place of a list, and found there again, each in its width.
+-- Lists written one after another at a place of a list, and read back from there, each by its width.
 use Prim.Native.Nat.{ℕ, zero, suc, _+_, _^_, _<_, _≤_}
 use mathlib.Core.List.{List, [], _∷_, _++_, append-assoc}
 use mathlib.Core.Path.{_≡_, refl, sym, _∙_, ap, ap₂}
@@ -10,19 +10,19 @@ use lib.Seq.{take-at, drop-at, drop-drop, getD-drop, getD-take, length-take-le, 
 use Rattle.paper.specs.Frame.{le, number, field}
 use Rattle.paper.proofs.Words.{Bytes, le-length, number-le, field-none, field-suc}
 
--- d is b with the n elements of s from a place on.
+-- d is b with s in place of its n elements from a place on.
 pub record Put (at n : ℕ) (s b d : List ℕ) : Type 0 where
   pub sized : length s ≡ n
   pub holds : d ≡ take at b ++ s ++ drop (at + n) b
 
--- A number, and a byte.
+-- Put of a number in k bytes, and of one byte.
 pub num : {at : ℕ} (k x : ℕ) {b d : List ℕ} → d ≡ take at b ++ le k x ++ drop (at + k) b → Put at k (le k x) b d
 num k x e = record { sized = le-length k x; holds = e }
 
 pub one : {at x : ℕ} {b d : List ℕ} → d ≡ take at b ++ (x ∷ []) ++ drop (at + 1) b → Put at 1 (x ∷ []) b d
 one e = record { sized = refl; holds = e }
 
--- A second list right behind a first.
+-- Putting two lists one right after the other is putting them joined.
 pub behind : {at n k : ℕ} {s t b d e : List ℕ} → at ≤ length b → Put at n s b d → Put (at + n) k t d e
     → Put at (n + k) (s ++ t) b e
 behind {at} {n} {k} {s} {t} {b} {d} {e} room p q = record {
@@ -43,7 +43,7 @@ behind {at} {n} {k} {s} {t} {b} {d} {e} room p q = record {
     front : length (take at b ++ s) ≡ at + n
     front = length-append (take at b) s ∙ ap₂ _+_ (length-take-le at b room) (p .sized)
 
--- What is before and behind it stays, and it stands there.
+-- What is before and after the list stays as it was, and the list is found at its place.
 module _ {at n : ℕ} {s b d : List ℕ} (room : at ≤ length b) (p : Put at n s b d) where
   inner : d ≡ take at b ++ (s ++ drop (at + n) b)
   inner = p .holds ∙ append-assoc (take at b) s (drop (at + n) b)
@@ -74,14 +74,15 @@ module _ {at n : ℕ} {s b d : List ℕ} (room : at ≤ length b) (p : Put at n 
         p .sized,
       )
 
--- What stands at a place, put there, changes nothing.
+-- Putting what is already at a place changes nothing.
 pub own : (at n : ℕ) (b : List ℕ) → at + n ≤ length b → Put at n (take n (drop at b)) b b
 own at n b h = record {
   sized = length-take-le n (drop at b) (omega (arith, length-drop at b));
   holds = sym (take-append-drop (at + n) b) ∙ ap (λ (s : List ℕ). s ++ drop (at + n) b) (take-add at n b);
 }
 
--- Lists with their widths: one behind another, how long they are, each of its width, each found at its place.
+-- Lists with their widths: joined after a list, their total width, each of its own width (Sized), each found at its
+-- place (Spread).
 abbrev pub joined : List ℕ → List (ℕ × List ℕ) → List ℕ
 joined s [] = s
 joined s ((k, x) ∷ fs) = joined (s ++ x) fs
@@ -123,7 +124,7 @@ spread at b ((k, x) ∷ fs) s n e h q =
             ∙ ap (drop n) (sym (take-add n k (drop at b)) ∙ both)
             ∙ drop-at s x n e
 
--- All zero.
+-- Every list is all zeros.
 abbrev pub Zeros : List (ℕ × List ℕ) → Type 0
 Zeros [] = Unit {0}
 Zeros ((k, x) ∷ fs) = (x ≡ replicate k 0) × Zeros fs
@@ -134,7 +135,7 @@ joined-zeros ((k, x) ∷ fs) n h =
     ap (λ (s : List ℕ). joined s fs)
     (ap (λ (y : List ℕ). replicate n 0 ++ y) (h .0) ∙ replicate-append-replicate n k 0) ∙ joined-zeros fs (n + k) (h .1)
 
--- What stands at a place, as a number and as a byte.
+-- What is at a place, read as a number and byte by byte.
 pub field-at : (at k x : ℕ) (b : List ℕ) → x < 256 ^ k → take k (drop at b) ≡ le k x → field at k b ≡ x
 field-at at k x b h e = ap number e ∙ number-le k x h
 
@@ -145,7 +146,7 @@ byte-in at n i s b h e = sym (getD-drop at b i 0) ∙ sym (getD-take n (drop at 
 pub byte-at : (at n : ℕ) (s b : List ℕ) → 0 < n → take n (drop at b) ≡ s → getD b at 0 ≡ getD s 0 0
 byte-at at n s b h e = ap (λ (i : ℕ). getD b i 0) (sym (add-zero at)) ∙ byte-in at n 0 s b h e
 
--- Of bytes.
+-- Lists of bytes: bounds on a byte and a field, and parts that are lists of bytes again.
 pub byte-below : (b : List ℕ) (at : ℕ) → Bytes b → getD b at 0 < 256
 byte-below [] at h = omega arith
 byte-below (x ∷ b) zero h = h .0

@@ -1,5 +1,4 @@
--- What a digit is worth; the digits of bytes, how many there are and those of two lists one after the other; two
--- characters read.
+-- Hexadecimal digits: the value of a character, the text of bytes and of two lists joined, two characters read.
 use Prim.Native.Nat.{ℕ, _+_, _-_, _*_, _/_, _%_, _<_, _≤_}
 use mathlib.Core.Bool.{Bool, true, false, _&&_, false≢true}
 use mathlib.Core.List.{List, [], _∷_, _++_}
@@ -13,7 +12,7 @@ use Rattle.paper.specs.Hearing.{onSome}
 use Rattle.paper.specs.Text.{hexDigit, digit, hexText, unhex}
 use Rattle.lore.proofs.Choice.{and-yes, and-not-left, and-not-right}
 
--- What a character is.
+-- What a character can be: a digit 0 to 9, an upper case or lower case digit, or no digit.
 pub data Kind (c : ℕ) : Type 0 where
   number : 48 ≤ c → c ≤ 57 → Kind c
   upper : 65 ≤ c → c ≤ 70 → Kind c

@@ -1,4 +1,4 @@
--- Bits packed in bytes: how many bytes, each of them as a number, one bit more, and the bits read back.
+-- Bits packed into bytes: how many bytes, each byte as a number, one more bit, and the bits read back.
 use Prim.Native.Nat.{ℕ, zero, suc, _+_, _*_, _/_, _%_, _^_, _<_, _≤_}
 use mathlib.Core.Bool.{Bool, true, false, cond}
 use mathlib.Core.List.{List, [], _∷_}
@@ -31,7 +31,7 @@ packed-at (suc n) (suc i) q h =
     next : (i : ℕ) → 8 + 8 * i ≡ 8 * suc i
     next i = omega arith
 
--- The bits of a number from one on, as a number again.
+-- r bits of a number from bit j on, as a number again.
 pub binary-bits : (x j r : ℕ) → binary (counting (λ k. eqb (x / 2 ^ k % 2) 1) j r) ≡ x / 2 ^ j % 2 ^ r
 unfolding binary counting
 binary-bits x j zero = omega arith
@@ -56,7 +56,7 @@ binary-below [] = omega arith
 binary-below (true ∷ q) = omega (arith, binary-below q, pow-suc 2 (length q))
 binary-below (false ∷ q) = omega (arith, binary-below q, pow-suc 2 (length q))
 
--- One bit more, the highest.
+-- One more bit is the highest of the number.
 pub binary-more : (q : List Bool) (b : Bool) → binary (q ▹ b) ≡ binary q + cond b 1 0 * 2 ^ length q
 unfolding binary
 binary-more [] true = refl
@@ -64,7 +64,7 @@ binary-more [] false = refl
 binary-more (c ∷ q) true = omega (arith, binary-more q true, pow-suc 2 (length q))
 binary-more (c ∷ q) false = omega (arith, binary-more q false, pow-suc 2 (length q))
 
--- Each bit of the number.
+-- Bit j of the number is bit j of the list.
 pub binary-at : (q : List Bool) (j : ℕ) → eqb (binary q / 2 ^ j % 2) 1 ≡ getD q j false
 unfolding binary
 binary-at [] j = rw (zero-div (2 ^ j))
@@ -83,11 +83,12 @@ binary-at (b ∷ q) (suc j) = ap (λ (n : ℕ). eqb (n % 2) 1) (next b) ∙ bina
         ∙ sym (shr-shr (cond b 1 0 + 2 * binary q) 1 j)
         ∙ ap (λ (n : ℕ). n / 2 ^ j) (half b)
 
--- The first byte and the rest.
+-- Up to eight bits go into the first byte.
 pub packed-short : (n : ℕ) (q : List Bool) → length q ≤ 8 → packed (suc n) q ≡ binary q ∷ packed n []
 unfolding packed
 packed-short n q h = ap₂ (λ (x y : List Bool). binary x ∷ packed n y) (take-all 8 q h) (drop-of-length-le q {i = 8} h)
 
+-- One more bit goes into the first byte if fewer than eight are there, else into a later one.
 module _ (n : ℕ) (q : List Bool) (b : Bool) where
   pub more-short : length q < 8 → packed (suc n) (q ▹ b) ≡ binary (q ▹ b) ∷ packed n []
   more-short h = packed-short n (q ▹ b) (omega (arith, length-append q (b ∷ [])))
@@ -97,7 +98,7 @@ module _ (n : ℕ) (q : List Bool) (b : Bool) where
   more-long h = ap₂ (λ (x y : List Bool). binary x ∷ packed n y) (take-append-le 8 q (b ∷ []) h)
       (drop-append-le 8 q (b ∷ []) h)
 
--- A zero bit more changes nothing.
+-- One more bit that is 0 changes nothing.
 pub packed-zero : (n : ℕ) (q : List Bool) → packed n (q ▹ false) ≡ packed n q
 unfolding packed
 packed-zero zero q = refl
@@ -111,7 +112,7 @@ packed-zero (suc n) q = go (packed-zero n (drop 8 q)) (decLt (length q) 8)
     go ih (yes h) = more-short n q false h ∙ ap (λ (x : ℕ). x ∷ packed n []) same ∙ sym (packed-short n q (omega arith))
     go ih (no h) = more-long n q false (omega arith) ∙ ap (λ (l : List ℕ). binary (take 8 q) ∷ l) ih
 
--- Each bit of the bytes.
+-- Bit k of the bytes is bit k of the list.
 pub packed-bit : (n : ℕ) (q : List Bool) (k : ℕ) → k < 8 * n → bit (packed n q) k ≡ getD q k false
 unfolding bit
 packed-bit n q k h =

@@ -1,5 +1,5 @@
--- What is known of a frame that was read, where it lies and of which bytes its fields are; and the frames of a record
--- one at a time.
+-- What is known of a frame that was read: its place, length, fields and check. Then the frames of a record, one at a
+-- time.
 use Prim.Native.Nat.{ℕ, zero, suc, _+_, _<_, _≤_}
 use mathlib.Core.Bool.{Bool, true, false, cond}
 use mathlib.Core.List.{List, [], _∷_}
@@ -14,7 +14,7 @@ use Rattle.paper.specs.Frame.{field, skipped, Frame, fields, most, size,
 use Rattle.paper.specs.Frame.{Reading, short, tooLong, badCheck, whole}
 use Rattle.paper.specs.Hearing.{clean, frames, onSome}
 
--- A frame that begins k bytes on, with its check right or not.
+-- A frame f read from s: it begins after k bytes, and right is whether its check is right.
 pub record Read (s : List ℕ) (k : ℕ) (f : Frame) (right : Bool) : Type 0 where
   pub skip : k ≡ skipped s
   pub frame : f ≡ fields (length (f .payload)) (drop k s)
@@ -23,7 +23,7 @@ pub record Read (s : List ℕ) (k : ℕ) (f : Frame) (right : Bool) : Type 0 whe
   pub room : k + size f ≤ length s
   pub check : rightCheck (length (f .payload)) (drop k s) ≡ right
 
--- The reading of a frame.
+-- The reading of a frame, by whether its check is right.
 abbrev pub framed : Bool → ℕ → Frame → Reading
 framed true k f = whole k f
 framed false k f = badCheck k f
@@ -42,7 +42,7 @@ no-long : (r : Bool) (k : ℕ) (f : Frame) → tooLong ≡ framed r k f → ⊥
 no-long true k f e = let z : _≡_ {A = ℕ} 0 1 = cc in omega arith
 no-long false k f e = let z : _≡_ {A = ℕ} 0 1 = cc in omega arith
 
--- The same of the fields as they stand.
+-- Read for the fields with n bytes of payload, straight from the bytes.
 known : (s : List ℕ) (k n : ℕ) (d : Bool) → k ≡ skipped s → field 8 2 (drop k s) ≡ n → n ≤ most
     → 12 + n ≤ length (drop k s)
     → rightCheck n (drop k s) ≡ d → Read s k (fields n (drop k s)) d

@@ -1,5 +1,4 @@
--- Byte order, once over the width: a number written is read back, bytes read are written back, and a field byte by
--- byte.
+-- Byte order for any width: numbers written and read back, bytes read and written back, and fields split into bytes.
 use Prim.Native.Nat.{ℕ, zero, suc, _+_, _*_, _/_, _%_, _^_, _<_, _≤_}
 use mathlib.Core.List.{List, [], _∷_, _++_}
 use mathlib.Core.Path.{_≡_, refl, sym, _∙_, ap, ap₂}
@@ -17,7 +16,7 @@ unfolding le
 le-length zero x = refl
 le-length (suc k) x = ap suc (le-length k (x / 256))
 
--- What lies above k bytes is not written.
+-- A multiple of 256 ^ k does not change the k bytes written.
 le-above : (k x q : ℕ) → le k (x + 256 ^ k * q) ≡ le k x
 unfolding le
 le-above zero x q = refl
@@ -39,7 +38,7 @@ unfolding le number
 number-le zero x h = omega arith
 number-le (suc k) x h = omega (arith, number-le k (x / 256) (omega (arith, rw (pow-suc 256 k) at h)))
 
--- Each is a byte.
+-- Every element is below 256.
 abbrev pub Bytes : List ℕ → Type 0
 Bytes bs = All (λ b. b < 256) bs
 
@@ -55,7 +54,7 @@ le-number (b ∷ bs) h = ap₂ _∷_ (low b (number bs) (h .0))
     high : (b n : ℕ) → b < 256 → (b + 256 * n) / 256 ≡ n
     high b n h = omega arith
 
--- A field is its first byte and the field after it.
+-- A field is its first byte, then the field after it.
 pub field-suc : (at k : ℕ) (s : List ℕ) → field at (suc k) s ≡ getD s at 0 + 256 * field (at + 1) k s
 unfolding number
 field-suc at k s = go (decLt at (length s))
@@ -76,7 +75,7 @@ pub field-none : (at : ℕ) (s : List ℕ) → field at 0 s ≡ 0
 unfolding number
 field-none at s = refl
 
--- A wide field is a narrower one and the field after it.
+-- A field of j + k bytes is a field of j bytes, then one of k bytes.
 pub field-add : (j k at : ℕ) (s : List ℕ) → field at (j + k) s ≡ field at j s + 256 ^ j * field (at + j) k s
 field-add zero k at s = rw (field-none at s, add-zero at, zero-add k) (omega arith)
 field-add (suc j) k at s =
@@ -95,7 +94,7 @@ field-add (suc j) k at s =
     next : (at j : ℕ) → at + 1 + j ≡ at + suc j
     next at j = omega arith
 
--- The same for the widths in use, from the bytes that the code reads.
+-- The same for 2, 4 and 8 bytes, from the values that the code reads.
 pub field-2 : (s : List ℕ) (at a b : ℕ) → a ≡ getD s at 0 → b ≡ getD s (at + 1) 0 → a + 256 * b ≡ field at 2 s
 field-2 s at a b ea eb = rw (field-suc at 1 s, field-suc (at + 1) 0 s, field-none (at + 1 + 1) s, ← ea, ← eb)
     (omega arith)
@@ -119,7 +118,7 @@ pub field-8 : (s : List ℕ) (at a b x y : ℕ) → a ≡ field at 4 s → b ≡
     → x + 4294967296 * y ≡ field at 8 s
 field-8 s at a b x y ea eb ex ey = rw (field-add 4 4 at s, ← ea, ← eb, ex, ey)
 
--- Eight bytes are twice four.
+-- Eight bytes are the four low ones, then the four high ones.
 pub le-8 : (x : ℕ) → le 4 (x % 4294967296) ++ le 4 (x / 4294967296) ≡ le 8 x
 unfolding le
 le-8 x = ap₂ _++_ (ap₂ _∷_ (b₀ x) (ap₂ _∷_ (b₁ x) (ap₂ _∷_ (b₂ x) (ap (λ (y : ℕ). y ∷ []) (b₃ x)))))

@@ -13,7 +13,8 @@ pub data Reply : Type 0 where
   ok : List ℕ → Reply
   device : ℕ → Reply
 
--- "to the first other one": no frame answers; or one does, and the unread rest begins at a place.
+-- "to the first other one": no frame answers (lost); or one does, with its reply and the place where the unread rest
+-- begins.
 pub data Answer : Type 0 where
   lost : Answer
   answered : Reply → ℕ → Answer
@@ -26,8 +27,8 @@ replyOf f = cond (eqb (f .status) status-Ok) (ok (f .payload)) (device (f .statu
 abbrev pub unlessEcho : Frame → Answer → Answer → Answer
 unlessEcho f more this = cond (eqb (f .status) status-Request) more this
 
--- "Short or too long, of any status: 1. Bad check: 2 with status 3. Status other than Ok: 2 with it": from a place on,
--- within n frames.
+-- "Short or too long, of any status: 1. Bad check: 2 with status 3. Status other than Ok: 2 with it": reading from a
+-- place on, at most n frames.
 unfoldable pub answerFrom : ℕ → ℕ → List ℕ → Answer
 answerFrom zero at bytes = lost
 answerFrom (suc n) at bytes =
@@ -44,15 +45,15 @@ answer bytes = answerFrom (length bytes) 0 bytes
 abbrev pub rest : List ℕ → ℕ → List ℕ
 rest bytes at = drop at bytes
 
--- Of the next: all but the payload's length.
+-- Of the next: the conditions on the fields.
 unfoldable pub sound : Info → Bool
 sound info = ltb 0 (info .eraseSize) && (ltb 0 (info .capacity) && leb 4 (info .maxPayload))
 
--- "Info: payload under 18, or erase_size 0, capacity 0, or max_payload under 4: 5": none then.
+-- "Info: payload under 18, or erase_size 0, capacity 0, or max_payload under 4: 5": none in these cases.
 unfoldable pub informed : List ℕ → Option Info
 informed payload = cond (leb 18 (length payload) && sound (infoOf payload)) (some (infoOf payload)) none
 
--- Of the next: how many steps of e cover c.
+-- Of the next: how many steps of size e cover c.
 unfoldable pub steps : ℕ → ℕ → ℕ
 steps e c = (c + (e - 1)) / e
 
@@ -60,12 +61,12 @@ steps e c = (c + (e - 1)) / e
 unfoldable pub spansTooFar : Info → Bool
 spansTooFar info = ltb 0xFFFFFFFF (steps (info .eraseSize) (info .capacity) * info .eraseSize)
 
--- Of the next: k numbers from a on, e apart.
+-- Of the next: the k numbers a, a + e, a + 2e ..
 unfoldable pub apart : ℕ → ℕ → ℕ → List ℕ
 apart e zero a = []
 apart e (suc k) a = a ∷ apart e k (a + e)
 
--- Of the next: a, a + e, a + 2e .. below c.
+-- Of the next: the numbers a, a + e, a + 2e .. below c.
 unfoldable pub below : ℕ → ℕ → ℕ → List ℕ
 below e c a = apart e (steps e (c - a)) a
 
@@ -90,7 +91,7 @@ reported n = cond (leb n 0xFFFFFFFF) n 0xFFFFFFFF
 unfoldable pub key : List ℕ → Option ℕ
 key image = cond (leb 6 (length image) && eqb (length image % 4) 2) (some (field (length image - 6) 4 image)) none
 
--- Of the next: whether there is a key, and it is the device's.
+-- Of the next: whether the image has a key, and it equals the device's.
 abbrev pub sameKey : ℕ → Option ℕ → Bool
 sameKey compat none = false
 sameKey compat (some k) = eqb k compat
@@ -103,7 +104,7 @@ incompatible info image = not (eqb (info .compat) unset) && not (sameKey (info .
 unfoldable pub chunk : ℕ → ℕ
 chunk maxPayload = cond (leb maxPayload most) maxPayload most / 4 * 4
 
--- "The image is padded with FF to a multiple of 4": by so many.
+-- "The image is padded with FF to a multiple of 4": by how many bytes.
 unfoldable pub padding : ℕ → ℕ
 padding n = (4 - n % 4) % 4
 

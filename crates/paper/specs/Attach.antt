@@ -7,11 +7,11 @@ use Rattle.paper.specs.Walk.{nobody}
 use Rattle.paper.specs.Talk.{select, Talk, return, stop, ask, _>>=_, _>>_, walking, Outcome, quiet, heard}
 use Rattle.paper.specs.Talk.{attached, found}
 
--- "An id over 16 bytes gives refusal 14": a Select, and what it hears.
+-- "An id over 16 bytes gives refusal 14": a Select that returns what is heard.
 unfoldable pub listen : Prefix → Talk Heard
 listen p = walking (Walk.ask p)
 
--- "The plain select", of these bits: it succeeds with what it heard.
+-- "The plain select" of some bits: it succeeds with what is heard.
 unfoldable pub selectOnly : Prefix → Talk Outcome
 selectOnly p = do
   h ← listen p

@@ -1,4 +1,4 @@
--- Document 01, "The port and its edges" and "Refusal numbers": what each call answers and leaves.
+-- Document 01, "The port and its edges" and "Refusal numbers": what each call answers, and the client after it.
 use Prim.Native.Nat.{ℕ, _+_, _-_, _*_, _%_}
 use mathlib.Core.Bool.{Bool, true, false, _&&_, not, cond}
 use mathlib.Core.List.{List, [], _∷_, _++_}
@@ -14,14 +14,15 @@ use Rattle.paper.specs.Talk.{return, stop, report, ask, Outcome, quiet, 
 use Rattle.paper.specs.Attach.{selectOnly, deselect, attach, discover}
 use Rattle.paper.specs.Flash.{informOnly, erase, flash, reset}
 
--- "The port and its edges": nothing runs; the next request and how it goes on; a request that is out, and how it goes
--- on.
+-- "The port and its edges": what is left to do. Either no operation runs, or a request is ready to be asked for, or a
+-- request is out; a request comes with how the operation goes on after its answer.
 pub data Left : Type 0 where
   idle : Left
   ready : (q : Ask) → (AnswerTo q → Talk Outcome) → Left
   waiting : (q : Ask) → (AnswerTo q → Talk Outcome) → Left
 
--- "a client by value": with the attached id or none, and the length of the image that a running flash was started with.
+-- "a client by value": its seed, the attached id or none, the length of the image that a running flash was started
+-- with, and what is left to do.
 pub record Client : Type 0 where
   pub seed : ℕ
   pub id : Option Id
@@ -32,9 +33,10 @@ pub record Client : Type 0 where
 unfoldable pub fresh : Client
 fresh = record { seed = 0; id = none; image = none; left = idle }
 
--- "The port and its edges": a refusal's number and what it carries; a request of so many bytes, whose answer is
--- awaited; one with which the operation has succeeded; it goes on, with the progress made; it has ended, with the
--- progress made and its outcome.
+-- "The port and its edges": what a call answers. refused: a number and the values that it carries. granted: a request
+-- of this length, whose answer is awaited. closing: a request of this length, with which the operation has succeeded.
+-- onward: the operation goes on, with the progress made, if any. over: the operation has ended, with the progress made,
+-- if any, and its outcome.
 pub data Says : Type 0 where
   refused : ℕ → List ℕ → Says
   granted : ℕ → Says
@@ -48,11 +50,11 @@ pub record Told : Type 0 where
   pub client : Client
   pub rest : ℕ
 
--- "end the operation": a client with none.
+-- "end the operation": the client with no operation running.
 abbrev pub ended : Client → Option Id → Client
 ended c id = record { seed = c .seed; id = id; image = none; left = idle }
 
--- "One: attached. Unaddressed: success with no id": what an outcome makes of the attached id.
+-- "One: attached. Unaddressed: success with no id": the attached id after an outcome.
 unfoldable pub idAfter : Outcome → Option Id → Option Id
 idAfter quiet id = id
 idAfter (heard h) id = id
@@ -60,8 +62,8 @@ idAfter (attached new) id = new
 idAfter (found ids) id = id
 idAfter (knows info) id = id
 
--- "The others end the operation; seed and (but for deselects) attached id stay as they are then": a conversation up to
--- its next request or its end.
+-- "The others end the operation; seed and (but for deselects) attached id stay as they are then": a conversation is run
+-- up to its next request or its end.
 unfoldable pub proceed : Client → Option (ℕ × ℕ) → Talk Outcome → ℕ → Told
 proceed c progress (return o) at = record { says = over progress o; client = ended c (idAfter o (c .id)); rest = at }
 proceed c progress (stop n carries) at = record { says = refused n carries; client = ended c (c .id); rest = at }
@@ -78,15 +80,15 @@ proceed c progress (ask q f) at =
 abbrev pub refuses : Client → ℕ → List ℕ → Told
 refuses c n carries = record { says = refused n carries; client = c; rest = 0 }
 
--- "The port and its edges": what follows from what is left to do, case by case.
+-- "The port and its edges": a result for each case of what is left to do.
 abbrev pub onLeft {ℓ} : {A : Type ℓ} → Left → A → ((q : Ask) → (AnswerTo q → Talk Outcome) → A)
     → ((q : Ask) → (AnswerTo q → Talk Outcome) → A) → A
 onLeft idle i r w = i
 onLeft (ready q f) i r w = r q f
 onLeft (waiting q f) i r w = w q f
 
--- "Out of turn is: a start while an operation runs"; "Order: 21, 20, 13". A flash is started with an image of some
--- length.
+-- "Out of turn is: a start while an operation runs"; "Order: 21, 20, 13". A flash gives the length of its image; good
+-- is false where the arguments give 13.
 unfoldable pub startWith : Option ℕ → Client → Bool → Talk Outcome → Told
 startWith image c good talk =
     onLeft (c .left)
@@ -94,11 +96,11 @@ startWith image c good talk =
     (refuses c 13 []))
     (λ q f. refuses c 21 []) (λ q f. refuses c 21 [])
 
--- "the host starts an operation": any but a flash.
+-- "the host starts an operation": any except a flash.
 abbrev pub start : Client → Bool → Talk Outcome → Told
 start c good talk = startWith none c good talk
 
--- "prefix or id given over 16 bytes": whether it is not.
+-- "prefix or id given over 16 bytes": whether there are at most 16.
 abbrev pub withinLongest : Id → Bool
 withinLongest bytes = leb (length bytes) longest
 
@@ -116,7 +118,7 @@ startDeselect c = start c true deselect
 unfoldable pub startAttach : Client → Option Id → Told
 startAttach c uid = start c (onSome uid true withinLongest) (attach uid)
 
--- "The walk", from its start.
+-- "The walk": a discovery is started.
 unfoldable pub startDiscover : Client → Id → Told
 startDiscover c bytes = start c (withinLongest bytes) (discover bytes)
 
@@ -156,7 +158,7 @@ unfoldable pub payloadOf : Payload → List ℕ → List ℕ
 payloadOf (these bytes) image = bytes
 payloadOf (piece offset k) image = take k (drop offset image) ++ replicate (k - (length image - offset)) 0xFF
 
--- "Requests have status 0": the frame, with the image lent.
+-- "Requests have status 0": the frame of a request, with the image lent.
 abbrev pub demandFrame : Demand → List ℕ → Frame
 demandFrame d image =
     record {
@@ -168,7 +170,7 @@ demandFrame d image =
           (d .payload) image;
     }
 
--- "asks for a request": its bytes, with the seed that it carries, and the image lent.
+-- "asks for a request": its bytes, from the seed that a Select carries and the image lent.
 unfoldable pub bytesOf : Ask → ℕ → List ℕ → List ℕ
 bytesOf (select p) seed image = frameBytes (selectFrame seed p)
 bytesOf (demand d) seed image = frameBytes (demandFrame d image)
@@ -180,21 +182,22 @@ pub record Asked : Type 0 where
   pub client : Client
   pub buffer : List ℕ
 
--- "In boot the reply is awaited; otherwise the operation succeeds on handing out the request": what is said of a
--- request of n bytes.
+-- "In boot the reply is awaited; otherwise the operation succeeds on handing out the request": the answer for a request
+-- of n bytes.
 abbrev pub handing : Ask → ℕ → Says
 handing (select p) n = granted n
 handing (demand d) n = granted n
 handing (leave d) n = closing n
 
--- "otherwise the operation succeeds on handing out the request": one whose answer is not awaited goes on at once.
+-- "otherwise the operation succeeds on handing out the request": the client after that. If the answer is not awaited,
+-- the operation goes on at once.
 unfoldable pub handedOut : Client → ℕ → (q : Ask) → (AnswerTo q → Talk Outcome) → Client
 handedOut c seed (select p) f = record { seed = seed; id = c .id; image = c .image; left = waiting (select p) f }
 handedOut c seed (demand d) f = record { seed = seed; id = c .id; image = c .image; left = waiting (demand d) f }
 handedOut c seed (leave d) f =
     proceed (record { seed = seed; id = c .id; image = c .image; left = c .left }) none (f tt) 0 .client
 
--- "13, 16, 20, 21, 22 change no state": and no byte is written.
+-- "13, 16, 20, 21, 22 change no state": nor is any byte written.
 abbrev pub withholds : Client → ℕ → List ℕ → List ℕ → Asked
 withholds c n carries buffer = record { says = refused n carries; client = c; buffer = buffer }
 
@@ -218,13 +221,13 @@ request c image buffer =
     (grant c (bytesOf q (seedAfter q (c .seed)) image) (seedAfter q (c .seed)) q f buffer))
     (λ q f. withholds c 21 [] buffer)
 
--- "Deselect .. its record, once handed in, clears the attached id": no other Select has more than 128 bits.
+-- "Deselect .. its record, once handed in, clears the attached id": only a deselect has more than 128 bits.
 abbrev pub cleared : Ask → Option Id → Option Id
 cleared (select p) id = cond (ltb 128 (length p)) none id
 cleared (demand d) id = id
 cleared (leave d) id = id
 
--- Of the next: what the one answer says, if there is one.
+-- Of the next: the reply in a record, if there is one, with the image lent.
 abbrev pub replied : Answers.Answer → List ℕ → Option Answered
 replied lost image = none
 replied (answered r end) image = some (record { reply = r; image = image })
@@ -260,6 +263,6 @@ record′ c image bytes =
     (λ a. proceed (record { seed = c .seed; id = cleared q (c .id); image = c .image; left = c .left }) none (f a)
     (place q bytes))))
 
--- "or says that the link failed": no record, so the rest is at 0.
+-- "or says that the link failed": there is no record, so the rest begins at 0.
 unfoldable pub linkFailed : Client → Told
 linkFailed c = onLeft (c .left) (refuses c 21 []) (λ q f. refuses c 21 []) (λ q f. fails c 0)

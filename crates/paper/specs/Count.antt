@@ -1,5 +1,4 @@
--- Document 01, "The walk", its count: the honest wire, the ids that it speaks of, and the Selects that it counts from
--- them.
+-- Document 01, "The walk": the honest wire, the ids that the count is stated for, and the number of Selects.
 use Prim.Native.Nat.{ℕ, zero, suc, _+_, _-_, _*_, _≤_, _<_}
 use mathlib.Core.Bool.{Bool, true, false, _||_, cond}
 use mathlib.Core.List.{List, [], _∷_}
@@ -9,22 +8,22 @@ use lib.ListN.{length, take}
 use Rattle.paper.specs.Hearing.{Id, Prefix, bitsOf, matches, Heard, nothing, one, garble}
 use Rattle.paper.specs.Walk.{_▹_, Wire}
 
--- "ids matching the given prefix": in their order.
+-- "ids matching the given prefix": in the order of the list.
 unfoldable pub matching : Prefix → List Id → List Id
 matching q [] = []
 matching q (x ∷ xs) = cond (matches q x) (x ∷ matching q xs) (matching q xs)
 
--- Of the next: silence, the one id, or garble.
+-- Of the next: what is heard when these ids answer: nothing, the one id, or garble.
 unfoldable pub heardOf : List Id → Heard
 heardOf [] = nothing
 heardOf (x ∷ []) = one x
 heardOf (x ∷ y ∷ zs) = garble
 
--- "an honest wire": it is heard as the ids that match the prefix asked.
+-- "an honest wire": exactly the ids that match the prefix asked answer.
 unfoldable pub honest : List Id → Wire
 honest ids k q = heardOf (matching q ids)
 
--- Of the next: P holds of every member.
+-- Of the next: P holds for every member.
 abbrev pub All : {A : Type 0} → (A → Type 0) → List A → Type 0
 All P [] = Unit {0}
 All P (x ∷ xs) = P x × All P xs
@@ -42,11 +41,11 @@ pub record Pods (L : ℕ) (ids : List Id) : Type 0 where
   pub bytes : All (λ id. All (λ b. b < 256) id) ids
   pub within16 : L ≤ 16
 
--- "that several ids match": how many match.
+-- "that several ids match": how many ids match a prefix.
 abbrev pub count : List Id → Prefix → ℕ
 count ids q = length (matching q ids)
 
--- "under some prefix": some number below n passes the test.
+-- "under some prefix": whether some number below n passes the test.
 unfoldable pub someBelow : ℕ → (ℕ → Bool) → Bool
 someBelow zero test = false
 someBelow (suc n) test = test n || someBelow n test
@@ -56,13 +55,13 @@ unfoldable pub sumOver : (Id → ℕ) → List Id → ℕ
 sumOver f [] = 0
 sumOver f (x ∷ xs) = f x + sumOver f xs
 
--- "plus for every prefix of p bits or more that extends the given one": the sum of f over those that extend q by fewer
--- than d bits, q itself among them.
+-- "plus for every prefix of p bits or more that extends the given one": the sum of f over q and every prefix that
+-- extends q by fewer than d bits.
 unfoldable pub sumUnder : ℕ → Prefix → (Prefix → ℕ) → ℕ
 sumUnder zero q f = 0
 sumUnder (suc d) q f = f q + (sumUnder d (q ▹ false) f + sumUnder d (q ▹ true) f)
 
--- "2 for each id alone under some prefix of at least p and fewer than 8L bits": here of fewer than n bits.
+-- "2 for each id alone under some prefix of at least p and fewer than 8L bits": n is 8L.
 unfoldable pub aloneUnder : List Id → ℕ → ℕ → Id → ℕ
 aloneUnder ids p n x = cond (someBelow (n - p) (λ i. eqb (count ids (take (p + i) (bitsOf x))) 1)) 2 0
 
@@ -70,13 +69,13 @@ aloneUnder ids p n x = cond (someBelow (n - p) (λ i. eqb (count ids (take (p + 
 unfoldable pub forked : List Id → Prefix → ℕ
 forked ids q = cond (ltb 1 (count ids q)) (cond (ltb 0 (count ids (q ▹ false))) 2 1) 0
 
--- "Count for an honest wire .. 2, plus 2 for each id .. plus for every prefix". A prefix of more than 128 bits matches
--- no id.
+-- "Count for an honest wire .. 2, plus 2 for each id .. plus for every prefix". The sum ends at prefixes of 128 bits: a
+-- longer one matches no id.
 unfoldable pub selects : List Id → ℕ → Prefix → ℕ
 selects ids L prefix =
     2 + (sumOver (aloneUnder ids (length prefix) (8 * L)) (matching prefix ids) + sumUnder (129 - length prefix) prefix
     (forked ids))
 
--- "the bare bound" (of "Holding the contracts to account") on the Selects of a discovery: condition 3's number.
+-- "the bare bound" (of "Holding the contracts to account") on the Selects of a discovery, as in condition 3.
 abbrev pub limit : Prefix → ℕ
 limit prefix = 132 + 260 * (128 - length prefix)

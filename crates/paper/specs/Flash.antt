@@ -15,12 +15,13 @@ use Rattle.paper.specs.Talk.{each, Outcome, quiet, knows}
 
 -- The requests.
 
--- Of the next: a request with these bytes for its payload.
+-- Of the next: a request whose payload is given as bytes.
 abbrev pub plain : ℕ → ℕ → ℕ → List ℕ → Demand
 plain command flags address bytes =
     record { command = command; flags = flags; address = address; payload = these bytes }
 
--- "Info payload": the request for it. Here and below, addresses and flags that document 01 leaves open are the Rust's.
+-- "Info payload": the request for it. Here and below, addresses and flags that document 01 does not fix are those of
+-- client.rs.
 abbrev pub infoRequest : Demand
 infoRequest = plain command-Info 0 0 []
 
@@ -37,7 +38,7 @@ writeSize info n offset = cond (leb (chunk (info .maxPayload)) (padded n - offse
 abbrev pub writeFlags : Info → ℕ → ℕ → ℕ
 writeFlags info n offset = cond (leb (padded n) (offset + chunk (info .maxPayload))) flag-FLUSH 0
 
--- "each Write carries the image from its offset on": of an image of n bytes.
+-- "each Write carries the image from its offset on": the Write at an offset of an image of n bytes.
 abbrev pub writeRequest : Info → ℕ → ℕ → Demand
 writeRequest info n offset =
     record {
@@ -62,16 +63,16 @@ resetRequest bootloader baud = plain command-Reset (resetFlags bootloader baud) 
 
 -- The conversations.
 
--- "Status other than Ok: 2 with it": else the answer's payload, and the image lent with it.
+-- "Status other than Ok: 2 with it": else the payload of the reply, and the image lent with it.
 unfoldable pub accepted : Reply → List ℕ → Talk (List ℕ × List ℕ)
 accepted (ok payload) image = return (payload, image)
 accepted (device status) image = stop 2 (status ∷ [])
 
--- "Requests with one answer": one of them, and its answer.
+-- "Requests with one answer": sends a request; returns the payload of its reply, and the image lent with it.
 unfoldable pub transact : Demand → Talk (List ℕ × List ℕ)
 transact d = ask (demand d) (λ a. accepted (a .reply) (a .image))
 
--- "Requests with one answer": a refusal where the test holds, else on.
+-- "Requests with one answer": a refusal if the test holds; else it goes on.
 unfoldable pub refuseIf : Bool → ℕ → List ℕ → Talk (Unit {0})
 refuseIf true n carries = stop n carries
 refuseIf false n carries = return tt
@@ -94,7 +95,7 @@ eraseAll info = do
   refuseIf (spansTooFar info) 19 []
   each (eraseAddresses info) (eraseOne info)
 
--- "both keys": the device's, then the image's, or the device's alone where that is missing.
+-- "both keys": the device's, then the image's; only the device's if the image has none.
 abbrev pub keys : Info → List ℕ → List ℕ
 keys info image = info .compat ∷ onSome (key image) [] (λ k. k ∷ [])
 
@@ -108,18 +109,18 @@ prepare n = do
   eraseAll info
   return info
 
--- Of the next: "Status 3 repeats the same Write", another ends it.
+-- Of the next: "Status 3 repeats the same Write"; a status other than that and Ok ends the operation.
 unfoldable pub repeated : Reply → Talk (Unit {0}) → Talk (Unit {0})
 repeated (ok payload) again = return tt
 repeated (device status) again = cond (eqb status status-CrcMismatch) again (stop 2 (status ∷ []))
 
--- "Status 3 repeats the same Write; the 17th in a row for one offset gives 17": a request that may go out so many
--- times.
+-- "Status 3 repeats the same Write; the 17th in a row for one offset gives 17": a request; times is how often it may be
+-- sent.
 unfoldable pub persist : ℕ → Demand → Talk (Unit {0})
 persist zero d = stop 17 []
 persist (suc times) d = ask (demand d) (λ a. repeated (a .reply) (persist times d))
 
--- "Write progress: chunks answered Ok, and their total": one Write, which may go out so many times.
+-- "Write progress: chunks answered Ok, and their total": one Write; times is how often it may be sent.
 unfoldable pub writeWithin : ℕ → Info → ℕ → ℕ → Talk (Unit {0})
 writeWithin times info n offset = do
   persist times (writeRequest info n offset)
@@ -129,7 +130,7 @@ writeWithin times info n offset = do
 abbrev pub writeOne : Info → ℕ → ℕ → Talk (Unit {0})
 writeOne info n offset = writeWithin 17 info n offset
 
--- "each Write's address": for all of them.
+-- "each Write's address": the addresses of all Writes.
 unfoldable pub offsets : Info → ℕ → List ℕ
 offsets info n = below (chunk (info .maxPayload)) (padded n) 0
 

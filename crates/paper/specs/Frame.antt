@@ -7,12 +7,12 @@ use lib.Bits.{bitXor}
 use lib.Dec.{ltb, eqb}
 use lib.ListN.{length, getD, take, drop}
 
--- "Numbers are little-endian": x in k bytes.
+-- "Numbers are little-endian": x as k bytes.
 unfoldable pub le : ℕ → ℕ → List ℕ
 le zero x = []
 le (suc k) x = x % 256 ∷ le k (x / 256)
 
--- "Numbers are little-endian": the number that bytes hold.
+-- "Numbers are little-endian": the number that the bytes hold.
 unfoldable pub number : List ℕ → ℕ
 number [] = 0
 number (b ∷ bs) = b + 256 * number bs
@@ -21,7 +21,7 @@ number (b ∷ bs) = b + 256 * number bs
 abbrev pub byte : ℕ → List ℕ → ℕ
 byte at bytes = getD bytes at 0
 
--- "Numbers are little-endian": the number in k bytes from a place on.
+-- "Numbers are little-endian": the number in the k bytes from a place on.
 abbrev pub field : ℕ → ℕ → List ℕ → ℕ
 field at k bytes = number (take k (drop at bytes))
 
@@ -37,7 +37,7 @@ pub record Frame : Type 0 where
 abbrev pub most : ℕ
 most = 1024
 
--- "from 10 the payload; the last 2 the check": the bytes of a frame.
+-- "from 10 the payload; the last 2 the check": how many bytes a frame has.
 abbrev pub size : Frame → ℕ
 size f = 12 + length (f .payload)
 
@@ -49,16 +49,16 @@ frameHead f = (0xA5 ∷ f .command ∷ f .status ∷ f .flags ∷ []) ++ le 4 (f
 unfoldable pub frameBody : Frame → List ℕ
 frameBody f = frameHead f ++ f .payload
 
--- "polynomial 1021 .. no reflection": one bit. The register shifts left, and where a 1 was shifted out the polynomial
--- is added.
+-- "polynomial 1021 .. no reflection": one bit. The register shifts left; if a 1 is shifted out, the polynomial is XORed
+-- in.
 unfoldable pub crcBit : ℕ → ℕ
 crcBit c = cond (ltb c 0x8000) (c * 2) (bitXor (c * 2 % 0x10000) 0x1021)
 
--- Of the next: one byte enters at the top, and eight bits are shifted.
+-- Of the next: one byte is XORed into the high byte of the register, then eight bits are shifted.
 unfoldable pub crcByte : ℕ → ℕ → ℕ
 crcByte c b = crcBit (crcBit (crcBit (crcBit (crcBit (crcBit (crcBit (crcBit (bitXor c (b * 256)))))))))
 
--- Of the next: byte by byte, from a register on.
+-- Of the next: the register after some bytes, starting from c.
 unfoldable pub crcFrom : ℕ → List ℕ → ℕ
 crcFrom c [] = c
 crcFrom c (b ∷ bs) = crcFrom (crcByte c b) bs
@@ -124,19 +124,20 @@ flag-BOOTLOADER = 1
 abbrev pub flag-BAUD : ℕ
 flag-BAUD = 2
 
--- "short .. too long .. bad check, fields still read. Else whole": with a frame, the number of bytes skipped before it.
+-- "short .. too long .. bad check, fields still read. Else whole": a frame comes with the number of bytes skipped
+-- before it.
 pub data Reading : Type 0 where
   short : Reading
   tooLong : Reading
   badCheck : ℕ → Frame → Reading
   whole : ℕ → Frame → Reading
 
--- "Reading skips to the next A5": the bytes before it, all where there is none.
+-- "Reading skips to the next A5": how many bytes come before it; all of them if there is none.
 unfoldable pub skipped : List ℕ → ℕ
 skipped [] = 0
 skipped (b ∷ bs) = cond (eqb b 0xA5) 0 (1 + skipped bs)
 
--- "fields still read": those of a frame with n bytes of payload, from its A5 on.
+-- "fields still read": the fields of a frame with n bytes of payload, where the bytes begin with its A5.
 abbrev pub fields : ℕ → List ℕ → Frame
 fields n bytes = record {
   command = byte 1 bytes;
@@ -146,7 +147,7 @@ fields n bytes = record {
   payload = take n (drop 10 bytes);
 }
 
--- "the check of all bytes before it, A5 included": whether it is right after n bytes of payload.
+-- "the check of all bytes before it, A5 included": whether the check after n bytes of payload is right.
 unfoldable pub rightCheck : ℕ → List ℕ → Bool
 rightCheck n bytes = eqb (check (take (10 + n) bytes)) (field (10 + n) 2 bytes)
 
@@ -166,7 +167,7 @@ readSynced skip bytes = cond (ltb (length bytes) 10) short (readSized skip (fiel
 unfoldable pub read : List ℕ → Reading
 read bytes = readSynced (skipped bytes) (drop (skipped bytes) bytes)
 
--- "Bench frame": what follows from a reading, case by case.
+-- "Bench frame": a result for each kind of reading.
 abbrev pub onReading {ℓ} : {A : Type ℓ} → Reading → A → A → (ℕ → Frame → A) → (ℕ → Frame → A) → A
 onReading short s l b w = s
 onReading tooLong s l b w = l

@@ -1,4 +1,4 @@
--- Document 01, "Ids and hearing": the bits of an id, what a Select sends, and what its record is heard as.
+-- Document 01, "Ids and hearing": the bits of an id, the payload of a Select, and what is heard in its record.
 use Prim.Native.Nat.{ℕ, zero, suc, _+_, _*_, _/_, _%_, _^_}
 use mathlib.Core.Bool.{Bool, true, false, _&&_, _||_, cond, Bool·beq}
 use mathlib.Core.List.{List, [], _∷_}
@@ -12,7 +12,7 @@ use Rattle.paper.specs.Frame.{status-Request, status-Ok, status-Unsuppor
 abbrev pub Id : Type 0
 Id = List ℕ
 
--- "A prefix of k bits": these bits, in their order.
+-- "A prefix of k bits": the bits, in order.
 abbrev pub Prefix : Type 0
 Prefix = List Bool
 
@@ -20,7 +20,7 @@ Prefix = List Bool
 unfoldable pub bit : Id → ℕ → Bool
 bit id k = eqb (byte (k / 8) id / 2 ^ (k % 8) % 2) 1
 
--- Of the next: f k, f (k + 1), .. for n numbers.
+-- Of the next: the n values f k, f (k + 1), ..
 unfoldable pub counting : {A : Type 0} → (ℕ → A) → ℕ → ℕ → List A
 counting f k zero = []
 counting f k (suc n) = f k ∷ counting f (suc k) n
@@ -29,7 +29,7 @@ counting f k (suc n) = f k ∷ counting f (suc k) n
 unfoldable pub bitsOf : Id → List Bool
 bitsOf id = counting (bit id) 0 (8 * length id)
 
--- Of the next: whether bits begin with those of a prefix.
+-- Of the next: whether a list of bits begins with a prefix.
 unfoldable pub begins : Prefix → List Bool → Bool
 begins [] bits = true
 begins (p ∷ ps) [] = false
@@ -39,12 +39,12 @@ begins (p ∷ ps) (b ∷ bits) = Bool·beq p b && begins ps bits
 abbrev pub matches : Prefix → Id → Bool
 matches prefix id = begins prefix (bitsOf id)
 
--- "least significant first": the number of some bits.
+-- "least significant first": the number that the bits make.
 unfoldable pub binary : List Bool → ℕ
 binary [] = 0
 binary (b ∷ bits) = cond b 1 0 + 2 * binary bits
 
--- Of the next: bits in k bytes.
+-- Of the next: the bits packed into k bytes.
 unfoldable pub packed : ℕ → Prefix → List ℕ
 packed zero bits = []
 packed (suc k) bits = binary (take 8 bits) ∷ packed k (drop 8 bits)
@@ -63,20 +63,20 @@ selectFrame seed p = record {
   payload = selectPayload seed p;
 }
 
--- "short, too long or of bad check, or bytes were skipped": none of a frame that is so.
+-- "short, too long or of bad check, or bytes were skipped": none in each of these cases, else the frame.
 unfoldable pub clean : Reading → Option Frame
 clean short = none
 clean tooLong = none
 clean (badCheck k f) = none
 clean (whole k f) = cond (eqb k 0) (some f) none
 
--- "Ids and hearing": what follows from none, and from some.
+-- "Ids and hearing": a result for none, and one for some.
 abbrev pub onSome : {A B : Type 0} → Option A → B → (A → B) → B
 onSome none b f = b
 onSome (some a) b f = f a
 
--- "Hearing reads frames until no byte is left (an empty record holds none)": those of a record, if all are clean. Each
--- takes a byte at least, so there are no more than n, the record's length.
+-- "Hearing reads frames until no byte is left (an empty record holds none)": the frames of a record, if all are clean.
+-- Each takes at least one byte, so n, the length of the record, bounds their number.
 unfoldable pub frames : ℕ → List ℕ → Option (List Frame)
 frames zero bytes = some []
 frames (suc n) [] = some []

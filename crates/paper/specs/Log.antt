@@ -20,15 +20,15 @@ unfoldable pub lines : List ℕ → List (List ℕ)
 lines [] = []
 lines (b ∷ bs) = cond (eqb b 10) ([] ∷ lines bs) (longer b (lines bs))
 
--- "each Select's record": there is none, a bad one, or one and those after it.
+-- "each Select's record": there is no further one, the next one is bad, or there is one and those after it.
 pub data Records : Type 0 where
   missing : Records
   spoilt : Records
   next : List ℕ → Records → Records
 
 -- "its lines joined, ended by an empty line. Odd length, a bad digit, a record over 4,096 bytes .. ends the run with
--- answer 22; a record without its empty line gives 1. The first met counts": after the lines joined so far, in at most
--- cap bytes.
+-- answer 22; a record without its empty line gives 1. The first met counts": acc is what the lines of this record have
+-- given so far, and cap is the limit of its length.
 unfoldable pub joined : ℕ → List ℕ → List (List ℕ) → Records
 joined cap acc [] = missing
 joined cap acc ([] ∷ ls) = next acc (joined cap [] ls)
@@ -36,7 +36,8 @@ joined cap acc ((b ∷ l) ∷ ls) =
     onSome (unhex (b ∷ l)) spoilt (λ bytes. cond (ltb cap (length (acc ++ bytes))) spoilt
     (joined cap (acc ++ bytes) ls))
 
--- "Selects handed out": a conversation over the records of a log, how it ends, and these.
+-- "Selects handed out": the run of a conversation over the records of a log, after k Selects: how it ends, and how many
+-- Selects were handed out by then.
 unfoldable pub overRecords : {A : Type 0} → Walk A → Records → ℕ → Ended A × ℕ
 overRecords (Walk.return a) rs k = (done a, k)
 overRecords (Walk.stop c) rs k = (stopped c, k)
@@ -49,8 +50,8 @@ unfoldable pub prefixIn : List ℕ → Option Id
 prefixIn [] = none
 prefixIn (b ∷ bytes) = cond (eqb b 1) (some bytes) none
 
--- "a first line missing or not beginning with 01 ends the run with answer 22": a line is judged whole before it is
--- used, 22, then 13.
+-- "a first line missing or not beginning with 01 ends the run with answer 22": the whole line is judged first (22),
+-- then the length of its prefix (13).
 unfoldable pub opened : List (List ℕ) → Ended (List Id) × ℕ
 opened [] = (stopped 22, 0)
 opened (l ∷ ls) =

@@ -14,7 +14,8 @@ digit c =
     (cond (leb 65 c && leb c 70) (c - 55)
     (cond (leb 97 c && leb c 102) (c - 87) 16))
 
--- "even length .. else 22": two digits a byte, the higher one first; none where a digit is bad or one is left over.
+-- "even length .. else 22": two digits for each byte, the higher one first; none if a digit is bad or the length is
+-- odd.
 unfoldable pub unhex : List ℕ → Option (List ℕ)
 unhex [] = some []
 unhex (h ∷ []) = none
@@ -22,7 +23,7 @@ unhex (h ∷ l ∷ text) =
     cond (ltb (digit h) 16 && ltb (digit l) 16)
     (onSome (unhex text) none (λ bytes. some ((digit h * 16 + digit l) ∷ bytes))) none
 
--- "Hex text: even length, at most 32 digits, either letter case read .. else 22": none then.
+-- "Hex text: even length, at most 32 digits, either letter case read .. else 22": none stands for 22.
 unfoldable pub parseUid : List ℕ → Option Id
 parseUid text = cond (leb (length text) (2 * longest)) (unhex text) none
 
@@ -30,12 +31,12 @@ parseUid text = cond (leb (length text) (2 * longest)) (unhex text) none
 unfoldable pub hexDigit : ℕ → ℕ
 hexDigit v = cond (ltb v 10) (48 + v) (87 + v)
 
--- "lower case written": two digits a byte, the higher one first.
+-- "lower case written": two digits for each byte, the higher one first.
 unfoldable pub hexText : List ℕ → List ℕ
 hexText [] = []
 hexText (b ∷ bs) = hexDigit (b / 16) ∷ hexDigit (b % 16) ∷ hexText bs
 
--- "13, then 16, with nothing written": the text, or the number and what it carries.
+-- "13, then 16, with nothing written": the text, or a refusal; 16 carries the length needed.
 pub data Written : Type 0 where
   wrote : List ℕ → Written
   refuses13 : Written

@@ -1,4 +1,4 @@
--- Document 01, "The walk": the discovery as a conversation: what is asked, and how it goes on from what is heard.
+-- Document 01, "The walk": the discovery as a conversation of Selects, and its run over a wire.
 use Prim.Native.Nat.{ℕ, zero, suc, _-_}
 use mathlib.Core.Bool.{Bool, true, false, _&&_, not, cond}
 use mathlib.Core.List.{List, [], _∷_, _++_}
@@ -8,32 +8,32 @@ use Rattle.paper.specs.Hearing.{Id, Prefix, longest, bitsOf, matches, be
 use Rattle.paper.specs.Hearing.{garble}
 
 infixl 60 _▹_
--- "prefix plus the id's next bit": a prefix with one bit more.
+-- "prefix plus the id's next bit": a prefix with one more bit.
 abbrev pub _▹_ : Prefix → Bool → Prefix
 prefix ▹ b = prefix ++ (b ∷ [])
 
--- "The walk": a conversation that only selects. It returns a value, ends the operation with an answer number, or sends
--- a Select and goes on from what is heard.
+-- "The walk": a conversation of Selects only. It returns a value, stops the operation with a number, or sends a Select
+-- and goes on with what is heard.
 pub data Walk (A : Type 0) : Type 0 where
   return : A → Walk A
   stop : ℕ → Walk A
   select : Prefix → (Heard → Walk A) → Walk A
 
 infixl 20 _>>=_
--- "The walk": a conversation, then another from its value; where the first stops, both do.
+-- "The walk": one conversation, then another that depends on its value. If the first stops, so does the whole.
 unfoldable pub _>>=_ : {A B : Type 0} → Walk A → (A → Walk B) → Walk B
 return a >>= f = f a
 stop c >>= f = stop c
 select p g >>= f = select p (λ h. g h >>= f)
 
--- Of the next: whether an id is heard that is too long.
+-- Of the next: whether an id is heard, and it is too long.
 unfoldable pub long : Heard → Bool
 long nothing = false
 long (one id) = ltb longest (length id)
 long unaddressed = false
 long garble = false
 
--- "An id over 16 bytes gives refusal 14": a Select, and what it hears.
+-- "An id over 16 bytes gives refusal 14": a Select that returns what is heard.
 unfoldable pub ask : Prefix → Walk Heard
 ask prefix = select prefix (λ h. cond (long h) (stop 14) (return h))
 
@@ -44,7 +44,7 @@ isNothing (one id) = false
 isNothing unaddressed = false
 isNothing garble = false
 
--- Of the next: whether two ids are one.
+-- Of the next: whether two ids are equal.
 unfoldable pub sameId : Id → Id → Bool
 sameId [] [] = true
 sameId [] (y ∷ ys) = false
@@ -86,7 +86,7 @@ judge prefix ids unaddressed descend = stop 23
 judge prefix ids garble descend = descend
 
 -- "at 128 bits give 12. Select the zero child. If that is Nothing, the one child counts as Garble with no probe. Walk
--- the zero child, then the one child." What the prefix holds is known, and it can grow by n bits.
+-- the zero child, then the one child." What was heard for the prefix is given; the prefix can grow by n bits.
 unfoldable pub walk : ℕ → Prefix → List Id → Heard → Walk (List Id)
 walk zero prefix ids heard = judge prefix ids heard (stop 12)
 walk (suc n) prefix ids heard = judge prefix ids heard (do
@@ -95,7 +95,7 @@ walk (suc n) prefix ids heard = judge prefix ids heard (do
   ones ← cond (isNothing zeros) (return garble) (ask (prefix ▹ true))
   walk n (prefix ▹ true) ids₁ ones)
 
--- Of the next: an id in its place.
+-- Of the next: an id inserted into a sorted list.
 unfoldable pub insert : Id → List Id → List Id
 insert x [] = x ∷ []
 insert x (y ∷ ys) = cond (before x y) (x ∷ y ∷ ys) (y ∷ insert x ys)
@@ -116,16 +116,17 @@ discover prefix = do
   ids ← walk (128 - length prefix) prefix [] heard
   select nobody (λ _. return (sort ids))
 
--- "The walk": what is heard, by how many Selects went before and by the prefix asked.
+-- "The walk": a wire. It gives what is heard, from the number of Selects sent before and the prefix asked.
 abbrev pub Wire : Type 0
 Wire = ℕ → Prefix → Heard
 
--- "The walk": how a conversation ends, with a value or with an answer number.
+-- "The walk": how a conversation ends: with a value, or with a number.
 pub data Ended (A : Type 0) : Type 0 where
   done : A → Ended A
   stopped : ℕ → Ended A
 
--- "The walk": a conversation over a wire, after k Selects: how it ends, and the Selects by then.
+-- "The walk": the run of a conversation over a wire, after k Selects: how it ends, and how many Selects were sent by
+-- then.
 unfoldable pub run : {A : Type 0} → Wire → ℕ → Walk A → Ended A × ℕ
 run wire k (return a) = (done a, k)
 run wire k (stop c) = (stopped c, k)

@@ -1,1 +1,1 @@
-// Document 01 as definitions: what a reader must believe. No code.
+// Document 01 as definitions, which a reader has to trust. No code.

@@ -1,4 +1,4 @@
--- The ways through the reader: the search for A5, the check, and a frame with the places that it takes.
+-- Lemmas for each path through the reader: the search for A5, the check, and a frame with its places in the record.
 use Prim.Native.Nat.{ℕ, _+_, _-_, _<_, _≤_}
 use mathlib.Core.Bool.{Bool, true, false, cond}
 use mathlib.Core.List.{List}
@@ -19,6 +19,7 @@ use Rattle.reader.specs.declared.Reading.{Reading}
 use Rattle.reader.specs.declared.Reading.the-variants.{Short, BadCheck, Whole}
 use Rattle.reader.specs.Shown.{frameAt, fieldsAt, shownFrom}
 
+-- The search for A5 at place i: it is there, it is not there, or the bytes end.
 module _ (s : List ℕ) (i : ℕ) (e : i + skipped (drop i s) ≡ skipped s) where
   pub found : i < length s → getD s i 0 ≡ 0xA5 → i ≡ skipped s
   unfolding skipped
@@ -58,7 +59,7 @@ pub fields-read : (s : List ℕ) (base n a : ℕ) → a ≡ field 4 4 s
     } ≡ fieldsAt base n s
 fields-read s base n a e = rw e
 
--- The fields, as read with n bytes of payload.
+-- The paper's fields with n bytes of payload, as the code reads them.
 fields-shown : (base n : ℕ) (s : List ℕ) → 12 + n ≤ length s → frameAt (base + 0) (Paper.fields n s) ≡ fieldsAt base n s
 fields-shown base n s h = rw (add-zero base, length-take-le n (drop 10 s) (omega (arith, length-drop 10 s)))
 
@@ -78,7 +79,7 @@ pub read-sized : (s : List ℕ) (base w : ℕ) (r : Reading) → 10 ≤ length s
 unfolding readSynced
 read-sized s base w r h ew er = simp (le-ltb _ _ h, ← ew) er
 
--- Bytes skipped move the frame's places.
+-- Skipped bytes move the frame's places.
 shown-skipped : (at k : ℕ) (s : List ℕ) → shownFrom (at + k) (readSynced 0 s) ≡ shownFrom at (readSynced k s)
 unfolding readSynced readSized
 shown-skipped at k s = go (ltb (length s) 10) (ltb Paper.most n) (ltb (length s) (12 + n)) (rightCheck n s)

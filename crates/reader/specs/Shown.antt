@@ -1,4 +1,4 @@
--- A frame as the paper reads it, with the places that it takes in the record.
+-- The paper's frames and readings as values of the code, with their places in the record.
 use Prim.Native.Nat.{ℕ, _+_}
 use mathlib.Core.List.{List}
 use lib.ListN.{length}
@@ -8,7 +8,7 @@ use Rattle.reader.specs.declared.Frame.{Frame}
 use Rattle.reader.specs.declared.Reading.{Reading}
 use Rattle.reader.specs.declared.Reading.the-variants.{Short, TooLong, BadCheck, Whole}
 
--- A frame whose A5 stands at a place.
+-- A frame of the paper whose A5 is at a place.
 abbrev pub frameAt : ℕ → Paper.Frame → Frame
 frameAt at f = record {
   command = f .command;
@@ -20,7 +20,7 @@ frameAt at f = record {
   end = at + (12 + length (f .payload));
 }
 
--- The same of a frame with n bytes of payload in bytes that begin with its A5.
+-- The same, read from bytes that begin with the A5 of a frame with n bytes of payload.
 abbrev pub fieldsAt : ℕ → ℕ → List ℕ → Frame
 fieldsAt at n bytes = record {
   command = byte 1 bytes;
@@ -32,6 +32,6 @@ fieldsAt at n bytes = record {
   end = at + (12 + n);
 }
 
--- What was read from a place of the record on.
+-- What the paper reads from a place of the record on.
 abbrev pub shownFrom : ℕ → Paper.Reading → Reading
 shownFrom at r = onReading r Short TooLong (λ k f. BadCheck (frameAt (at + k) f)) (λ k f. Whole (frameAt (at + k) f))

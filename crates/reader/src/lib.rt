@@ -1,11 +1,11 @@
-// The bench frame's reader: the frame that begins at the next A5 from a place of a record on.
+// The reader of bench frames: it finds the next A5 from a place of a record on, and reads the frame there.
 ghost use mathlib.Core.Path.{_≡_};
 ghost use Prim.Native.Nat.{_+_, _≤_, _<_, _^_};
 ghost use lib.ListN.{length, drop};
 ghost use Rattle.paper.specs.Frame.{skipped, rightCheck, readSized, readSynced, read};
 ghost use Rattle.reader.specs.Shown.{fieldsAt, shownFrom};
 
-// A frame's fields, and where in the record its payload begins and where it ends.
+// A frame's fields, and the places in the record where its payload begins and where the frame ends.
 pub struct Frame {
     pub command: u8,
     pub status: u8,
@@ -23,7 +23,7 @@ pub enum Reading {
     Whole(Frame),
 }
 
-// How many bytes stand before the first A5.
+// How many bytes come before the first A5; all of them if there is none.
 fn skipped(s: &[u8]) -> usize
     ensures { λ r. ⌜ r ≡ skipped (now (s .entry)) ⌝ }
     ensures { λ r. ⌜ r ≤ length (now (s .entry)) ⌝ }
@@ -38,7 +38,7 @@ fn skipped(s: &[u8]) -> usize
     i
 }
 
-// s begins with the A5 of a frame with n bytes of payload; base is where s begins in the record.
+// The fields of a frame with n bytes of payload. s begins with its A5; base is where s begins in the record.
 fn fields(s: &[u8], base: usize, n: usize) -> Frame
     requires { ⌜ 12 + n ≤ length (now s) ⌝ }
     requires { ⌜ base + length (now s) < 2 ^ 64 ⌝ }
@@ -55,6 +55,7 @@ fn fields(s: &[u8], base: usize, n: usize) -> Frame
     }
 }
 
+// Whether the check after n bytes of payload is right.
 fn right_check(s: &[u8], n: usize) -> bool
     requires { ⌜ 12 + n ≤ length (now s) ⌝ }
     ensures { λ r. ⌜ r ≡ rightCheck n (now (s .entry)) ⌝ }
@@ -64,6 +65,7 @@ fn right_check(s: &[u8], n: usize) -> bool
     c == wire::get16(s, e)
 }
 
+// Reads a frame whose head says n bytes of payload. s and base as above.
 fn read_sized(s: &[u8], base: usize, n: u16) -> Reading
     requires { ⌜ base + length (now s) < 2 ^ 64 ⌝ }
     ensures { λ r. ⌜ r ≡ shownFrom base (readSized 0 n (now (s .entry))) ⌝ }
@@ -84,6 +86,7 @@ fn read_sized(s: &[u8], base: usize, n: u16) -> Reading
     }
 }
 
+// Reads the frame at the front of s. s begins with its A5, or is empty; base is where s begins in the record.
 fn read_synced(s: &[u8], base: usize) -> Reading
     requires { ⌜ base + length (now s) < 2 ^ 64 ⌝ }
     ensures { λ r. ⌜ r ≡ shownFrom base (readSynced 0 (now (s .entry))) ⌝ }
@@ -95,7 +98,7 @@ fn read_synced(s: &[u8], base: usize) -> Reading
     }
 }
 
-// The frame from a place of the record on; short if the place is past the end.
+// Reads the next frame from a place of the record on; Short if the place is past the end.
 pub fn read(bytes: &[u8], at: usize) -> Reading
     ensures { λ r. ⌜ r ≡ shownFrom at (read (drop at (now (bytes .entry)))) ⌝ }
 {

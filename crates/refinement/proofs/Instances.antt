@@ -1,4 +1,4 @@
--- What meets the premises: each theorem with a premise, applied to values that meet it.
+-- Premises can be met: theorems of this crate, applied to values that satisfy their premises.
 use Prim.Native.Nat.{ℕ, _≤_}
 use mathlib.Core.List.{List, [], _∷_}
 use mathlib.Core.Option.{Option, some}
@@ -41,7 +41,7 @@ use Rattle.refinement.proofs.walk.TableRows.{row-of-table, unused-bytes
 use Rattle.refinement.proofs.walk.TableRows.{table-sorted}
 use Rattle.refinement.proofs.client.RecordAnswers.{record-told}
 
--- A flash of 5 bytes before its second Write and after it, by a client of the last seed with an id attached; and the
+-- A flash of 5 bytes, with its second Write next and then out, by a client of seed 255 with an id attached; and the
 -- answer to that Write.
 abbrev device : Info
 device = record {
@@ -92,7 +92,7 @@ pub record-told-met : CodeRecord.record′ (clientOf sent) image wrote ≡ toldA
 unfolding sound
 record-told-met = record-told sent (record { seed = omega arith; id = omega arith; turn = refl }) image wrote
 
--- A discovery under C1 that has kept C1 07 and confirms C1 87 by its own child.
+-- A discovery under C1 that has kept C1 07 and is confirming C1 87 by the child that C1 87 is in.
 abbrev confirming : State
 confirming = record {
   pre = bitsOf (0xC1 ∷ []);
@@ -120,7 +120,7 @@ step-sim-met = step-sim confirming (one (0xC1 ∷ 0x87 ∷ [])) confirming-fits
 pub asks-sim-met : bitsAsked (Moves.asks (walkOf confirming) Mine) ≡ request confirming
 asks-sim-met = asks-sim confirming confirming-fits
 
--- A table of two ids, not in order, of different lengths.
+-- A table of two ids of different lengths, not in order.
 abbrev two : List Id
 two = (0xC1 ∷ 0x87 ∷ []) ∷ (0xC1 ∷ []) ∷ []
 
@@ -143,7 +143,7 @@ pub table-sorted-met : sorted (tableOf two) ≡ tableOf ((0xC1 ∷ []) ∷ (0xC1
 unfolding sort insert before
 table-sorted-met = table-sorted two (omega arith) two-short
 
--- Three ids, of which two begin with C1.
+-- Three ids of one length, two of which begin with C1.
 pub ends-met :
     (driven 31332 (honest ids) 0 (begun under)
     ≡ (nextOf (ended ((run (honest ids) 0 (discover under)) .0)), (run (honest ids) 0 (discover under)) .1))

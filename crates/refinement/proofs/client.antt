@@ -1,3 +1,4 @@
+-- The code's client is document 01's: starts, requests and records, any calls, and the client driven over any events.
 pub mod CallsAreTalk
 pub mod Cases
 pub mod DrivenIsTalk

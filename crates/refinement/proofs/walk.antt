@@ -1,3 +1,4 @@
+-- The code's walk is the walk machine: its path, marks, table, requests and step, and acceptance condition 3 for it.
 pub mod AskedBits
 pub mod Condition3
 pub mod LevelMarks

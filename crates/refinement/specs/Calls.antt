@@ -1,4 +1,4 @@
--- Any calls, in any order: what the code answers to them, and what document 01 says that they answer.
+-- Any calls in any order: the code's answers, and document 01's.
 use Prim.Native.Nat.{ℕ, _<_}
 use mathlib.Core.Bool.{Bool, cond}
 use mathlib.Core.List.{List, [], _∷_}
@@ -20,8 +20,8 @@ use Rattle.client_request.specs.Request as CodeRequest
 use Rattle.client_record.specs.Record as CodeRecord
 use Rattle.refinement.specs.ClientServed.{resting}
 
--- The starts with their arguments, a request with the image lent and its buffer, a record with the image lent and its
--- bytes, a link that failed.
+-- Each start with its arguments; a request with the image and the buffer lent; a record with the image lent and its
+-- bytes; a failed link.
 pub data Call : Type 0 where
   startSelect : Id → ℕ → Call
   startDeselect : Call
@@ -36,7 +36,7 @@ pub data Call : Type 0 where
   record′ : List ℕ → List ℕ → Call
   linkFailed : Call
 
--- A call whose prefix or record is bytes; of an image, a buffer and a baud nothing is asked.
+-- The prefix or the record of the call consists of bytes. Nothing is required of an image, a buffer or a baud.
 abbrev pub Good : Call → Type 0
 Good (startSelect bytes bits) = Bytes bytes
 Good startDeselect = Unit {0}
@@ -51,7 +51,7 @@ Good (request image buffer) = Unit {0}
 Good (record′ image bytes) = Bytes bytes
 Good linkFailed = Unit {0}
 
--- What is answered: what is said, where the unread rest begins, the buffer after a request.
+-- The answer to a call, where the unread rest begins, and the buffer after a request.
 pub record Reply : Type 0 where
   pub says : Paper.Says
   pub rest : ℕ
@@ -135,7 +135,7 @@ unfoldable pub reached : Client → List Call → Client
 reached c [] = c
 reached c (call ∷ calls) = reached ((codeCall c call) .1) calls
 
--- A client with no operation, of a seed and an attached id or none.
+-- The client has no operation: only a seed and an attached id or none.
 pub record Rests (c : Client) : Type 0 where
   pub seed : ℕ
   pub byte : seed < 256

@@ -1,5 +1,5 @@
--- The code's client as a host drives it, over any events: what it answers last, what it hands out, and that it stands
--- where a conversation does.
+-- The code's client driven by a host over any events: its last answer, the requests handed out, and how it agrees with
+-- document 01's conversation.
 use Prim.Native.Nat.{ℕ, _≤_}
 use mathlib.Core.Bool.{true, cond}
 use mathlib.Core.List.{List, [], _∷_, _++_}
@@ -23,20 +23,20 @@ use Rattle.client_record.specs.Record.{record′, linkFailed}
 use Rattle.refinement.specs.Calls.{attachedTo}
 use Rattle.refinement.specs.ClientServed.{onSays, isOnward, opening, resting}
 
--- "hands back the bytes heard, or says that the link failed".
+-- "hands back the bytes heard, or says that the link failed": the call for an event.
 unfoldable pub tells : Client → Event → Told
 tells c (heard image bytes) = record′ c image bytes
 tells c failed = linkFailed c
 
--- A round: the request asked for, and what is told after it.
+-- The calls of a round: asking for the request, then telling the event.
 abbrev pub asking : List ℕ → Round → Told → Asking
 asking buffer r t = request (t .client) (r .lent) buffer
 
 abbrev pub telling : List ℕ → Round → Told → Told
 telling buffer r t = tells (asking buffer r t .answer .client) (r .event)
 
--- From the start's answer on, while the operation goes on and requests are granted; a request that is refused, or with
--- which the operation has ended, is the last.
+-- The last answer, from the start's answer, while the operation goes on and requests are granted. A request that is
+-- refused, or that ends the operation, is the last call.
 unfoldable pub driven : List ℕ → List Round → Told → Told
 driven buffer [] t = t
 driven buffer (r ∷ rs) t =
@@ -46,7 +46,7 @@ driven buffer (r ∷ rs) t =
     (opening (asking buffer r t .answer)) (opening (asking buffer r t .answer)))
     t
 
--- All that is handed out on the way, the first one first.
+-- The requests that `driven` hands out, the first one first.
 unfoldable pub sends : List ℕ → List Round → Told → List Sent
 sends buffer [] t = []
 sends buffer (r ∷ rs) t =
@@ -56,16 +56,16 @@ sends buffer (r ∷ rs) t =
     (λ k. Theory.sending k (asking buffer r t .bytes) none ∷ []) [] [])
     []
 
--- What an answer says, read as document 01's.
+-- The code's answer, read as document 01's.
 abbrev pub answerOf : Told → Paper.Says
 answerOf t = saysOf (t .says) (t .progress) (t .id) (t .found)
 
--- A request asked for is handed out: its bytes come first, and every later byte of the buffer is kept.
+-- The request is handed out: its bytes come first in the buffer, and the bytes after them are unchanged.
 pub record Grants (c : Client) (image buffer : List ℕ) (q : Ask) (bytes : List ℕ) : Type 0 where
   pub says : answerOf (opening (request c image buffer .answer)) ≡ handing q (length bytes)
   pub after : request c image buffer .bytes ≡ bytes ++ drop (length bytes) buffer
 
--- A client of a seed and an attached id or none, with this request next.
+-- A client with this seed, this attached id or none, and this request next.
 pub record Asks (n : Option ℕ) (seed : ℕ) (id : Option Id) (q : Ask) (c : Client) : Type 0 where
   pub seeded : c .seed ≡ seed
   pub attached : attachedTo c ≡ id
@@ -78,16 +78,16 @@ Leaves n seed id (refused k carries) c = c ≡ resting seed id
 Leaves n seed id (lost q) c = c ≡ resting seed id
 Leaves n seed id (pending q) c = Asks n seed id q c
 
--- A client that began with a seed and an attached id or none stands where its conversation does; images of length n are
--- lent.
+-- The answer and the client are those that the conversation leads to. The client began with this seed and this attached
+-- id or none; n is the length of the images lent.
 pub record StandsAs (n : Option ℕ) (seed : ℕ) (id : Option Id) (r : Past × Stand Outcome) (b : Brought)
     (t : Told) : Type 0 where
   pub says : answerOf t ≡ saidAt r b
   pub rest : t .rest ≡ b .rest
   pub client : Leaves n (seedAt seed r) (idAt id r) (r .1) (t .client)
 
--- An operation started on a client with none, by this answer, and driven over these rounds: it stands where document
--- 01's conversation does, and what it hands out is what document 01's client does.
+-- An operation was started with this answer, on a client with none running. Driven over these rounds it stands where
+-- document 01's conversation does, and hands out the requests that document 01's client does.
 pub record Plays (n : Option ℕ) (seed : ℕ) (id : Option Id) (m : Talk Outcome) (buffer : List ℕ) (rounds : List Round)
     (s : Started) : Type 0 where
   pub stands : StandsAs n seed id (play m (events rounds) []) (brought m (events rounds) nothingYet)

@@ -1,5 +1,4 @@
--- The record of each client of the operations' machine, every field of it, and what the code answers where the machine
--- does.
+-- Each client of the operations' machine as the code's client, field by field, and each of its answers as the code's.
 use Prim.Native.Nat.{ℕ}
 use mathlib.Core.Bool.{Bool, true, false, cond}
 use mathlib.Core.List.{List, [], _∷_}
@@ -62,7 +61,7 @@ abbrev pub valueOf : Option PaperHearing.Id → Id
 valueOf none = noId
 valueOf (some x) = idFrom x
 
--- What the record holds in each phase: the phase, the prefix, its number of bits, the walk.
+-- What the code's client holds in each phase: the phase, the prefix, its number of bits, the walk.
 abbrev pub searchIn : Search → CodeSearch.Search
 searchIn (probing bytes bits) = Probing
 searchIn parting = Parting
@@ -130,7 +129,7 @@ standing seed id turn prefix bits walk =
       walk = walk;
     }
 
--- The client's record. With no operation, all that belongs to one is zero.
+-- The code's client. With no operation, every field that belongs to one is zero.
 abbrev pub recordOf : ℕ → Option PaperHearing.Id → Turn → Client
 recordOf seed id idle = standing seed id Idle noId 0 noWalk
 recordOf seed id (ready ph) = standing seed id (Ready (phaseIn ph)) (prefixIn ph) (bitsIn ph) (walkIn ph)
@@ -139,7 +138,7 @@ recordOf seed id (waiting ph) = standing seed id (Waiting (phaseIn ph)) (prefixI
 abbrev pub clientOf : Machine.Client → Client
 clientOf c = recordOf (c .seed) (c .id) (c .turn)
 
--- What the code answers, with the progress, the id or prefix and the ids that stand beside it.
+-- The code's answer, with the progress, the id or prefix, and the ids that belong to it.
 pub record Shown : Type 0 where
   pub says : Says
   pub progress : Progress
@@ -159,17 +158,17 @@ plainly s = beside s noId
 abbrev pub making : Says → Option (ℕ × ℕ) → Shown
 making s p = record { says = s; progress = progressIn p; id = noId; found = noTable }
 
--- The number at a place of what a refusal carries.
+-- The i-th number that a refusal carries.
 abbrev pub carried : ℕ → List ℕ → ℕ
 carried i carries = getD carries i 0
 
--- The image's key, where one is carried behind the device's.
+-- The image's key, if the refusal carries one after the device's.
 abbrev pub keyIn : List ℕ → Compat
 keyIn [] = Missing
 keyIn (device ∷ []) = Missing
 keyIn (device ∷ image ∷ more) = Key image
 
--- The refusal of a number, and what it carries.
+-- The code's answer for a refusal's number and what that carries. 23 is an outcome; any number not listed gives 21.
 unfoldable pub refusedAs : ℕ → List ℕ → Shown
 refusedAs n carries =
     cond (eqb n 1) (plainly (Refused Io))

@@ -1,5 +1,4 @@
--- A client driven over a wire, from bytes to bytes: a request is asked for, the wire is handed its bytes, and its
--- record is handed in.
+-- A client driven over a wire of bytes: each request goes to the wire, and the wire's record is handed in.
 use Prim.Native.Nat.{ℕ, zero, suc, _+_, _%_, _≤_, _<_}
 use mathlib.Core.Bool.{Bool, true, false, cond}
 use mathlib.Core.List.{List, [], _∷_}
@@ -33,11 +32,11 @@ use Rattle.client_record.specs.Record.{record′}
 use Rattle.refinement.specs.WalkRecord.{tableOf}
 use Rattle.refinement.specs.ClientRecord.{isThere, valueOf}
 
--- The record's bytes, by how many Selects went before and by the request's bytes.
+-- The record for a request, by how many Selects were sent before it and by its bytes.
 abbrev pub Wire : Type 0
 Wire = ℕ → List ℕ → List ℕ
 
--- A request stands in the buffer, awaited or not; it goes on; anything else.
+-- Cases of an answer: a request is in the buffer, awaited or not; the operation goes on; anything else.
 abbrev pub onSays {ℓ} : {A : Type ℓ} → Says → (ℕ → A) → (ℕ → A) → A → A → A
 onSays (Granted n) granted closing onward other = granted n
 onSays (Closing n) granted closing onward other = closing n
@@ -45,32 +44,32 @@ onSays Onward granted closing onward other = onward
 onSays (Over o) granted closing onward other = other
 onSays (Refused r) granted closing onward other = other
 
--- The request's bytes, where one stands in the buffer.
+-- The request's bytes, if one is in the buffer.
 unfoldable pub sent : Asking → List ℕ
 sent a = onSays (a .answer .says) (λ n. take n (a .bytes)) (λ n. take n (a .bytes)) [] []
 
--- A request asked for, with a buffer lent, and the wire's record to it handed in.
+-- One round: ask for a request, with a buffer lent, and hand in the wire's record for it.
 unfoldable pub round : List ℕ → Wire → ℕ → Client → Told
 round buffer wire k c = record′ (request c [] buffer .answer .client) [] (wire k (sent (request c [] buffer)))
 
 unfoldable pub isOnward : Says → Bool
 isOnward s = onSays s (λ n. false) (λ n. false) true false
 
--- While the operation goes on, at most n rounds more, after k Selects: the last answer, and the Selects by then.
+-- At most n rounds while the operation goes on, after k Selects: the last answer, and the number of Selects by then.
 unfoldable pub served : ℕ → List ℕ → Wire → ℕ → Told → Told × ℕ
 served zero buffer wire k t = (t, k)
 served (suc n) buffer wire k t =
     cond (isOnward (t .says)) (served n buffer wire (suc k) (round buffer wire k (t .client))) (t, k)
 
--- A start's answer, as one to a record.
+-- A start's answer, in the form of the answer to a record.
 abbrev pub opening : Started → Told
 opening s = record { says = s .says; client = s .client; rest = 0; progress = None; id = noId; found = noTable }
 
--- A discovery under a prefix of whole bytes, within its limit.
+-- A discovery under a prefix of whole bytes, for as many rounds as its limit allows.
 unfoldable pub discovered : List ℕ → Wire → Client → Id → Told × ℕ
 discovered buffer wire c given = served (limit (bitsOf given)) buffer wire 0 (opening (startDiscover c given))
 
--- A client with no operation, of a seed and an attached id or none.
+-- The client with no operation, with this seed and this attached id or none.
 abbrev pub resting : ℕ → Option Id → Client
 resting seed id = record {
   seed = seed;
@@ -82,20 +81,19 @@ resting seed id = record {
   walk = noWalk;
 }
 
--- What document 01's discovery hears over a wire, from a client of that seed on: each Select has the next seed.
+-- A wire of bytes as document 01's wire. The client began with this seed, and each Select has the next one.
 unfoldable pub heardBy : Wire → ℕ → PaperWalk.Wire
 heardBy wire seed k q = hear (wire k (bytesOf (select q) ((seed + suc k) % 256) []))
 
--- "an honest wire", of the Selects that a discovery under this prefix hands out before its deselect, from a client of
--- this seed: fewer than the limit went before, and the prefix asked extends the given one and has at most 128 bits.
--- Each is heard as silence, the one id, or garble, as none, one or several ids match. Of any other Select it says
--- nothing.
+-- "an honest wire": each Select is heard as silence, the one id, or garble, as none, one or several ids match. This
+-- covers only the Selects that the discovery can send before its deselect: fewer than the limit were sent before, and
+-- the prefix selected extends the given one to at most 128 bits. The client began with this seed.
 abbrev pub Honest : Wire → ℕ → Prefix → List Id → Type 0
 Honest wire seed given ids =
     (k : ℕ) (q : Prefix) → k < limit given → begins given q ≡ true → length q ≤ 128
     → heardBy wire seed k q ≡ heardOf (matching q ids)
 
--- What a discovery's end says, its table, and the attached id after it: one that is done has deselected.
+-- The answer at a discovery's end, its table, and the attached id after it. A discovery that is done has deselected.
 abbrev pub endSays : Ended (List Id) → PaperClient.Says
 endSays (done ids) = over none (found ids)
 endSays (stopped n) = refused n []
@@ -108,15 +106,15 @@ abbrev pub endId : Option Id → Ended (List Id) → Option Id
 endId id (done ids) = none
 endId id (stopped n) = id
 
--- A driven discovery ended as document 01's did: with the same answer and ids, after as many Selects, and with nothing
--- left running.
+-- A driven discovery ended as document 01's did: with the same answer and ids, after the same number of Selects, and
+-- with no operation left.
 pub record EndsAs (seed : ℕ) (id : Option Id) (paper : Ended (List Id) × ℕ) (code : Told × ℕ) : Type 0 where
   pub answer : saysOf (code .0 .says) (code .0 .progress) (code .0 .id) (code .0 .found) ≡ endSays (paper .0)
   pub found : code .0 .found ≡ endTable (paper .0)
   pub client : code .0 .client ≡ resting ((seed + paper .1) % 256) (endId id (paper .0))
   pub selects : code .1 ≡ paper .1
 
--- A driven discovery found exactly these ids, after so many Selects: they are the answer and the table, and no id is
+-- A driven discovery found exactly these ids after n Selects. They are in the answer and the table, and no id is
 -- attached.
 pub record Finds (seed : ℕ) (ids : List Id) (n : ℕ) (code : Told × ℕ) : Type 0 where
   pub says : code .0 .says ≡ Over Found
@@ -125,7 +123,7 @@ pub record Finds (seed : ℕ) (ids : List Id) (n : ℕ) (code : Told × ℕ) : T
   pub client : code .0 .client ≡ resting ((seed + n) % 256) none
   pub selects : code .1 ≡ n
 
--- The ids of an answer: at most 64, distinct, in order, each of at most 16 bytes and beginning with the prefix.
+-- The ids of an answer: at most 64, distinct, sorted, each of at most 16 bytes and beginning with the prefix.
 pub record Lists (prefix : Prefix) (code : Told × ℕ) : Type 0 where
   pub ids : List Id
   pub answer : idsOf (code .0 .found) ≡ ids
@@ -136,17 +134,17 @@ pub record Lists (prefix : Prefix) (code : Told × ℕ) : Type 0 where
   pub short : All (λ x. length x ≤ 16) ids
   pub matched : All (λ x. matches prefix x ≡ true) ids
 
--- The bits that a Select asks for: byte 11 counts them, and they begin with byte 12.
+-- The prefix in a Select's bytes: byte 11 is the number of its bits, and they start at byte 12.
 unfoldable pub bitsIn : List ℕ → Prefix
 bitsIn bytes = take (byte 11 bytes) (bitsOf (drop 12 bytes))
 
--- The record of the ids that match: silence, the one's reply, or a stray byte where several speak at once.
+-- The record when these ids match: empty, the one id's reply, or a stray byte where several reply at once.
 unfoldable pub spoken : List Id → List ℕ
 spoken [] = []
 spoken (x ∷ []) = frameBytes (record
     { command = command-Select; status = status-Ok; flags = 0; address = 0; payload = x })
 spoken (x ∷ y ∷ zs) = 0 ∷ []
 
--- The wire of some devices, as bytes.
+-- The wire of the devices with these ids.
 unfoldable pub devices : List Id → Wire
 devices ids k bytes = spoken (matching (bitsIn bytes) ids)

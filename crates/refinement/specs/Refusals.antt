@@ -1,4 +1,4 @@
--- Document 01, "Refusal numbers": what a refusal leaves of the client, and what a start that is refused answers.
+-- Document 01, "Refusal numbers": the client after each refusal, and the answer to each start.
 use Prim.Native.Nat.{ℕ, _*_}
 use mathlib.Core.Bool.{Bool, true, false, _&&_, _||_, cond}
 use mathlib.Core.List.{List}
@@ -20,20 +20,21 @@ use Rattle.client.specs.declared.Turn.the-variants.{Ready}
 use Rattle.client.specs.Clients.{begun, idle, cleared, running, refuse}
 use Rattle.client.specs.Numbers.{numberOf, changesNoState}
 
--- A refusal that changes no state.
+-- Whether a refusal changes no state.
 unfoldable pub keeps : Refusal → Bool
 keeps r = changesNoState (numberOf r)
 
--- "deselect, then 10 with a prefix, 8 without."
+-- "deselect, then 10 with a prefix, 8 without.": whether a deselect came before the refusal.
 unfoldable pub parts : Refusal → Bool
 parts r = eqb (numberOf r) 8 || eqb (numberOf r) 10
 
--- "The others end the operation; seed and (but for deselects) attached id stay as they are then".
+-- "The others end the operation; seed and (but for deselects) attached id stay as they are then": the client after a
+-- refusal.
 unfoldable pub leaves : Refusal → Client → Client
 leaves r c = cond (keeps r) c (idle (cond (parts r) (cleared c) c))
 
--- "Out of turn is: a start while an operation runs"; "Order: 21, 20, 13": a start, whose arguments are good or bad, and
--- the client that it begins.
+-- "Out of turn is: a start while an operation runs"; "Order: 21, 20, 13": the answer to a start, by whether its
+-- arguments are good and by the client that it would begin.
 unfoldable pub begins : Client → Bool → Client → Started
 begins c good next = cond (running (c .turn)) (refuse c OutOfTurn)
     (cond good (record { says = Onward; client = next }) (refuse c BadPrefix))
@@ -42,7 +43,7 @@ begins c good next = cond (running (c .turn)) (refuse c OutOfTurn)
 abbrev pub goodCount : List ℕ → ℕ → Bool
 goodCount bytes bits = withinLongest bytes && (leb bits 128 && leb bits (8 * length bytes))
 
--- A client at its first request, of an operation that selects nothing.
+-- The client at the first request of an operation that does not select.
 abbrev pub asking : Client → Phase → Client
 asking c p = begun c (Ready p) noId 0 noWalk
 

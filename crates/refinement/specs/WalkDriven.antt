@@ -1,4 +1,4 @@
--- The code's walk over a wire: asked, told what the wire lets hear, at most n Selects more; and the Selects by then.
+-- The code's walk driven over a wire: the wire gives what is heard for each Select, and the walk steps on that.
 use Prim.Native.Nat.{ℕ, zero, suc}
 use mathlib.Core.List.{[]}
 use Rattle.paper.specs.Hearing as Paper
@@ -16,7 +16,7 @@ use Rattle.walk.specs.Moves.{asks}
 use Rattle.walk_step.specs.Steps.{step, going}
 use Rattle.refinement.specs.WalkRecord.{standingAt}
 
--- The bits that a request asks for: the first of its 16 bytes, zeros after them.
+-- The bits that a request asks for: the first n of the bits of its 16 bytes and zeros after them.
 abbrev pub bitsAsked : Ask → Prefix
 bitsAsked a = asked (a .bits) (a .count)
 
@@ -28,11 +28,12 @@ onGoes (On p) on ended = on p
 onGoes Done on ended = ended
 onGoes (Stopped c) on ended = ended
 
+-- At most m Selects after k: what follows then, and the number of Selects by then.
 unfoldable pub driven : ℕ → Wire → ℕ → Next → Next × ℕ
 driven zero wire k n = (n, k)
 driven (suc m) wire k n = onGoes (n .goes)
     (λ p. driven m wire (suc k) (told (n .walk) p (wire k (bitsAsked (asks (n .walk) p))))) (n, k)
 
--- A walk of any prefix, at its first Select.
+-- A walk under any prefix, at its first Select.
 unfoldable pub begun : Prefix → Next
 begun pre = going Asked (standingAt pre [] [] noId)

@@ -1,4 +1,4 @@
--- The record of each state of the machine: every bit, byte and row of it, those not in use zero.
+-- Each state of the walk machine as the code's walk, in which every unused bit, byte and row is zero.
 use Prim.Native.Nat.{ℕ, _-_}
 use mathlib.Core.Bool.{cond}
 use mathlib.Core.List.{List, [], _∷_, _++_, map}
@@ -22,7 +22,7 @@ use Rattle.walk_step.specs.Steps.{Done}
 use Rattle.walk.specs.Moves as Moves
 use Rattle.walk_step.specs.Steps as Steps
 
--- Zeros after a list, to n in all.
+-- A list padded with zeros to length n.
 abbrev pub padded : ℕ → List ℕ → List ℕ
 padded n l = l ++ replicate (n - length l) 0
 
@@ -35,6 +35,7 @@ levels pre (b ∷ marks) = levels pre marks ++ (cond b 2 1 ∷ [])
 abbrev pub rowOf : Paper.Id → Entry
 rowOf x = record { id = idFrom x }
 
+-- The table with these ids in its first rows, and zeros in the others.
 unfoldable pub tableOf : List Paper.Id → Table
 tableOf ids = counting (puts noTable 0 (map rowOf ids)) (length ids)
 
@@ -50,6 +51,7 @@ phaseOf (mine x) = Mine
 phaseOf (other x good) = Other good
 phaseOf leaving = Leaving
 
+-- The code's walk at a path, with these ids kept and this candidate.
 abbrev pub standingAt : Prefix → Marks → List Paper.Id → Id → Walk
 standingAt pre marks ids x = record {
   path = packed 16 (path pre marks);
@@ -62,7 +64,7 @@ standingAt pre marks ids x = record {
 abbrev pub walkOf : State → Walk
 walkOf s = standingAt (s .pre) (s .marks) (s .ids) (candidateOf (s .phase))
 
--- The end of each number that a walk stops with: 12, 14, 15, 23.
+-- The code's end for each number that stops a walk: 12, 14, 15 or 23.
 abbrev pub endOf : ℕ → End
 endOf c = cond (eqb c 12) DuplicateUid (cond (eqb c 14) LongId (cond (eqb c 15) TableFull Unaddressed))
 

@@ -1,2 +1,1 @@
-// The record of each state of the walk's machine and of each client, and that the code's calls on it are the machine's
-// and document 01's. No code.
+// Theorems that the code's walk and client do what document 01 says, call by call. No code.

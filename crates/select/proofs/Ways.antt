@@ -1,4 +1,4 @@
--- The ways through the Select's writer.
+-- Lemmas for each path through the writer of a Select.
 use Prim.Native.Nat.{ℕ, suc, _+_, _-_, _*_, _/_, _%_, _^_, _<_, _≤_}
 use mathlib.Core.Bool.{Bool, true, false, cond}
 use mathlib.Core.List.{List, [], _∷_, _++_}
@@ -29,7 +29,7 @@ use Rattle.frame.proofs.Assembled.{too-short, assembled}
 use Rattle.wire.specs.declared.Placed.the-variants.{Done, Short}
 use Rattle.select.specs.Selects.{asked, bytesFor}
 
--- `dst[k / 8] |= 1 << (k % 8)` where the bit is 1, and nothing where it is 0.
+-- `dst[k / 8] |= 1 << (k % 8)` if the bit is 1, and nothing if it is 0.
 module _ (d : List ℕ) (x k r : ℕ) (e : r ≡ bitOf x (k % 8)) where
   pub one-put : r ≡ 1 → set d (k / 8) (bitOr (getD d (k / 8) 0) (1 * 2 ^ (k % 8) % 256))
       ≡ cond (eqb (bitOf x (k % 8)) 1) (setBit d k) d
@@ -42,14 +42,14 @@ module _ (d : List ℕ) (x k r : ℕ) (e : r ≡ bitOf x (k % 8)) where
   pub zero-put : (r ≡ 1 → ⊥) → d ≡ cond (eqb (bitOf x (k % 8)) 1) (setBit d k) d
   zero-put h = rw (ne-eqb (bitOf x (k % 8)) 1 (λ q. h (e ∙ q)))
 
--- A bit of some bytes is set where others follow.
+-- Setting a bit of the list a leaves the list after it unchanged.
 set-front : (a rest : List ℕ) (k : ℕ) → k < 8 * length a → setBit (a ++ rest) k ≡ setBit a k ++ rest
 unfolding setBit
 set-front a rest k h =
     ap (λ (x : ℕ). set (a ++ rest) (k / 8) (withOne x (k % 8))) (List·getD-append a rest 0 (k / 8) (omega arith))
     ∙ set-append-left a rest (k / 8) (withOne (getD a (k / 8) 0) (k % 8)) (omega arith)
 
--- The first k bits in n bytes, and one more.
+-- The first k bits packed into n bytes, and then one more.
 module _ (n : ℕ) (q : List Bool) (k : ℕ) (h : k < length q) (room : length q ≤ 8 * n) where
   bit-more : cond (getD q k false) (setBit (packed n (take k q)) k) (packed n (take k q)) ≡ packed n (take (k + 1) q)
   bit-more = go (getD q k false)
@@ -62,7 +62,7 @@ module _ (n : ℕ) (q : List Bool) (k : ℕ) (h : k < length q) (room : length q
       go true = ap (setBit (packed n (take k q))) (sym so-many) ∙ sym (pack-one n (take k q) (omega (arith, so-many)))
       go false = sym (packed-zero n (take k q))
 
--- As many bits as asked for.
+-- There are as many bits as asked for.
 asked-length : (bits : List ℕ) (count : ℕ) → length bits ≡ 16 → count < 256 → length (asked bits count) ≡ count
 asked-length bits count long h =
     omega (
@@ -74,7 +74,7 @@ asked-length bits count long h =
       length-replicate 127 false,
     )
 
--- The bits of a prefix put one by one behind zeros.
+-- The loop of `put_bits`: the bits of a prefix, set one by one in bytes that were zeroed.
 module _ (bits : List ℕ) (count : ℕ) (long : length bits ≡ 16) (small : count < 256) where
   abbrev q : List Bool
   q = asked bits count
@@ -82,7 +82,7 @@ module _ (bits : List ℕ) (count : ℕ) (long : length bits ≡ 16) (small : co
   abbrev n : ℕ
   n = bytesFor count
 
-  -- A bit asked for: in the bytes, and after them.
+  -- A bit asked for: within the 16 bytes, and after them.
   asked-bit : (k : ℕ) → k < count → k < 128 → getD q k false ≡ eqb (bitOf (getD bits (k / 8) 0) (k % 8)) 1
   unfolding bit
   asked-bit k h l =
@@ -98,7 +98,7 @@ module _ (bits : List ℕ) (count : ℕ) (long : length bits ≡ 16) (small : co
       ∙ getD-append-add (bitsOf bits) (replicate 127 false) (i - 128) false
       ∙ getD-replicate 127 (i - 128) false false (omega arith)
 
-  -- Bits that are all false need not be put.
+  -- Bits that are 0 need not be put.
   passed : (k m : ℕ) → k ≤ m → ((i : ℕ) → k ≤ i → i < m → i < count → getD q i false ≡ false)
       → packed n (take k q) ≡ packed n (take m q)
   passed k m h =

@@ -5,7 +5,7 @@ use mathlib.Core.List.{List, _++_}
 use lib.ListN.{take, replicate}
 use Rattle.paper.specs.Hearing.{Prefix, bitsOf}
 
--- The first so many bits of 16 bytes, zeros after them.
+-- The first count bits of 16 bytes, followed by zeros.
 abbrev pub asked : List ℕ → ℕ → Prefix
 asked bits count = take count (bitsOf bits ++ replicate 127 false)
 

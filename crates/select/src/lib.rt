@@ -1,4 +1,4 @@
-// The Select's request: seed, bit count and prefix bits, written through the part of the buffer from byte 10 on.
+// The writer of a Select: seed, bit count and prefix bits, through the part of the buffer from byte 10 on.
 use frame::Head;
 use wire::Placed;
 ghost use mathlib.Core.Path.{_≡_};
@@ -13,7 +13,7 @@ ghost use Rattle.ids.specs.Ids.{bitOf, setBit};
 ghost use Rattle.frame.specs.Writing.{placed};
 ghost use Rattle.select.specs.Selects.{asked, bytesFor};
 
-// How many bytes hold so many bits.
+// How many bytes hold count bits.
 fn bytes_for(count: u8) -> usize
     ensures { λ r. ⌜ r ≡ bytesFor count ⌝ }
     ensures { λ r. ⌜ r ≤ 32 ⌝ }
@@ -21,7 +21,7 @@ fn bytes_for(count: u8) -> usize
     (count as usize + 7) / 8
 }
 
-// Bit k mod 8 of a byte put as bit k, where it is still zero, by shift and mask.
+// Sets bit k of dst, by shift and mask, if bit k mod 8 of x is 1.
 fn put_bit(dst: &mut [u8], x: u8, k: usize)
     requires { ⌜ k / 8 < length (now dst) ⌝ }
     ensures { λ _. ⌜ now (dst .exit)
@@ -32,8 +32,8 @@ fn put_bit(dst: &mut [u8], x: u8, k: usize)
     }
 }
 
-// The first so many bits, in as few bytes as hold them: those zero at first, then bit after bit. A byte that is zero
-// has no bit to put, and there is none after the sixteenth.
+// Writes the first count bits, in as few bytes as hold them: the bytes are zeroed, then each bit that is 1 is set. A
+// zero byte has no bit to set and is skipped. There are no bits after the sixteenth byte.
 fn put_bits(dst: &mut [u8], bits: [u8; ids::MAX_BYTES], count: u8)
     requires { ⌜ bytesFor count ≤ length (now dst) ⌝ }
     ensures { λ _. ⌜ now (dst .exit)
@@ -63,7 +63,7 @@ fn put_pair(dst: &mut [u8], a: u8, b: u8)
     dst[1] = b;
 }
 
-// The payload writer: seed, bit count, then the bits in as few bytes as hold them, spare bits 0.
+// Writes the payload: seed, bit count, then the bits in as few bytes as hold them, spare bits 0.
 fn put_select(dst: &mut [u8], seed: u8, bits: [u8; ids::MAX_BYTES], count: u8)
     requires { ⌜ 2 + bytesFor count ≤ length (now dst) ⌝ }
     ensures { λ _. ⌜ now (dst .exit)
@@ -73,7 +73,7 @@ fn put_select(dst: &mut [u8], seed: u8, bits: [u8; ids::MAX_BYTES], count: u8)
     put_bits(&mut dst[2..], bits, count);
 }
 
-// A Select of the first so many bits, those after the sixteenth byte zero.
+// Writes a Select of the first count bits; bits after the sixteenth byte are zero.
 pub fn write_select(seed: u8, bits: [u8; ids::MAX_BYTES], count: u8, buf: &mut [u8]) -> Placed
     ensures { λ r. ⌜ record { answer = r; bytes = now (buf .exit) }
         ≡ placed (frameBytes (selectFrame seed (asked bits count))) (now (buf .entry)) ⌝ }

@@ -9,7 +9,7 @@ pub fn print_byte(b: u8) {
     io::print_hex(STDOUT_FILENO, b as u64, 2);
 }
 
-// Two digits a byte.
+// Two digits for each byte.
 pub fn print_hex(bytes: &[u8]) {
     let mut i = 0;
     while i < bytes.len() {
@@ -18,14 +18,14 @@ pub fn print_hex(bytes: &[u8]) {
     }
 }
 
-// The first n bytes, if there are so many.
+// The first n bytes; nothing if there are fewer.
 pub fn print_front(bytes: &[u8], n: usize) {
     if n <= bytes.len() {
         print_hex(&bytes[0..n]);
     }
 }
 
-// In so many digits at least.
+// In at least this many digits.
 pub fn print_number(n: u64, digits: usize) {
     io::print_hex(STDOUT_FILENO, n, digits);
 }

@@ -1,4 +1,4 @@
--- The ways through reading an id's text, from the facts that the code has.
+-- Lemmas for each path through reading an id's text, from the facts that hold there.
 use Prim.Native.Nat.{ℕ, suc, _+_, _-_, _*_, _/_, _%_, _<_, _≤_}
 use mathlib.Core.Bool.{Bool, true, false, cond, _&&_}
 use mathlib.Core.List.{List, [], _∷_, _++_, append-assoc, append-nil}
@@ -43,10 +43,10 @@ module _ (c : ℕ) where
   pub over-small : 103 ≤ c → 16 ≡ digit c
   over-small h = sym (digit-other c (λ l. omega arith) (λ l. omega arith) (λ l. omega arith))
 
--- A character's value by the test that it passed and those that it did not.
+-- The value of a character, by the tests that it passes and fails.
 pub ruleset digits = (under-number, number, under-upper, upper, under-small, small, over-small)
 
--- The bytes read so far, and then those of the rest.
+-- The bytes read so far joined with those of the rest, or none if the rest cannot be read.
 abbrev pub Joined : List ℕ → Option (List ℕ) → Option (List ℕ)
 Joined front rest = onSome rest none (λ bytes. some (front ++ bytes))
 

@@ -1,4 +1,4 @@
--- The ways through writing an id's text, from the facts that the code has.
+-- Lemmas for each path through writing an id's text, from the facts that hold there.
 use Prim.Native.Nat.{ℕ, _+_, _*_, _/_, _%_, _<_, _≤_}
 use mathlib.Core.List.{List, [], _∷_, _++_}
 use mathlib.Core.Path.{_≡_, sym, _∙_, ap, ap₂}
@@ -53,7 +53,7 @@ pub wrote-all : (bytes buffer text : List ℕ) (i : ℕ) → text ≡ hexText (t
     → text ≡ hexText bytes ++ drop (2 * length bytes) buffer
 wrote-all bytes buffer text i e h g = let s : i ≡ length bytes = omega arith in rw (s, take-length) at e
 
--- What writing an id answers.
+-- What writing an id answers: the two refusals, and the text.
 module _ (id buffer : List ℕ) where
   pub refuses-long : 16 < length id
       → _≡_ {A = Outcome} (record { answer = TooLong; bytes = buffer }) (written id buffer)

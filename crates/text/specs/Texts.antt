@@ -1,4 +1,4 @@
--- What writing and reading an id's text answers.
+-- The answers of writing an id as text, and of reading it.
 use Prim.Native.Nat.{ℕ}
 use mathlib.Core.List.{List, _++_}
 use mathlib.Core.Option.{Option}
@@ -11,11 +11,12 @@ use Rattle.ids.specs.Ids.{noId, idFrom}
 use Rattle.text.specs.declared.Parsed.{Parsed}
 use Rattle.text.specs.declared.Parse.the-variants.{Uid, BadText}
 
--- The answer, and the text buffer after it.
+-- The answer of writing, and the text buffer after it.
 pub record Outcome : Type 0 where
   pub answer : Answer
   pub bytes : List ℕ
 
+-- The paper's result as the code's answer.
 abbrev pub shown : Written → List ℕ → Outcome
 shown (wrote text) buffer = record { answer = Done (length text); bytes = text ++ drop (length text) buffer }
 shown refuses13 buffer = record { answer = TooLong; bytes = buffer }

@@ -8,12 +8,13 @@ ghost use lib.ListN.{length, drop};
 ghost use Rattle.paper.specs.Text.{hexDigit, digit, hexText, parseUid};
 ghost use Rattle.text.specs.Texts.{written, parsed, badText};
 
-// Whether text was an id: the number 22 where it was not.
+// Whether a text is an id. BadText is refusal 22.
 pub enum Parse {
     Uid,
     BadText,
 }
 
+// The answer, and the id; no id with BadText.
 pub struct Parsed {
     pub answer: Parse,
     pub id: Id,
@@ -55,7 +56,7 @@ pub fn digit(c: u8) -> u8
     16
 }
 
-// The digits of each byte, at the front of the text.
+// Writes the digits of each byte to the front of the text.
 fn put_hex(text: &mut [u8], bytes: &[u8])
     requires { ⌜ length (now bytes) ≤ 16 ⌝ }
     requires { ⌜ 2 * length (now bytes) ≤ length (now text) ⌝ }
@@ -71,7 +72,8 @@ fn put_hex(text: &mut [u8], bytes: &[u8])
     }
 }
 
-// Lower case hexadecimal of an id: 13 for over 16 bytes, then 16 for a short text.
+// Writes an id in lower case hexadecimal. TooLong is refusal 13 (over 16 bytes), Short is 16 (the text buffer is too
+// short); 13 goes before 16.
 pub fn uid_hex(id: &[u8], text: &mut [u8]) -> Written
     ensures { λ r. ⌜ record { answer = r; bytes = now (text .exit) } ≡ written (now (id .entry)) (now (text .entry)) ⌝ }
 {
@@ -86,7 +88,7 @@ pub fn uid_hex(id: &[u8], text: &mut [u8]) -> Written
     Written::Done(2 * n)
 }
 
-// The id of a text: 22 for an odd length, for over 32 digits and for a bad digit.
+// Reads an id from a text. BadText for an odd length, for over 32 digits and for a bad digit.
 pub fn parse_uid(text: &[u8]) -> Parsed
     ensures { λ r. ⌜ r ≡ parsed (parseUid (now (text .entry))) ⌝ }
 {

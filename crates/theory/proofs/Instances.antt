@@ -1,4 +1,4 @@
--- What meets the premises: each theorem with a premise, applied to values that meet it.
+-- Premises can be met: theorems of this crate, applied to values that satisfy their premises.
 use Prim.Native.Nat.{ℕ, _+_, _*_, _≤_, _<_}
 use mathlib.Core.Bool.{true}
 use mathlib.Core.List.{List, [], _∷_, _++_}
@@ -65,7 +65,7 @@ check-fits-met = check-fits (49 ∷ 50 ∷ 51 ∷ 52 ∷ 53 ∷ 54 ∷ 55 ∷ 56
   ),
 )
 
--- A reply to a Select, with its status and its id C1 07; and a request, which is an echo where it is heard.
+-- A reply to a Select, with a status and the id C1 07; and a request, which is heard as an echo.
 abbrev replying : ℕ → Frame
 replying status = record { command = 5; status = status; flags = 0; address = 0; payload = 0xC1 ∷ 0x07 ∷ [] }
 
@@ -129,7 +129,7 @@ pub read-written-met : read (replied ++ (0x99 ∷ [])) ≡ whole 0 (replying 1)
 unfolding frameBytes frameBody frameHead le check crcFrom crcByte crcBit
 read-written-met = read-written (replying 1) (replying-fits 1 (omega arith)) (0x99 ∷ [])
 
--- A stray byte, the reply, and another.
+-- The reply between two stray bytes.
 abbrev between : List ℕ
 between = 0x11 ∷ (replied ++ (0x99 ∷ []))
 
@@ -224,7 +224,7 @@ pub before-trans-met : before (0xC1 ∷ []) (0xC2 ∷ []) ≡ true
 unfolding before
 before-trans-met = before-trans (0xC1 ∷ []) (0xC1 ∷ 0x07 ∷ []) (0xC2 ∷ []) refl refl
 
--- Capacity 5, erase_size 2.
+-- A device of capacity 5 and erase_size 2.
 abbrev device : Info
 device = record {
   capacity = 5;
@@ -252,7 +252,7 @@ addresses-below-met = addresses-below device (omega arith)
 pub chunk-least-met : 4 ≤ chunk 7
 chunk-least-met = chunk-least 7 (omega arith)
 
--- An image of 5 bytes, and its check BD87 with a byte more.
+-- An image of 5 bytes, and a payload with its check BD87 and one more byte.
 abbrev verified : Answered
 verified = record { reply = ok (0x87 ∷ 0xBD ∷ 0x00 ∷ []); image = 0x10 ∷ 0x21 ∷ 0x32 ∷ 0x43 ∷ 0x54 ∷ [] }
 
@@ -264,7 +264,7 @@ verify-if-met = verify-if device verified
 pub verify-only-met : Checked verified
 verify-only-met = verify-only device verified verify-if-met
 
--- "c107", and "C107".
+-- The texts "c107" and "C107".
 pub parse-of-written-met : parseUid (0x63 ∷ 0x31 ∷ 0x30 ∷ 0x37 ∷ []) ≡ some (0xC1 ∷ 0x07 ∷ [])
 unfolding hexText hexDigit
 parse-of-written-met = parse-of-written (0xC1 ∷ 0x07 ∷ []) (omega arith) (omega arith, (omega arith, tt))
@@ -289,7 +289,7 @@ parsed-short-met = parsed-short upper (0xC1 ∷ 0x07 ∷ []) upper-parsed
 pub parsed-bytes-met : Bytes (0xC1 ∷ 0x07 ∷ [])
 parsed-bytes-met = parsed-bytes upper (0xC1 ∷ 0x07 ∷ []) upper-parsed
 
--- A client whose second Write of a flash of 5 bytes is out, its record's answer Ok.
+-- A flash of 5 bytes whose second Write is out, and a record that answers it with Ok.
 abbrev target : Info
 target = record {
   capacity = 6;
@@ -324,7 +324,7 @@ record-sim-met = record-sim writing turn-sound-met image wrote
 pub record-fits-met : Keeping.Fits (Machine.record′ writing image wrote .client)
 record-fits-met = record-fits writing writing-fits image wrote
 
--- A discovery under C1 that has kept C1 07 and confirms C1 87 by its own child.
+-- A discovery under C1 that has kept C1 07 and is confirming C1 87 by the child that C1 87 is in.
 abbrev confirming : State
 confirming = record {
   pre = bitsOf (0xC1 ∷ []);
@@ -350,7 +350,7 @@ pub start-fits-met : Walk.FitsNext (start (bitsOf (0xC1 ∷ 0x07 ∷ [])))
 unfolding bitsOf counting
 start-fits-met = start-fits (bitsOf (0xC1 ∷ 0x07 ∷ [])) (omega arith)
 
--- Three ids, of which two begin with C1; and three of which none begins another, with lengths of their own.
+-- Three ids of one length, two of which begin with C1.
 abbrev pub ids : List Id
 ids = (0xC1 ∷ 0x87 ∷ []) ∷ (0x00 ∷ 0x01 ∷ []) ∷ (0xC1 ∷ 0x07 ∷ []) ∷ []
 
@@ -403,6 +403,7 @@ kept-listed-met = kept-listed (honest ids) under found (ap (λ r. r .0) runs)
 pub kept-distinct-met : Distinct found × Sorted found × (2 ≤ 64) × All (λ id. length id ≤ 16) found
 kept-distinct-met = kept-distinct (honest ids) under found (ap (λ r. r .0) runs)
 
+-- Three ids of different lengths, none a prefix of another.
 abbrev uneven : List Id
 uneven = (0xC1 ∷ []) ∷ (0xC2 ∷ 0x07 ∷ []) ∷ (0xC3 ∷ 0x07 ∷ 0x01 ∷ []) ∷ []
 

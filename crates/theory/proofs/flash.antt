@@ -1,3 +1,4 @@
+-- Info, erase, flash and reset: the order of their requests, their number, and the bytes that they carry.
 pub mod RequestsBounded
 pub mod WrittenBytes
 pub mod FramesFit

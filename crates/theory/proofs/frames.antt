@@ -1,3 +1,4 @@
+-- Bytes: frames, their check, ids and hex text read back as they were written, and what is heard in a record.
 pub mod IdBits
 pub mod CheckParts
 pub mod FramesReadBack

@@ -1,3 +1,4 @@
+-- Conversations: rules for proofs on them, the operations' machine that runs them, request sizes, the unread rest.
 pub mod TalkRules
 pub mod UnreadRest
 pub mod MachineIsTalk

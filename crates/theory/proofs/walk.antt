@@ -1,3 +1,4 @@
+-- The walk of a discovery: as a conversation and as a machine, its bound, its count of Selects, the ids that it finds.
 pub mod WalkRules
 pub mod Bound
 pub mod CarriedIds

@@ -1,4 +1,4 @@
--- The client of the operations' machine: what each call answers and leaves.
+-- The client on the operations' machine: each call's answer, and the client after it.
 use Prim.Native.Nat.{ℕ, _*_, _≤_}
 use mathlib.Core.Bool.{Bool, true, _&&_, cond}
 use mathlib.Core.List.{List, [], _∷_, _++_}
@@ -13,15 +13,16 @@ use Rattle.theory.specs.OperationMachine.{probing, parting, seeking, wal
 use Rattle.theory.specs.OperationMachine.{informing, erasing, writing, verifying, resetting, Phase, selecting}
 use Rattle.theory.specs.OperationMachine.{demanding, leaving, Then, to, ends, refuses, step, starting}
 
--- P holds of the id, where there is one.
+-- P holds of the id, if there is one.
 abbrev pub OfAny : (Id → Type 0) → Option Id → Type 0
 OfAny P none = Unit {0}
 OfAny P (some id) = P id
 
+-- The id, if there is one, has at most 16 bytes.
 abbrev pub Brief : Option Id → Type 0
 Brief uid = OfAny (λ id. length id ≤ longest) uid
 
--- No operation; one whose next request can be asked for; one whose request is out.
+-- No operation runs; one runs and its next request can be asked for; one runs and its request is out.
 pub data Turn : Type 0 where
   idle : Turn
   ready : Phase → Turn
@@ -43,7 +44,8 @@ onTurn idle i r w = i
 onTurn (ready ph) i r w = r ph
 onTurn (waiting ph) i r w = w ph
 
--- The length of the image that a running flash was started with.
+-- The length of the image that a running flash was started with, by its purpose, job or phase; none for another
+-- operation.
 abbrev pub lentFor : Purpose → Option ℕ
 lentFor tell = none
 lentFor clear = none
@@ -67,6 +69,7 @@ pub record Told : Type 0 where
   pub client : Client
   pub rest : ℕ
 
+-- The answer and the client after a step, with the progress made and where the unread rest begins.
 unfoldable pub settle : Client → Option (ℕ × ℕ) → Then → ℕ → Told
 settle c progress (to ph) at = record { says = onward progress; client = turned c (ready ph); rest = at }
 settle c progress (ends o) at =
@@ -78,7 +81,7 @@ settle c progress (ends o) at =
     }
 settle c progress (refuses n carries) at = record { says = refused n carries; client = turned c idle; rest = at }
 
--- Refused with no state changed.
+-- A refusal that changes no state.
 abbrev pub unchanged : Client → ℕ → List ℕ → Told
 unchanged c n carries = record { says = refused n carries; client = c; rest = 0 }
 
@@ -108,7 +111,7 @@ startErase c = start c true (demanding (informing clear))
 unfoldable pub startFlash : Client → List ℕ → Told
 startFlash c image = start c true (demanding (informing (load (length image))))
 
--- In boot the answer is awaited.
+-- The phase of a reset. In boot the answer is awaited.
 abbrev pub resets : Bool → Option ℕ → Bool → Phase
 resets bootloader baud inBoot = cond inBoot (demanding (resetting bootloader baud)) (leaving bootloader baud)
 
@@ -118,17 +121,17 @@ startReset c bootloader inBoot = start c true (resets bootloader none inBoot)
 unfoldable pub startSetBaud : Client → ℕ → Bool → Bool → Told
 startSetBaud c baud bootloader inBoot = start c true (resets bootloader (some baud) inBoot)
 
--- A request asked for: the answer, the client after it, and the buffer after it.
+-- The answer to asking for a request, with the client and the buffer after it.
 pub record Asked : Type 0 where
   pub says : Says
   pub client : Client
   pub buffer : List ℕ
 
--- Refused with no byte written.
+-- A refusal that changes no state and writes no byte.
 abbrev pub withholds : Client → ℕ → List ℕ → List ℕ → Asked
 withholds c n carries buffer = record { says = refused n carries; client = c; buffer = buffer }
 
--- The turn once a request is handed out.
+-- The turn after a request is handed out.
 unfoldable pub handedOut : Phase → Turn
 handedOut (selecting s) = waiting (selecting s)
 handedOut (demanding j) = waiting (demanding j)

@@ -1,5 +1,5 @@
--- The order of a flash, read off the bytes that are handed out: each request by document 01's reader, with what
--- happened then.
+-- The order of a flash, read from the bytes handed out: document 01's reader reads each request, and the event after it
+-- gives the answer.
 use Prim.Native.Nat.{ℕ, _+_}
 use mathlib.Core.Bool.{_&&_, cond}
 use mathlib.Core.List.{List, [], _∷_, _++_}
@@ -16,18 +16,18 @@ use Rattle.paper.specs.Talk.{Answered, knows}
 use Rattle.theory.specs.FlashOrder.{Event, heard, failed, toldBy, isOk, Passed}
 use Rattle.theory.specs.ClientDriven.{Sent}
 
--- "Read frames .. to the first other one": what answered a request, if anything did.
+-- "Read frames .. to the first other one": the answer to a request, if there is one.
 unfoldable pub answeredBy : Option Event → Option Answered
 answeredBy none = none
 answeredBy (some (heard image bytes)) = replied (answer bytes) image
 answeredBy (some failed) = none
 
--- What a request and its answer say.
+-- What f gives for a request's frame and its answer; `nothing` where there is no frame or no answer.
 unfoldable pub said : {A : Type 0} → Sent → A → (Frame → Answered → A) → A
 said s nothing f = onReading (read (s .bytes)) nothing nothing (λ k g. nothing)
     (λ k g. onSome (answeredBy (s .then)) nothing (f g))
 
--- The information told first, with the image lent with it.
+-- The first device information received, with the image lent with it.
 unfoldable pub toldIn : Sent → Option (Info × List ℕ)
 toldIn s = said s none (λ f a. cond (eqb (f .command) command-Info) (toldBy (a .reply) (a .image)) none)
 
@@ -51,31 +51,31 @@ unfoldable pub written : List Sent → ℕ
 written [] = 0
 written (s ∷ ss) = writtenIn s + written ss
 
--- The bytes are one frame, whole.
+-- The bytes are exactly one whole frame.
 pub record IsFrame (s : Sent) : Type 0 where
   pub frame : Frame
   pub reads : read (s .bytes) ≡ whole 0 frame
   pub all : length (s .bytes) ≡ size frame
 
--- A request of this frame was handed out, and before it those.
+-- A request with this frame was handed out, after the requests `before`.
 pub record Hands (handed before : List Sent) (f : Frame) : Type 0 where
   pub sent : Sent
   pub later : List Sent
   pub cut : handed ≡ before ++ (sent ∷ later)
   pub frame : read (sent .bytes) ≡ whole 0 f
 
--- Info has told something that passes.
+-- The device information received allows a flash of n bytes.
 pub record Passes (n : ℕ) (before : List Sent) : Type 0 where
   pub info : Info
   pub passed : Passed n (told before) info
 
--- And all that is to be erased was.
+-- The same, and every address to erase has been erased.
 pub record Cleared (n : ℕ) (before : List Sent) : Type 0 where
   pub info : Info
   pub passed : Passed n (told before) info
   pub erases : erased before ≡ eraseAddresses info
 
--- What a flash of an image of n bytes hands out, and says at its end.
+-- What a flash of an image of n bytes hands out, and its last answer.
 pub record FlashOrder (n : ℕ) (handed : List Sent) (says : Says) : Type 0 where
   -- Each request is a frame.
   pub frames : All IsFrame handed

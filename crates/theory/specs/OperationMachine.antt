@@ -1,4 +1,4 @@
--- The operations as a machine: a phase for each request that can be out, its request, and the step that it takes on the
+-- The operations as a machine: a phase for each request that can be next or out, the request, and the step on its
 -- answer.
 use Prim.Native.Nat.{ℕ, suc, _+_, _-_, _/_}
 use mathlib.Core.Bool.{Bool, cond}
@@ -18,7 +18,7 @@ use Rattle.paper.specs.Walk.{long, nobody, done, stopped}
 use Rattle.theory.specs.WalkMachine as Machine
 use Rattle.theory.specs.WalkMachine.{State, asked, going, ended}
 
--- A plain select of the first so many bits of some bytes; a deselect; an attach that asks, and one that deselects; a
+-- A plain select of the first n bits of some bytes; a deselect; an attach at its Select; an attach at its deselect; a
 -- discovery.
 pub data Search : Type 0 where
   probing : Id → ℕ → Search
@@ -27,14 +27,14 @@ pub data Search : Type 0 where
   backing : Option Id → Search
   walking : State → Search
 
--- What Info is asked for: itself, an erase, a flash of an image of so many bytes.
+-- Why Info is requested: for itself, for an erase, or for a flash of an image of n bytes.
 pub data Purpose : Type 0 where
   tell : Purpose
   clear : Purpose
   load : ℕ → Purpose
 
--- What a request with one answer is for. An Erase has its address; a Write the image's length, its offset, and how
--- often it was repeated; a Reset whether it is into the bootloader, and the baud to store or none.
+-- What a request with one answer is for. An Erase has its address. A Write has the image's length, its offset, and how
+-- often it was repeated. A Reset says whether it enters the bootloader, and has the baud to store or none.
 pub data Job : Type 0 where
   informing : Purpose → Job
   erasing : Purpose → Info → ℕ → Job
@@ -42,7 +42,7 @@ pub data Job : Type 0 where
   verifying : ℕ → Info → Job
   resetting : Bool → Option ℕ → Job
 
--- The request that is next, or out: a Select, one with one answer, one whose answer is not awaited.
+-- The request that is next or out: a Select, a request with one answer, or one whose answer is not awaited.
 pub data Phase : Type 0 where
   selecting : Search → Phase
   demanding : Job → Phase
@@ -68,13 +68,13 @@ request (selecting s) = select (selected s)
 request (demanding j) = demand (demanded j)
 request (leaving bootloader baud) = leave (resetRequest bootloader baud)
 
--- It goes on in a phase, ends with an outcome, or ends with a refusal's number and what that carries.
+-- The operation goes on in a phase, ends with an outcome, or ends with a refusal's number and what that carries.
 pub data Then : Type 0 where
   to : Phase → Then
   ends : Outcome → Then
   refuses : ℕ → List ℕ → Then
 
--- With the progress made.
+-- What follows an answer, with the progress made.
 pub record Next : Type 0 where
   pub progress : Option (ℕ × ℕ)
   pub then : Then
@@ -82,7 +82,7 @@ pub record Next : Type 0 where
 abbrev pub quietly : Then → Next
 quietly t = record { progress = none; then = t }
 
--- What is heard.
+-- The steps on what is heard after a Select.
 
 abbrev pub unlessLong : Heard → Then → Then
 unlessLong h t = cond (long h) (refuses 14 []) t
@@ -108,7 +108,7 @@ hears (seeking uid) h = unlessLong h (sought uid h)
 hears (backing uid) h = backed uid
 hears (walking s) h = walked (Machine.step s h)
 
--- What the one answer says.
+-- The steps on the answer to a request with one answer.
 
 abbrev pub working : Job → Then
 working j = to (demanding j)
@@ -159,7 +159,7 @@ verified info payload image =
     (cond (eqb (check image) (field 0 2 payload)) (ends (knows info))
     (refuses 4 (check image ∷ field 0 2 payload ∷ [])))
 
--- An answer of status Ok with a payload, and the image lent with it.
+-- The step on an answer of status Ok, with its payload and the image lent with it.
 unfoldable pub accepted : Job → List ℕ → List ℕ → Next
 accepted (informing why) payload image =
     quietly (onSome (informed payload) (refuses 5 []) (λ info. prepared why info image))
@@ -171,7 +171,7 @@ accepted (resetting bootloader baud) payload image = quietly (ends quiet)
 abbrev pub declines : ℕ → Then
 declines status = refuses 2 (status ∷ [])
 
--- An answer of another status.
+-- The step on an answer of another status.
 unfoldable pub declined : Job → ℕ → Then
 declined (informing why) status = declines status
 declined (erasing why info address) status = declines status

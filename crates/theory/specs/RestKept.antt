@@ -10,11 +10,11 @@ pub record Round : Type 0 where
   pub buffer : List ℕ
   pub heard : List ℕ
 
--- Its record, once the request was asked for.
+-- The answer to a record, handed in after asking for the round's request.
 abbrev pub handed : Client → Round → List ℕ → Told
 handed c r bytes = record′ (request c (r .image) (r .buffer) .client) (r .image) bytes
 
--- What each round is answered, with the rest kept before it.
+-- The answers in each round. The rest kept from the last record comes before the bytes heard.
 unfoldable pub hostRun : Client → List ℕ → List Round → List (Asked × Told)
 hostRun c kept [] = []
 hostRun c kept (r ∷ rs) =

@@ -1,5 +1,4 @@
--- The same discovery as a machine: a state between two Selects, the prefix that it asks next, and the step that it
--- takes on what is heard.
+-- The discovery as a machine: a state for each Select, the prefix that it selects, and the step on what is heard.
 use Prim.Native.Nat.{ℕ, zero, suc}
 use mathlib.Core.Bool.{Bool, true, false, _&&_, not, cond}
 use mathlib.Core.List.{List, [], _∷_, _++_}
@@ -8,8 +7,8 @@ use lib.Dec.{ltb}
 use Rattle.paper.specs.Hearing.{Id, Prefix, bitsOf, matches, Heard, nothing, one, unaddressed, garble}
 use Rattle.paper.specs.Walk.{_▹_, long, isNothing, isOne, sort, Ended, done, stopped, Wire, nobody}
 
--- A mark for each level below the given prefix, the last level first: false in the zero child, whose one child is yet
--- to be asked; true in the one child.
+-- A mark for each level below the given prefix, the deepest first: false in a zero child, whose sibling is not walked
+-- yet; true in a one child.
 abbrev pub Marks : Type 0
 Marks = List Bool
 
@@ -18,8 +17,8 @@ abbrev pub path : Prefix → Marks → Prefix
 path pre [] = pre
 path pre (b ∷ marks) = path pre marks ▹ b
 
--- What the Select that is out is for: to hear the path; to confirm an id by its own child, then by the other one, told
--- whether the first was good; the deselect.
+-- What the Select that is out is for: to probe the path; to confirm an id by the child that the id is in; to confirm it
+-- by the other child, with whether the first confirmed it; to deselect.
 pub data Phase : Type 0 where
   asked : Phase
   mine : Id → Phase
@@ -32,12 +31,12 @@ pub record State : Type 0 where
   pub ids : List Id
   pub phase : Phase
 
--- A machine goes on in a state or has ended.
+-- The machine goes on in a state, or has ended.
 pub data Next : Type 0 where
   going : State → Next
   ended : Ended (List Id) → Next
 
--- The bit of an id that follows the path.
+-- The first of some bits, false if there is none; the bit of an id that follows a path.
 unfoldable pub bitAfter : List Bool → Bool
 bitAfter [] = false
 bitAfter (b ∷ bs) = b
@@ -45,6 +44,7 @@ bitAfter (b ∷ bs) = b
 unfoldable pub nextBit : Prefix → Id → Bool
 nextBit q id = bitAfter (drop (length q) (bitsOf id))
 
+-- The prefix that a state selects.
 unfoldable pub request : State → Prefix
 request s = ask (s .phase)
   where
@@ -58,7 +58,7 @@ abbrev pub to : Prefix → Marks → List Id → Phase → Next
 to pre marks ids phase = going (record { pre = pre; marks = marks; ids = ids; phase = phase })
 
 module _ (pre : Prefix) where
-  -- The branch has ended: up to the nearest zero child, and to its sibling.
+  -- The branch has ended. Climb to the nearest zero child and go to its sibling; if there is none, deselect.
   unfoldable pub leave : Marks → List Id → Next
   leave [] ids = to pre [] ids leaving
   leave (false ∷ marks) ids = to pre (true ∷ marks) ids asked
@@ -67,7 +67,7 @@ module _ (pre : Prefix) where
   unfoldable pub descend : Marks → List Id → Next
   descend marks ids = cond (ltb (length (path pre marks)) 128) (to pre (false ∷ marks) ids asked) (ended (stopped 12))
 
-  -- A silent zero child: its sibling counts as garble.
+  -- Nothing was heard. After a silent zero child its sibling counts as garble, with no probe.
   unfoldable pub silent : Marks → List Id → Next
   silent [] ids = leave [] ids
   silent (false ∷ marks) ids = descend (true ∷ marks) ids
@@ -93,7 +93,7 @@ module _ (pre : Prefix) where
   tell marks ids (other id good) h = cond (good && isNothing h) (kept marks ids id) (descend marks ids)
   tell marks ids leaving h = ended (done (sort ids))
 
--- An id over 16 bytes is refused, but in the deselect.
+-- An id over 16 bytes is refused, except after the deselect.
 unfoldable pub tooLong : Phase → Heard → Bool
 tooLong asked h = long h
 tooLong (mine id) h = long h
@@ -106,7 +106,7 @@ step s h = cond (tooLong (s .phase) h) (ended (stopped 14)) (tell (s .pre) (s .m
 unfoldable pub start : Prefix → Next
 start pre = to pre [] [] asked
 
--- The machine over a wire, at most n Selects more.
+-- The machine over a wire, for at most n Selects after k.
 unfoldable pub drive : ℕ → Wire → ℕ → Next → Next × ℕ
 drive zero wire k next = (next, k)
 drive (suc n) wire k (ended e) = (ended e, k)

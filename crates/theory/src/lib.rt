@@ -1,1 +1,1 @@
-// What follows from document 01's definitions. No code.
+// Theorems on document 01's definitions: the walk, the operations as machines, the order of a flash. No code.

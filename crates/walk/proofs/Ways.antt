@@ -1,4 +1,4 @@
--- The ways through the moves of the walk and through what is asked, from the facts that the code has.
+-- A lemma for each way through the walk's functions, with the facts known there as its premises.
 use Prim.Native.Nat.{ℕ, zero, suc, _+_, _-_, _*_, _<_, _≤_}
 use mathlib.Core.Bool.{Bool, true, false, not, cond}
 use mathlib.Core.List.{List, _∷_}
@@ -31,7 +31,7 @@ unfolding begin
 begin-is p x n e f = rw f (ap (λ (w : Walk). record
     { path = x .bytes; depth = 8 * length (idOf x); marks = w .marks; found = w .found; candidate = w .candidate }) e)
 
--- A walk under no prefix is none.
+-- A walk under the empty prefix begins all zero.
 pub begin-none : begin noId ≡ noWalk
 unfolding begin noWalk noId
 begin-none = refl
@@ -45,12 +45,12 @@ module _ (marks : List ℕ) where
   mark-in zero h = absurd (h refl)
   mark-in (suc d) h = let e : suc d - 1 ≡ d = omega arith in rw e
 
-  -- A mark that is not 0 stands on a level.
+  -- Where the mark is not 0 there is a level.
   pub deep : (d m k : ℕ) → m ≡ markAt marks d → m ≡ k → 0 < k → 0 < d
   deep zero m k e f h = absurd (omega arith)
   deep (suc d) m k e f h = omega arith
 
--- The climb: where it ends from a path of d levels is where it ends from the place s.
+-- The climb. The invariant of its loop: the climb from d levels ends where the one from the start s does.
 abbrev pub at : List ℕ → ℕ → List ℕ → Id → Table → Walk
 at path d marks x t = record { path = path; depth = d; marks = marks; found = t; candidate = x }
 

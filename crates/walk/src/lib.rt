@@ -1,5 +1,5 @@
-// The walk's record on its fixed arrays, its place (all of it but the list): the moves, and what the next Select asks
-// for.
+// The walk of a discovery in fixed arrays: its moves from prefix to prefix, and the bits that its next Select asks for.
+// Both depend on the walk's place only, which is the walk without its list.
 use ids::Id;
 use walk_table::Table;
 ghost use mathlib.Core.Path.{_≡_};
@@ -10,6 +10,8 @@ ghost use Rattle.walk_table.specs.Rows.{noTable};
 ghost use Rattle.walk.specs.Moves.{placeOf, walkOf, noWalk, begin, markAt, mark, lower, turn, climb, holding};
 ghost use Rattle.walk.specs.Moves.{nobody, child, asks};
 
+// A walk: the bits of the current prefix and their number, a mark for each level, the ids found, and the id that is
+// being confirmed.
 pub struct Walk {
     pub path: [u8; ids::MAX_BYTES],
     pub depth: usize,
@@ -18,7 +20,7 @@ pub struct Walk {
     pub candidate: Id,
 }
 
-// All of a walk but its list. A contract on a place holds of the walk there with any list.
+// The walk without its list. A contract on a place holds for the walk there with any list.
 pub struct Place {
     pub path: [u8; ids::MAX_BYTES],
     pub depth: usize,
@@ -26,7 +28,8 @@ pub struct Place {
     pub candidate: Id,
 }
 
-// What the Select that is out is for.
+// What a Select of the walk asks for. Asked: the path. Mine: the candidate's own child. Other: its other child, with
+// whether the candidate was heard again in its own. Leaving: the deselect at the end.
 pub enum Phase {
     Asked,
     Mine,
@@ -34,13 +37,13 @@ pub enum Phase {
     Leaving,
 }
 
-// A Select's bits: the first 128, those after them are zero; and how many.
+// The bits of a Select, and how many. Bits after the first 128 are zero.
 pub struct Ask {
     pub bits: [u8; ids::MAX_BYTES],
     pub count: usize,
 }
 
-// A walk at a place, with a list.
+// The walk at a place, with a list.
 pub fn walk_of(p: Place, found: Table) -> Walk
     ensures { λ r. ⌜ r ≡ walkOf p found ⌝ }
 {
@@ -56,6 +59,7 @@ pub fn walk_of(p: Place, found: Table) -> Walk
     }
 }
 
+// The place when there is no walk: all zero.
 pub fn no_place() -> Place
     ensures { λ r. ⌜ walkOf r noTable ≡ noWalk ⌝ }
 {
@@ -70,7 +74,7 @@ pub fn no_place() -> Place
     }
 }
 
-// The place of a prefix of whole bytes, at its first Select.
+// The place where a walk under a prefix of whole bytes begins.
 pub fn begin(prefix: Id) -> Place
     ensures { λ r. ⌜ walkOf r noTable ≡ begin prefix ⌝ }
 {
@@ -82,6 +86,7 @@ pub fn begin(prefix: Id) -> Place
     w
 }
 
+// The bits of a deselect: 129 zero bits, which no id has.
 pub fn nobody() -> Ask
     ensures { λ r. ⌜ r ≡ nobody ⌝ }
 {
@@ -105,7 +110,7 @@ impl Walk {
     }
 }
 
-// The mark of the last of d levels: 0 in the given prefix, 1 in a zero child, 2 in a one child.
+// The mark of the last of d levels: 0 for the given prefix, 1 for a zero child, 2 for a one child.
 fn mark_at(marks: &[u8], d: usize) -> u8
     requires { ⌜ length (now marks) ≡ 128 ⌝ }
     requires { ⌜ d ≤ 128 ⌝ }
@@ -123,7 +128,7 @@ impl Place {
         mark_at(&marks, self.depth)
     }
 
-    // Into the zero child.
+    // Goes down to the zero child.
     pub fn lower(self) -> Place
         requires { ⌜ self .depth < 128 ⌝ }
         ensures { λ r. ⌜ ((t : Table) → walkOf r t ≡ lower (walkOf self t)) ⌝ }
@@ -135,7 +140,7 @@ impl Place {
         w
     }
 
-    // From the zero child to the one child.
+    // Goes from a zero child to the one child beside it.
     pub fn turn(self) -> Place
         requires { ⌜ 0 < self .depth ⌝ }
         requires { ⌜ self .depth ≤ 128 ⌝ }
@@ -150,6 +155,7 @@ impl Place {
         w
     }
 
+    // The same place with an id to confirm.
     pub fn holding(self, id: Id) -> Place
         ensures { λ r. ⌜ ((t : Table) → walkOf r t ≡ holding (walkOf self t) id) ⌝ }
     {
@@ -158,7 +164,7 @@ impl Place {
         w
     }
 
-    // Out of every one child: up to the nearest zero child, or to the given prefix.
+    // Goes up, out of each one child, to the nearest zero child or the given prefix.
     pub fn climb(self) -> Place
         requires { ⌜ self .depth ≤ 128 ⌝ }
         ensures { λ r. ⌜ ((t : Table) → walkOf r t ≡ climb (self .depth) (walkOf self t)) ⌝ }
@@ -182,7 +188,7 @@ impl Place {
         }
     }
 
-    // The path and one bit more.
+    // The bits of a child: the path and one more bit.
     pub fn child(self, bit: bool) -> Ask
         requires { ⌜ self .depth ≤ 128 ⌝ }
         ensures { λ r. ⌜ ((t : Table) → r ≡ child (walkOf self t) bit) ⌝ }
@@ -200,7 +206,7 @@ impl Place {
         Ask { bits: more, count }
     }
 
-    // What the next Select asks for, of any walk in any phase.
+    // The bits that the next Select asks for. A path of over 128 bits asks for a deselect.
     pub fn asks(self, p: Phase) -> Ask
         ensures { λ r. ⌜ ((t : Table) → r ≡ asks (walkOf self t) p) ⌝ }
     {

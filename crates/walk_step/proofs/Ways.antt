@@ -1,5 +1,6 @@
--- The ways through the step, from the facts that the code has. A callee's result that only facts on every list speak of
--- is named to the search by its range: a path of 16 bytes, a mark under 256.
+-- A lemma for each way through the step, with the facts known there as its premises.
+-- Some premises are only there for the search. A callee's result that appears only in facts over every list is found by
+-- its range: a path of 16 bytes, a mark under 256.
 use Prim.Native.Nat.{ℕ, _*_, _<_, _≤_}
 use mathlib.Core.Bool.{Bool, true, false, cond}
 use mathlib.Core.Path.{_≡_, refl, sym, _∙_, ap}
@@ -27,7 +28,7 @@ use Rattle.walk_step.specs.declared.Way.the-variants as Way
 use Rattle.walk_step.specs.declared.Going.{Going}
 use Rattle.walk_step.specs.declared.Move.{Move}
 use Rattle.walk_step.specs.Steps.{Next, going, stopped, descend, onward, leave, silent, kept, confirming, hears}
-use Rattle.hearing.specs.Heard.{long}
+use Rattle.hearing.specs.Heard.{isLong}
 use Rattle.walk_step.specs.Steps.{mine, other, settled, done, tell, step}
 use Rattle.walk_step.specs.Joined.{joined}
 
@@ -40,10 +41,10 @@ pub stopped-is : (m : Move) (end : End) → m .way ≡ Way.Stopped end → (t : 
 unfolding joined
 stopped-is m end e t = rw e
 
--- What was heard, with an id over 16 bytes tested first.
-by-long : (h : Heard) (b : Bool) → b ≡ long h → (f : Bool → Next) (z : Next) (n o : Bool)
+-- The cases of what was heard, where the code tests for an id over 16 bytes first.
+by-long : (h : Heard) (b : Bool) → b ≡ isLong h → (f : Bool → Next) (z : Next) (n o : Bool)
     → cond b z (f (onHeard h n o false false false)) ≡ onHeard h (f n) (f o) z (f false) (f false)
-unfolding long
+unfolding isLong
 by-long Nothing b e f z n o = rw e
 by-long One b e f z n o = rw e
 by-long TooLong b e f z n o = rw e
@@ -51,7 +52,7 @@ by-long Unaddressed b e f z n o = rw e
 by-long Garble b e f z n o = rw e
 
 module _ (p : Place) where
-  -- A place whose last level is a zero child has a level.
+  -- A place in a zero child has a level.
   pub deep-at : (m : ℕ) → ((t : Table) → m ≡ mark (walkOf p t)) → m ≡ 1 → 0 < p .depth
   unfolding mark
   deep-at m e f = deep (p .marks) (p .depth) m 1 (e noTable) f (omega arith)
@@ -135,7 +136,7 @@ module _ (p : Place) where
     settled-no b e t k = e t ∙ rw (eq t, en, b)
 
   module _ (n : ℕ) (x : Id) (h : Heard) (r : Move) where
-    -- A known case: what the code does there is what the definition says of it.
+    -- Where the case is known, it is enough to prove the definition at that case.
     pub hears-at : (k : Heard) → h ≡ k → ((t : Table) → joined r t ≡ hears (walkOf p t) k x) → (t : Table)
         → t .count ≡ n → joined r t ≡ hears (walkOf p t) h x
     hears-at k e f t c = rw e (f t)
@@ -152,7 +153,7 @@ module _ (p : Place) where
     unfolding hears
     hears-other b eh eb f e t k = e t ∙ rw (eh, ← eb, f)
 
-    module _ (b : Bool) (eb : b ≡ long h) where
+    module _ (b : Bool) (eb : b ≡ isLong h) where
       pub mine-long : b ≡ true → ((t : Table) → joined r t ≡ stopped End.LongId) → (t : Table)
           → joined r t ≡ mine (walkOf p t) h x
       unfolding mine

@@ -1,4 +1,4 @@
--- The walk's step on its record, named as the machine's step is.
+-- The walk's step on its record. The names are those of the machine in crates/theory/specs/WalkMachine.antt.
 use Prim.Native.Nat.{ℕ, _*_}
 use mathlib.Core.Bool.{Bool, true, false, _&&_, cond}
 use lib.ListN.{length, take}
@@ -17,13 +17,13 @@ use Rattle.walk.specs.Moves.{onPhase, finding, holding, noWalk, mark, lower, tu
 use Rattle.walk_step.specs.declared.End.{End}
 use Rattle.walk_step.specs.declared.End.the-variants.{DuplicateUid, LongId, TableFull, Unaddressed}
 
--- What becomes of a walk: it goes on to what its next Select is for, is done, or ends before its time; and its record
--- then.
+-- How a step ends. On: the walk goes on, with what its next Select is for. Done: it is done. Stopped: it ends early.
 pub data Goes : Type 0 where
   On : Phase → Goes
   Done : Goes
   Stopped : End → Goes
 
+-- The result of a step: how it ends, and the walk's record then.
 pub record Next : Type 0 where
   pub goes : Goes
   pub walk : Walk
@@ -34,26 +34,31 @@ going p w = record { goes = On p; walk = w }
 unfoldable pub stopped : End → Next
 stopped end = record { goes = Stopped end; walk = noWalk }
 
+-- Down to the zero child. At 128 bits there is none: 12.
 unfoldable pub descend : Walk → Next
 descend w = cond (ltb (w .depth) 128) (going Asked (lower w)) (stopped DuplicateUid)
 
+-- From a zero child to the one child beside it; from the given prefix to the deselect.
 unfoldable pub onward : Walk → Next
 onward w = cond (eqb (mark w) 1) (going Asked (turn w)) (going Leaving w)
 
--- The branch has ended: up to the nearest zero child, and to its sibling.
+-- The branch has ended: up to the nearest zero child and to the one child beside it, or to the deselect.
 unfoldable pub leave : Walk → Next
 leave w = onward (climb (w .depth) w)
 
--- A silent zero child: its sibling counts as garble.
+-- Nothing was heard. After a silent zero child the one child counts as garble, and is not probed.
 unfoldable pub silent : Walk → Next
 silent w = cond (eqb (mark w) 1) (descend (turn w)) (leave w)
 
+-- An id is kept. A 65th ends the walk with 15.
 unfoldable pub kept : Walk → Id → Next
 kept w x = cond (ltb (w .found .count) 64) (leave (finding w (keep (w .found) (record { id = x })))) (stopped TableFull)
 
+-- An id that begins with the path. Both children have to confirm it, unless it has no further bit.
 unfoldable pub confirming : Walk → Id → Next
 confirming w x = cond (ltb (w .depth) (8 * length (idOf x))) (going Mine (holding w x)) (kept w x)
 
+-- The path was asked for.
 unfoldable pub hears : Walk → Heard → Id → Next
 hears w h x =
     onHeard h
@@ -63,15 +68,15 @@ hears w h x =
     (stopped Unaddressed)
     (descend w)
 
--- Both children have been asked: the candidate is kept, or the path is gone down.
+-- Both children were asked for: the candidate is kept if it held, or the walk goes down.
 unfoldable pub settled : Walk → Bool → Next
 settled w held = cond held (kept (holding w noId) (w .candidate)) (descend (holding w noId))
 
--- The list alone is left, sorted.
+-- The walk is done: only its list is left, sorted.
 unfoldable pub done : Walk → Next
 done w = record { goes = Done; walk = finding noWalk (sorted (w .found)) }
 
--- The candidate's own child was asked: whether the candidate was heard again.
+-- The candidate's own child was asked for. The other child is next, whether or not the candidate was heard again.
 unfoldable pub mine : Walk → Heard → Id → Next
 mine w h x =
     onHeard h
@@ -81,13 +86,14 @@ mine w h x =
     (going (Other false) w)
     (going (Other false) w)
 
--- The other child was asked: the candidate holds if it was heard again in its own, and nothing in this one.
+-- The other child was asked for. The candidate holds if it was heard again in its own child and this one is silent.
 unfoldable pub other : Walk → Bool → Heard → Next
 other w good h = onHeard h (settled w good) (settled w false) (stopped LongId) (settled w false) (settled w false)
 
+-- The step by what the Select was for.
 unfoldable pub tell : Walk → Phase → Heard → Id → Next
 tell w p h x = onPhase p (hears w h x) (mine w h x) (λ good. other w good h) (done w)
 
--- The step of any record: one that holds more levels or rows than there are ends at once.
+-- The step of any record. One with over 128 levels or 64 ids, which no calls lead to, ends with 12.
 unfoldable pub step : Walk → Phase → Heard → Id → Next
 step w p h x = cond (leb (w .depth) 128 && leb (w .found .count) 64) (tell w p h x) (stopped DuplicateUid)

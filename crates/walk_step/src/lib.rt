@@ -1,5 +1,5 @@
-// What each thing heard does to the walk: it goes on, with an id kept or not, is done, or ends before its time.
-// The list is not looked at: how many ids it holds is all that a step asks of it.
+// One step of the walk, from what a Select heard: the walk goes on, keeps an id and goes on, is done, or ends early.
+// A step depends on how many ids the list holds, and not on the list.
 use hearing::Heard;
 use ids::Id;
 use walk::Phase;
@@ -16,7 +16,7 @@ ghost use Rattle.walk_step.specs.Steps.{going, stopped, descend, leave, 
 ghost use Rattle.walk_step.specs.Steps.{other, settled, tell, step};
 ghost use Rattle.walk_step.specs.Joined.{joined};
 
-// How a walk ends before its time: document 01's 12, 14 and 15, and its outcome 23.
+// How a walk ends early: document 01's refusals 12, 14 and 15, and its outcome 23.
 pub enum End {
     DuplicateUid,
     LongId,
@@ -24,12 +24,13 @@ pub enum End {
     Unaddressed,
 }
 
-// Where a walk goes on: what its next Select is for, and its place.
+// How a walk goes on: what its next Select is for, and its place.
 pub struct Going {
     pub phase: Phase,
     pub place: Place,
 }
 
+// How a step ends. On: the walk goes on. Keeps: it keeps an id and goes on. Done: it is done. Stopped: it ends early.
 pub enum Way {
     On(Phase),
     Keeps(Phase),
@@ -37,14 +38,14 @@ pub enum Way {
     Stopped(End),
 }
 
-// What is decided of a walk: where it goes, its place there, and the entry that is kept.
+// The result of a step: how it ends, the next place, and the entry to keep. A field that does not apply is zero.
 pub struct Move {
     pub way: Way,
     pub place: Place,
     pub entry: Entry,
 }
 
-// No entry is kept.
+// The walk goes on, and no entry is kept.
 fn on(g: Going) -> Move
     ensures { λ r. ⌜ ((t : Table) → joined r t ≡ going (g .phase) (walkOf (g .place) t)) ⌝ }
 {
@@ -75,7 +76,7 @@ fn stopped(end: End) -> Move
     ended(Way::Stopped(end))
 }
 
-// Into the zero child, while there is a level left.
+// Goes down to the zero child. A path of 128 bits has none, and the walk ends with 12.
 fn descend(p: Place) -> Move
     ensures { λ r. ⌜ ((t : Table) → joined r t ≡ descend (walkOf p t)) ⌝ }
 {
@@ -89,7 +90,7 @@ fn descend(p: Place) -> Move
     })
 }
 
-// The branch has ended.
+// The branch has ended: goes up to the nearest zero child and to the one child beside it, or to the deselect.
 fn leave(p: Place) -> Going
     requires { ⌜ p .depth ≤ 128 ⌝ }
     ensures { λ r. ⌜ ((t : Table) → going (r .phase) (walkOf (r .place) t) ≡ leave (walkOf p t)) ⌝ }
@@ -108,7 +109,7 @@ fn leave(p: Place) -> Going
     }
 }
 
-// Nothing was heard: after a zero child its sibling counts as garble.
+// Nothing was heard. After a silent zero child the one child counts as garble, and is not probed.
 fn silent(p: Place) -> Move
     requires { ⌜ p .depth ≤ 128 ⌝ }
     ensures { λ r. ⌜ ((t : Table) → joined r t ≡ silent (walkOf p t)) ⌝ }
@@ -119,7 +120,7 @@ fn silent(p: Place) -> Move
     on(leave(p))
 }
 
-// The id goes into the list of so many, while there is room.
+// Keeps an id, in a list of count ids. A 65th ends the walk.
 fn kept(p: Place, count: usize, id: Id) -> Move
     requires { ⌜ p .depth ≤ 128 ⌝ }
     ensures { λ r. ⌜ ((t : Table) → t .count ≡ count → joined r t ≡ kept (walkOf p t) id) ⌝ }
@@ -138,7 +139,7 @@ fn kept(p: Place, count: usize, id: Id) -> Move
     }
 }
 
-// An id that begins with the path.
+// An id that begins with the path. Both children have to confirm it, unless it has no further bit.
 fn confirming(p: Place, count: usize, id: Id) -> Move
     requires { ⌜ p .depth ≤ 128 ⌝ }
     ensures { λ r. ⌜ ((t : Table) → t .count ≡ count → joined r t ≡ confirming (walkOf p t) id) ⌝ }
@@ -154,6 +155,7 @@ fn confirming(p: Place, count: usize, id: Id) -> Move
     kept(p, count, id)
 }
 
+// The path was asked for.
 fn hears(p: Place, count: usize, h: Heard, id: Id) -> Move
     requires { ⌜ p .depth ≤ 128 ⌝ }
     ensures { λ r. ⌜ ((t : Table) → t .count ≡ count → joined r t ≡ hears (walkOf p t) h id) ⌝ }
@@ -173,7 +175,7 @@ fn hears(p: Place, count: usize, h: Heard, id: Id) -> Move
     }
 }
 
-// Both children have been asked.
+// Both children were asked for: the candidate is kept if it held, or the walk goes down.
 fn settled(p: Place, count: usize, held: bool) -> Move
     requires { ⌜ p .depth ≤ 128 ⌝ }
     ensures { λ r. ⌜ ((t : Table) → t .count ≡ count → joined r t ≡ settled (walkOf p t) held) ⌝ }
@@ -186,7 +188,7 @@ fn settled(p: Place, count: usize, held: bool) -> Move
     descend(q)
 }
 
-// With the candidate's other child to ask next, and whether the candidate was heard again in its own.
+// Asks for the candidate's other child next. If good is set, the candidate was heard again in its own.
 fn going_other(p: Place, good: bool) -> Move
     ensures { λ r. ⌜ ((t : Table) → joined r t ≡ going (Other good) (walkOf p t)) ⌝ }
 {
@@ -196,8 +198,7 @@ fn going_other(p: Place, good: bool) -> Move
     })
 }
 
-// Whether the candidate holds by what was heard in a child: by the first if nothing was, by the second if one was, else
-// by neither.
+// Whether a child confirms the candidate: nothing if it was silent, one if an id was heard, else false.
 fn holds(h: Heard, nothing: bool, one: bool) -> bool
     ensures { λ r. ⌜ r ≡ onHeard h nothing one false false false ⌝ }
 {
@@ -211,28 +212,29 @@ fn holds(h: Heard, nothing: bool, one: bool) -> bool
     }
 }
 
-// The candidate's own child was asked: whether the candidate was heard again.
+// The candidate's own child was asked for. The other child is next, whether or not the candidate was heard again.
 fn mine(p: Place, h: Heard, id: Id) -> Move
     ensures { λ r. ⌜ ((t : Table) → joined r t ≡ mine (walkOf p t) h id) ⌝ }
 {
-    if hearing::long(h) {
+    if hearing::is_long(h) {
         return stopped(End::LongId);
     }
     let x = p.candidate;
     going_other(p, holds(h, false, id.same(x)))
 }
 
-// The other child was asked: the candidate holds if it was heard again in its own, and nothing in this one.
+// The other child was asked for. The candidate holds if it was heard again in its own child and this one is silent.
 fn other(p: Place, count: usize, good: bool, h: Heard) -> Move
     requires { ⌜ p .depth ≤ 128 ⌝ }
     ensures { λ r. ⌜ ((t : Table) → t .count ≡ count → joined r t ≡ other (walkOf p t) good h) ⌝ }
 {
-    if hearing::long(h) {
+    if hearing::is_long(h) {
         return stopped(End::LongId);
     }
     settled(p, count, holds(h, good, false))
 }
 
+// The step of a walk within the bounds, by what its Select was for.
 fn tell(p: Place, count: usize, phase: Phase, h: Heard, id: Id) -> Move
     requires { ⌜ p .depth ≤ 128 ⌝ }
     requires { ⌜ count ≤ 64 ⌝ }
@@ -246,7 +248,7 @@ fn tell(p: Place, count: usize, phase: Phase, h: Heard, id: Id) -> Move
     }
 }
 
-// The whole step, of a walk at any place, with a list of any count, in any phase, on anything heard.
+// The step of any walk. One with over 128 levels or 64 ids, which no calls lead to, ends with 12.
 pub fn step(p: Place, count: usize, phase: Phase, h: Heard, id: Id) -> Move
     ensures { λ r. ⌜ ((t : Table) → t .count ≡ count → joined r t ≡ step (walkOf p t) phase h id) ⌝ }
 {

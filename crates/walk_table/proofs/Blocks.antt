@@ -1,4 +1,4 @@
--- Sixteen bytes pasted into a list: what stands before them and after them stays, and they are read back.
+-- Sixteen bytes pasted into a list: the bytes before and after them stay, and the same sixteen are read back.
 use Prim.Native.Nat.{ℕ, _+_, _-_, _*_, _<_, _≤_}
 use mathlib.Core.List.{List, _++_, append-assoc}
 use mathlib.Core.Path.{_≡_, sym, _∙_, ap, ap₂}
@@ -14,7 +14,7 @@ pub length-pasted : (l b : List ℕ) (i n : ℕ) → i < n → length l ≡ n * 
     → length (pasted l (i * 16) b) ≡ n * 16
 length-pasted l b i n h hl hb = length-paste l b (i * 16) (omega arith) hb ∙ hl
 
--- A part that ends before a place.
+-- A part that ends before place k is the same in the first k bytes.
 pub part-before : (l : List ℕ) (j n k : ℕ) → j + n ≤ k → k ≤ length l → take n (drop j (take k l)) ≡ take n (drop j l)
 part-before l j n k h g =
     let z : length (take k l) ≡ k = length-take-le k l g in
@@ -25,7 +25,7 @@ part-before l j n k h g =
 pub paste-own : (l : List ℕ) (at : ℕ) → pasted l at (take 16 (drop at l)) ≡ l
 paste-own l at = rw (← take-add at 16 l) (take-append-drop (at + 16) l)
 
--- A paste inside the first of two lists, and one between them.
+-- A paste inside the first of two lists; then one at the start of the second.
 pub paste-in : (p q b : List ℕ) (at : ℕ) → at + 16 ≤ length p → pasted (p ++ q) at b ≡ pasted p at b ++ q
 paste-in p q b at h = rw (take-append-le at p q (omega arith), drop-append-le (at + 16) p q h) (simp append-assoc)
 

@@ -1,4 +1,4 @@
--- The ways through the writers of a byte and of eight, from the facts that the code has.
+-- Lemmas for the writers of one byte and of eight, from the facts that hold there.
 use Prim.Native.Nat.{ℕ, _+_, _/_, _%_, _≤_}
 use mathlib.Core.List.{List, [], _∷_, _++_}
 use mathlib.Core.Path.{_≡_, _∙_, ap}

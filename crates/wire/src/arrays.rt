@@ -1,4 +1,4 @@
-// Arrays of the lengths in use, taken from a place of a slice and put at one.
+// Arrays of the lengths in use: read from a place of a slice, and written to one.
 ghost use mathlib.Core.Path.{_≡_};
 ghost use mathlib.Core.List.{_++_};
 ghost use Prim.Native.Nat.{_+_, _≤_};

@@ -1,5 +1,5 @@
-// What both sides of the wire share: document 01's numbers, little-endian numbers in slices, bytes copied and filled, a
-// writer's answer.
+// The basics of the wire format: document 01's numbers, little-endian numbers in slices, bytes copied and filled, and
+// what a writer answers.
 pub mod arrays;
 
 ghost use mathlib.Core.Path.{_≡_};
@@ -34,27 +34,28 @@ pub const UNSUPPORTED: u8 = 2;
 
 pub const CRC_MISMATCH: u8 = 3;
 
-// The flags: of the last Write; of a Reset.
+// The flags: FLUSH of the last Write; BOOTLOADER and BAUD of a Reset.
 pub const FLUSH: u8 = 1;
 
 pub const BOOTLOADER: u8 = 1;
 
 pub const BAUD: u8 = 2;
 
-// What a writer answers: the bytes written at the buffer's front; the length that the buffer lacks; that no buffer
-// would do.
+// What a writer answers. Done: how many bytes it wrote at the front of the buffer. Short: the buffer is too short, with
+// the length needed. TooLong: the input is too long for any buffer.
 pub enum Written {
     Done(usize),
     Short(usize),
     TooLong,
 }
 
-// What a writer of a request answers: the bytes written at the buffer's front, or the length that the buffer lacks.
+// What the writer of a request answers: the same without TooLong.
 pub enum Placed {
     Done(usize),
     Short(usize),
 }
 
+// Widening casts, with the bound that a caller needs.
 pub fn wide16(x: u8) -> u16
     ensures { λ r. ⌜ r ≡ x ⌝ }
     ensures { λ r. ⌜ r < 256 ⌝ }
@@ -76,7 +77,7 @@ pub fn wide64(x: u32) -> u64
     x as u64
 }
 
-// A value where it is set, or 0.
+// The value of a flag if it is set, else 0.
 pub fn flag(on: bool, value: u8) -> u8
     ensures { λ r. ⌜ r ≡ cond on value 0 ⌝ }
 {
@@ -145,7 +146,7 @@ pub fn put64(buf: &mut [u8], at: usize, x: u64)
     put32(buf, at + 4, (x / 0x1_0000_0000) as u32);
 }
 
-// src at a place of dst.
+// Writes src to dst from a place on.
 pub fn paste(dst: &mut [u8], at: usize, src: &[u8])
     requires { ⌜ at + length (now src) ≤ length (now dst) ⌝ }
     ensures { λ _. ⌜ now (dst .exit)
@@ -154,7 +155,7 @@ pub fn paste(dst: &mut [u8], at: usize, src: &[u8])
     copy(&mut dst[at..], src);
 }
 
-// src at the front of dst.
+// Writes src to the front of dst.
 pub fn copy(dst: &mut [u8], src: &[u8])
     requires { ⌜ length (now src) ≤ length (now dst) ⌝ }
     ensures { λ _. ⌜ now (dst .exit) ≡ now (src .entry) ++ drop (length (now (src .entry))) (now (dst .entry)) ⌝ }
@@ -166,7 +167,7 @@ pub fn copy(dst: &mut [u8], src: &[u8])
     }
 }
 
-// n bytes v at the front of dst.
+// Fills the first n bytes of dst with v.
 pub fn fill(dst: &mut [u8], n: usize, v: u8)
     requires { ⌜ n ≤ length (now dst) ⌝ }
     ensures { λ _. ⌜ now (dst .exit) ≡ replicate n v ++ drop n (now (dst .entry)) ⌝ }

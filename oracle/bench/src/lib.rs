@@ -1,4 +1,4 @@
-//! Both sides over the same stored records, with as little beside them as can be: what a wire let hear is written down first.
+//! Both sides over the same stored records, with as little overhead as possible: the wire's output is recorded first.
 
 use std::time::Duration;
 
@@ -14,7 +14,7 @@ pub fn records(operation: &Operation, wire: &Wire) -> Vec<Vec<u8>> {
     trace.requests.iter().enumerate().map(|(k, request)| wire.heard(k, request)).collect()
 }
 
-/// A bus that has the records, and takes any request.
+/// A bus that returns the stored records, whatever is sent.
 pub struct Stored<'a> {
     records: &'a [Vec<u8>],
     next: usize,
@@ -63,10 +63,11 @@ pub fn rust_client<'a>(records: &'a [Vec<u8>]) -> reference::Client<Stored<'a>> 
     reference::Client::new(Stored::new(records), Duration::ZERO)
 }
 
-/// A request's buffer.
+/// A request buffer.
 pub type Buffer = [u8; fahireky::REQUEST];
 
-/// The port through its Rust crate over the records, to its end: how many requests it made. No record here leaves a rest.
+/// Runs the port through its Rust crate over the records, to its end. Returns how many requests it made. No record here
+/// leaves an unread rest.
 pub fn ours(client: &mut Client, image: &[u8], records: &[Vec<u8>], buffer: &mut Buffer) -> usize {
     for (k, record) in records.iter().enumerate() {
         client.request(image, buffer).expect("a request");
@@ -115,7 +116,7 @@ impl Raw {
         assert_eq!(code, 0);
     }
 
-    /// The exported calls over the records, to their end: how many requests were made.
+    /// Runs the exported calls over the records, to the end. Returns how many requests were made.
     pub fn run(&mut self, image: &[u8], records: &[Vec<u8>]) -> usize {
         let (s, a, b) = (&mut self.state, &mut self.answer, &mut self.buffer);
         let (i, n) = (image.as_ptr(), image.len());

@@ -1,4 +1,5 @@
-//! Measures both sides in one process on the same records: the best of several, and the port's time as a ratio to the Rust's.
+//! Measures both sides in one process on the same records: the best time of several rounds, and the port's as a ratio
+//! to the Rust's.
 
 use std::fs::{self, File};
 use std::hint::black_box;
@@ -12,10 +13,10 @@ use differential::run::Operation;
 use differential::wire::{Info, Pod, Random, Wire, reply};
 use fahireky::Client;
 
-/// The best time of some runs, in nanoseconds for each of so many units. All sides take turns.
+/// The best time of each side over several rounds, in nanoseconds per unit. The sides take turns.
 fn best<const N: usize>(units: usize, mut sides: [&mut dyn FnMut(); N]) -> [f64; N] {
     let mut times = [f64::MAX; N];
-    // As many rounds as fit half a second, at least five.
+    // As many rounds as fit in half a second, at least five.
     let start = Instant::now();
     let mut rounds = 0;
     while rounds < 5 || start.elapsed().as_millis() < 500 {
@@ -29,12 +30,12 @@ fn best<const N: usize>(units: usize, mut sides: [&mut dyn FnMut(); N]) -> [f64;
     times.map(|t| t / units as f64)
 }
 
-/// The Rust, the exported calls, the Rust crate over them.
+/// A row: the Rust, the exported calls, the Rust crate over them.
 fn three(name: &str, unit: &str, [rust, raw, port]: [f64; 3]) {
     println!("| {name} | {unit} | {rust:.1} | {raw:.1} | {port:.1} | {:.2} | {:.2} |", raw / rust, port / rust);
 }
 
-/// The Rust, and the port through what is named.
+/// A row: the Rust, and the port.
 fn two(name: &str, unit: &str, [rust, port]: [f64; 2]) {
     println!("| {name} | {unit} | {rust:.1} | | {port:.1} | | {:.2} |", port / rust);
 }
@@ -93,7 +94,7 @@ fn flash(name: &str, n: usize) {
     three(&format!("{name} ({} requests)", records.len()), "us", measured);
 }
 
-/// Garble beside a clean 4 KiB: frames of every kind, then a byte that spoils them.
+/// A noisy record of 4 KiB: requests and replies of many lengths, then stray bytes.
 fn noisy(r: &mut Random) -> Vec<u8> {
     let mut bytes = Vec::new();
     while bytes.len() < 4000 {
@@ -104,7 +105,7 @@ fn noisy(r: &mut Random) -> Vec<u8> {
     bytes
 }
 
-/// The bench log program and the same over the Rust, as whole processes on one log.
+/// The bench log program, and the same program over the Rust, as whole processes on the same log.
 fn bench_log() {
     let port = Path::new(env!("CARGO_MANIFEST_DIR")).join("../../target/bin/bench_log");
     let rust = std::env::current_exe().unwrap().with_file_name("rust_log");
@@ -146,13 +147,13 @@ fn paint() {
 fn used() -> usize {
     let room = MaybeUninit::<[u8; PAINTED]>::uninit();
     let room = black_box(&room);
-    // SAFETY: any byte is one; the bytes are those that earlier frames left there.
+    // SAFETY: any bits are a valid u8; the bytes are what earlier stack frames left there.
     let painted = |i: usize| unsafe { room.as_ptr().cast::<u8>().add(i).read_volatile() } == 0xC7;
-    // A probe of the stack writes a word on each page: a block with more than that was used.
+    // A stack probe writes one word on each page. A block with more changed bytes than that was used.
     (0..PAINTED).step_by(64).find(|&at| (at..at + 64).filter(|&i| !painted(i)).count() > 16).map_or(0, |at| PAINTED - at)
 }
 
-/// The stack that a call used, in a thread of its own. What is called is hidden from the compiler, so that its frame is its own.
+/// How much stack a call uses, in a thread of its own. The call is hidden from the compiler, so that it is not inlined.
 fn stack(mut call: impl FnMut() + Send) -> usize {
     std::thread::scope(|s| {
         std::thread::Builder::new()
@@ -216,7 +217,7 @@ fn main() {
     let image = r.bytes(1 << 16);
     let info = Info { capacity: 1 << 16, erase_size: 1024, compat: 0xFFFF_FFFF, max_payload: 1024 };
     let told = records(&Operation::Flash(image.clone()), &Wire::Pod(Pod::new(info.bytes(), 1)));
-    // The clients, and the buffers that are lent, are on the heap: what is counted is what the calls take.
+    // The clients and the lent buffers are on the heap, so that only the stack of the calls is counted.
     let mut rust = (Box::new(rust_client(&found)), Box::new(rust_client(&told)));
     let (mut raw, mut client, mut buffer) = (Box::new(Raw::new()), Box::new(Client::new()), Box::new([0; fahireky::REQUEST]));
     let a = stack(|| drop(black_box(rust.0.discover(&[]))));

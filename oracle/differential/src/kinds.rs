@@ -1,17 +1,17 @@
-//! The kinds of run: what is put on the wire, and which refusals of 13 to 22 may occur and why.
+//! The kinds of run: what is on the wire, and which refusals from 13 to 22 may occur, and why.
 
 use crate::reasons;
 use crate::run::{Allowed, End, Operation, Ours, Rust, Trace, same};
 use crate::wire::{Info, Pod, Random, Wire, address, damaged, frame, reply};
 
-/// How far the requests went that both sides sent alike.
+/// How far the requests reached in the runs on which both sides agree.
 #[derive(Default)]
 pub struct Reach {
-    /// The largest image of a Verify, which is its address.
+    /// The length of the largest image that was verified: the address of its Verify.
     pub image: u32,
     /// The largest capacity of a pod whose last Erase was answered.
     pub capacity: u64,
-    /// The most Selects and Erases of one run.
+    /// The most Selects and the most Erases in one run.
     pub selects: usize,
     pub erases: usize,
     /// The largest address of an Erase and of a Write, and how many were beyond 2^16 and beyond 2^24.
@@ -55,7 +55,7 @@ impl Reach {
     }
 }
 
-/// Counts runs and keeps disagreements; every so many runs, calls out of turn are put between.
+/// Counts runs and keeps disagreements. In every seventh run, calls out of turn are made in between.
 #[derive(Default)]
 pub struct Judge {
     /// Runs of both sides, runs of the port alone, and leaf calls on both sides.
@@ -73,7 +73,8 @@ impl Judge {
         Judge::default()
     }
 
-    /// One operation on each side. The answer is whether the clients may go on: not after Io, nor after a refusal of the port's own.
+    /// Runs one operation on each side. Returns whether the clients can go on: not after a disagreement, after Io, or
+    /// after a refusal that only the port has.
     pub fn run(
         &mut self,
         pair: &mut Pair,
@@ -103,7 +104,8 @@ impl Judge {
         goes_on
     }
 
-    /// An Erase of the port alone, on a pod that it must refuse with 19 at its Info: without a failing link the Rust has no end there.
+    /// An Erase on the port alone, of a pod that it must refuse with 19 after its Info. The Rust would not end there
+    /// unless its link failed.
     pub fn endless(&mut self, info: &Info) {
         self.alone += 1;
         let ours = Ours::new().run(&Operation::Erase, Wire::Pod(Pod::new(info.bytes(), 1)), None, &[], false);
@@ -123,7 +125,7 @@ fn within_bound(operation: &Operation, ours: &Trace) -> Result<(), String> {
     }
 }
 
-/// A client on each side, and the rest that the host kept.
+/// A client on each side, and the unread rest that the host keeps.
 pub struct Pair {
     pub rust: Rust,
     pub ours: Ours,
@@ -138,7 +140,7 @@ impl Pair {
 
 const INFO: Info = Info { capacity: 10, erase_size: 4, compat: 0xFFFF_FFFF, max_payload: 4 };
 
-/// Every frame that matters to one request: what a host can hear of it.
+/// Every kind of frame or bytes that may be heard after one request.
 fn alphabet(command: u8, payload: &[u8]) -> Vec<Vec<u8>> {
     vec![
         frame(command, 0, 0, 0, &[]),
@@ -158,7 +160,8 @@ fn alphabet(command: u8, payload: &[u8]) -> Vec<Vec<u8>> {
     ]
 }
 
-/// Each operation over every record of at most two frames of the alphabet, then over silence. 14: a frame of the alphabet holds 17 bytes.
+/// Each operation with every first record of at most two frames of the alphabet, then two fixed replies, then silence.
+/// 14 may occur: a frame of the alphabet holds 17 bytes.
 pub fn short_records(judge: &mut Judge) {
     let image = vec![1, 2, 3, 4, 5];
     let operations = [
@@ -195,7 +198,8 @@ pub fn short_records(judge: &mut Judge) {
     }
 }
 
-/// Every sequence of what five Selects of a discovery, an attach and a plain select can hear. 14: one is an id of 17 bytes.
+/// A discovery with every sequence of these eight records after its first five Selects. 14 may occur: one is an id of
+/// 17 bytes.
 pub fn five_selects(judge: &mut Judge) {
     let heard: [Vec<u8>; 8] = [
         vec![],
@@ -213,8 +217,8 @@ pub fn five_selects(judge: &mut Judge) {
     }
 }
 
-/// Honest wires: up to 64 ids of one length, any prefix of whole bytes, and discoveries one after another on the same clients, so that
-/// seeds wrap. No refusal of 13 to 22 may occur.
+/// Honest wires with up to 64 ids of one length, under any prefix of whole bytes. The discoveries run one after another
+/// on the same clients, so that seeds wrap. No refusal from 13 to 22 may occur.
 pub fn honest(judge: &mut Judge, r: &mut Random, runs: usize) {
     let mut pair = Pair::new();
     for _ in 0..runs {
@@ -243,7 +247,7 @@ pub fn honest(judge: &mut Judge, r: &mut Random, runs: usize) {
     }
 }
 
-/// Honest wires with 60 to 70 ids, and links that fail at times, also after the 65th. 15: the 65th id.
+/// Honest wires with 60 to 70 ids, and links that sometimes fail, also after the 65th id. 15 may occur: the 65th id.
 pub fn crowded(judge: &mut Judge, r: &mut Random, runs: usize) {
     for _ in 0..runs {
         let (n, length) = (60 + r.below(11), 1 + r.below(16));
@@ -257,7 +261,7 @@ pub fn crowded(judge: &mut Judge, r: &mut Random, runs: usize) {
     }
 }
 
-/// Any wire to a discovery, to the bound. 15: more than 64 ids may be kept.
+/// Discoveries on a wire that may return anything. 15 may occur: more than 64 ids may be kept.
 pub fn adverse(judge: &mut Judge, r: &mut Random, runs: usize) {
     let mut pair = Pair::new();
     for _ in 0..runs {
@@ -270,7 +274,8 @@ pub fn adverse(judge: &mut Judge, r: &mut Random, runs: usize) {
     }
 }
 
-/// Garble all the way down: 128 bits deep under each prefix, and the most Selects that one branch takes. No refusal of 13 to 22.
+/// Garble down to 128 bits under each prefix: the most Selects that one branch takes. No refusal from 13 to 22 may
+/// occur.
 pub fn deep(judge: &mut Judge) {
     for bytes in 0..=16 {
         let wire = Wire::Scripted(vec![vec![0x55]; 400]);
@@ -278,7 +283,8 @@ pub fn deep(judge: &mut Judge) {
     }
 }
 
-/// Near the bound: so many ids under a prefix of so many bytes, each confirmed only at its last bit. 15: the 65th id.
+/// Near the bound: up to 65 ids under a prefix of each length, each confirmed only at its last bit. 15 may occur: the
+/// 65th id.
 pub fn stubborn(judge: &mut Judge) {
     for bytes in 0..16 {
         for n in [1, 2, 64, 65] {
@@ -290,8 +296,9 @@ pub fn stubborn(judge: &mut Judge) {
     }
 }
 
-/// Noisy records to every operation: frames good and damaged, cut and too long, several, stray A5s, the rest carried on to the next
-/// operation. 14: ids of over 16 bytes occur. 18: a Verify's answer may be short. 19: an Info may be any bytes.
+/// Noisy records for every operation: frames that are good, damaged, cut or too long, several in a record, and stray
+/// A5s. The unread rest goes on to the next operation. 14 may occur: ids of over 16 bytes. 18: a Verify's reply may be
+/// short. 19: an Info may be any bytes.
 pub fn noisy(judge: &mut Judge, r: &mut Random, runs: usize) {
     let mut pair = Pair::new();
     for _ in 0..runs {
@@ -337,10 +344,10 @@ pub fn noisy(judge: &mut Judge, r: &mut Random, runs: usize) {
     }
 }
 
-/// Pods to be erased and flashed, with faults: images and devices of every size class, keys right, wrong, missing and unset; Writes that
-/// are refused up to 17 times. 17: the 17th refusal of one Write. 18: a Verify's answer under two bytes. 19: an erase size that takes the
-/// capacity over 2^32 - 1. A capacity of 2^32 - 1 takes the Rust 65,537 Erases and more, or without end: so its link fails within
-/// twelve requests. (`far` has such a list whole.)
+/// Pods with faults, erased and flashed: images and devices of every size class; keys right, wrong, missing and unset;
+/// Writes that are refused up to 17 times. 17 may occur: the 17th refusal of one Write. 18: a Verify's reply under two
+/// bytes. 19: an erase size that rounds the capacity up to above 2^32 - 1. With a capacity of 2^32 - 1 the Rust sends
+/// at least 65,537 Erases, or never ends. So its link fails within twelve requests. (`far` has such a list in full.)
 pub fn pods(judge: &mut Judge, r: &mut Random, runs: usize) {
     let mut pair = Pair::new();
     for _ in 0..runs {
@@ -390,15 +397,15 @@ pub fn pods(judge: &mut Judge, r: &mut Random, runs: usize) {
         let operation = if r.one_in(5) { Operation::Erase } else { Operation::Flash(image) };
         let fails_at = (capacity == 0xFFFF_FFFF || r.one_in(15)).then(|| r.below(12));
         let goes_on = judge.run(&mut pair, "pods", &[17, 18, 19], operation, Wire::Pod(pod), fails_at);
-        // A rest can hold the Info of its pod.
+        // The unread rest can hold this pod's Info.
         if !goes_on || capacity == 0xFFFF_FFFF {
             pair = Pair::new();
         }
     }
 }
 
-/// Every erase size at its edge: the largest capacity that it does not take over 2^32 - 1, and one more. 19: the one more. The link fails
-/// at the first Erase.
+/// Every erase size at its limit: the largest capacity that it does not round up to above 2^32 - 1, and one more. 19
+/// may occur: for the one more. The link fails at the first Erase.
 pub fn edges(judge: &mut Judge) {
     for erase_size in 1..=0xFFFF {
         let fits = 0xFFFF_FFFF / erase_size as u32 * erase_size as u32;
@@ -411,7 +418,7 @@ pub fn edges(judge: &mut Judge) {
     }
 }
 
-/// What comes late in a far run, at a request of this command from this address on.
+/// Adds a fault late in a far run: from this command and address on.
 fn late(pod: &mut Pod, r: &mut Random, from: (u8, u32)) {
     pod.from = from;
     match r.below(6) {
@@ -424,14 +431,14 @@ fn late(pod: &mut Pod, r: &mut Random, from: (u8, u32)) {
     }
 }
 
-/// A device that takes the shortest list of Erases that a capacity of 2^32 - 1 can have: 65,537.
+/// A device with the shortest list of Erases for a capacity of 2^32 - 1: 65,537.
 const FAR: Info = Info { capacity: 0xFFFF_FFFF, erase_size: 0xFFFF, compat: 0xFFFF_FFFF, max_payload: 1024 };
 
-/// Far addresses: in each round a list of 65,537 Erases, and Writes beyond 2^16 and beyond 2^24, with retries, faults and failing
-/// links late in the run. 17 and 18: as in `pods`.
+/// Far addresses: in each round a list of 65,537 Erases, and Writes beyond 2^16 and beyond 2^24, with retries, faults
+/// and failing links late in the run. 17 and 18 may occur, as in `pods`.
 pub fn far(judge: &mut Judge, r: &mut Random, rounds: usize) {
     for round in 0..rounds {
-        // The list is whole, or has a fault in its last half.
+        // The list is complete, or has a fault in its second half.
         let mut pod = Pod::new(FAR.bytes(), r.next());
         if round % 2 == 1 {
             late(&mut pod, r, (1, 0x8000_0000 | r.clone().next() as u32));
@@ -444,8 +451,8 @@ pub fn far(judge: &mut Judge, r: &mut Random, rounds: usize) {
     }
 }
 
-/// An image that goes beyond an address, and that its device just holds; the trouble comes after that address. In the first round it is
-/// sixteen refusals of each Write, in every fifth a failing link.
+/// An image that reaches beyond an address and nearly fills its device. The faults come after that address: in the first
+/// round sixteen refusals of each Write, in every fifth round a failing link.
 fn far_image(judge: &mut Judge, r: &mut Random, round: usize, beyond: usize, info: Info) {
     let n = beyond + 2049 + r.below(9000);
     let info = Info { capacity: (n + r.below(3 * info.erase_size as usize)) as u32, ..info };
@@ -462,7 +469,7 @@ fn far_image(judge: &mut Judge, r: &mut Random, round: usize, beyond: usize, inf
     judge.run(&mut Pair::new(), "far", &[17, 18], Operation::Flash(r.bytes(n)), Wire::Pod(pod), fails_at);
 }
 
-/// `hear`, the check, the key and the texts, beside the Rust's own.
+/// Compares `hear`, the check, the key and the texts with the Rust's.
 pub fn leaves(judge: &mut Judge, r: &mut Random, rounds: usize) {
     for _ in 0..rounds {
         let n = r.below(60);
@@ -481,7 +488,7 @@ pub fn leaves(judge: &mut Judge, r: &mut Random, rounds: usize) {
             Ok(fahireky::Heard::One(id)) => (1, id.bytes().to_vec()),
             Ok(fahireky::Heard::Unaddressed) => (2, vec![]),
             Ok(fahireky::Heard::Garble) => (3, vec![]),
-            // An id of over 16 bytes is refused, and nothing else is.
+            // Only an id of over 16 bytes is refused.
             Err(fahireky::Refusal::LongId) if reasons::long_id(&bytes) => rust.clone(),
             Err(_) => (9, vec![]),
         };
@@ -501,7 +508,7 @@ pub fn leaves(judge: &mut Judge, r: &mut Random, rounds: usize) {
     }
 }
 
-/// All kinds: the exhaustive ones, the far ones, and so many seeded runs of both sides. None that is planned is left out.
+/// All kinds: the exhaustive ones, the far ones, and `runs` seeded runs of both sides. No planned run is skipped.
 pub fn all(seed: u64, runs: usize) -> Judge {
     let mut judge = Judge::new();
     let r = &mut Random::new(seed);
@@ -534,7 +541,7 @@ pub fn all(seed: u64, runs: usize) -> Judge {
     let others = (judge.both - before) as usize;
     noisy(&mut judge, r, runs - others);
     say(&judge, "noisy");
-    assert_eq!(judge.both - before, runs as u64, "seeded runs that were planned and not made");
+    assert_eq!(judge.both - before, runs as u64, "some planned seeded runs were not made");
     leaves(&mut judge, r, runs / 3);
     println!("leaves: {} calls, {} disagreements", judge.leaves, judge.bad.len());
     judge

@@ -1,4 +1,5 @@
-//! One scripted wire drives the Rust and the port, and every request, record, outcome, id, progress, seed and rest is compared.
+//! Drives the Rust and the port over the same wire, and compares every request, record, outcome, id, progress, seed and
+//! rest.
 
 pub mod kinds;
 pub mod reasons;

@@ -1,5 +1,5 @@
-//! differential [RUNS [SEED]]: compares the port with the Rust on the exhaustive kinds, on far addresses, on so many seeded runs of both
-//! sides, and on leaf calls.
+//! differential [RUNS [SEED]]: compares the port with the Rust on the exhaustive kinds, on far addresses, on RUNS
+//! seeded runs, and on leaf calls.
 
 use differential::kinds;
 

@@ -1,5 +1,5 @@
-//! When a refusal that document 01 adds to the Rust's is due: read from the bytes, which are the requests sent and the records handed in.
-//! The reader is this file's own, by document 01; it is neither the port's nor the Rust's.
+//! When a refusal that document 01 adds to the Rust's is due, read from the bytes: the requests sent and the records
+//! handed in. The reader here is written from document 01; it is neither the port's nor the Rust's.
 
 use crate::run::{End, Operation, Rust, Trace};
 
@@ -12,8 +12,9 @@ struct Frame<'a> {
     after: &'a [u8],
 }
 
-/// "Reading skips to the next A5. No A5, or fewer than 10 bytes from it: short. Then a length over 1,024: too long. Then bytes
-/// missing: short. A wrong check: bad check, fields still read. Else whole." None is short or too long: no rule here tells them apart.
+/// "Reading skips to the next A5. No A5, or fewer than 10 bytes from it: short. Then a length over 1,024: too long.
+/// Then bytes missing: short. A wrong check: bad check, fields still read. Else whole." None stands for short and for
+/// too long: no rule here needs to distinguish them.
 fn frame(bytes: &[u8]) -> Option<Frame<'_>> {
     let skipped = bytes.iter().position(|&b| b == 0xA5)?;
     let from = &bytes[skipped..];
@@ -36,7 +37,8 @@ fn number(bytes: &[u8]) -> u64 {
     bytes.iter().rev().fold(0, |n, &b| n << 8 | b as u64)
 }
 
-/// "CRC-16/IBM-3740 of the public CRC catalogue: polynomial 1021, start FFFF, no reflection, no final change", as a division bit by bit.
+/// "CRC-16/IBM-3740 of the public CRC catalogue: polynomial 1021, start FFFF, no reflection, no final change", computed
+/// bit by bit.
 fn check(bytes: &[u8]) -> u64 {
     let bits = bytes.iter().flat_map(|&b| (0..8).rev().map(move |k| (b >> k & 1) as u64));
     bits.fold(0xFFFF, |left, bit| {
@@ -45,7 +47,7 @@ fn check(bytes: &[u8]) -> u64 {
     })
 }
 
-/// The id that a Select heard, where it heard One.
+/// The id in a Select's record that is heard as One.
 pub fn one(record: &[u8]) -> Option<&[u8]> {
     let (mut left, mut replies) = (record, Vec::new());
     while !left.is_empty() {
@@ -66,7 +68,8 @@ pub fn long_id(record: &[u8]) -> bool {
     record.len() >= 29 && one(record).is_some_and(|id| id.len() > 16)
 }
 
-/// "Read frames, skipping every frame of status Request, even with a bad check, to the first other one." None: short or too long.
+/// "Read frames, skipping every frame of status Request, even with a bad check, to the first other one." None stands
+/// for short and for too long.
 fn answer(record: &[u8]) -> Option<Frame<'_>> {
     let mut f = frame(record)?;
     while f.status == 0 {
@@ -75,12 +78,12 @@ fn answer(record: &[u8]) -> Option<Frame<'_>> {
     Some(f)
 }
 
-/// The payload of an answer Ok.
+/// The payload of a reply of status Ok.
 pub fn granted(record: &[u8]) -> Option<&[u8]> {
     answer(record).filter(|f| f.whole && f.status == 1).map(|f| f.payload)
 }
 
-/// "Status 3 repeats the same Write": a reported one, or a bad check.
+/// "Status 3 repeats the same Write": it is reported, or stands for a bad check.
 pub fn refused(record: &[u8]) -> bool {
     answer(record).is_some_and(|f| !f.whole || f.status == 3)
 }
@@ -101,8 +104,9 @@ fn key(image: &[u8]) -> Option<u64> {
     (image.len() % 4 == 2).then(|| number(&image[at..at + 4]))
 }
 
-/// Whether 19 is due at an Info's answer. It comes after 5 ("payload under 18, or erase_size 0, capacity 0, or max_payload under 4"),
-/// and in a flash after 3 ("if the image exceeds capacity") and 6 ("if compat is set and the image's key is missing or different").
+/// Whether 19 is due at an Info's reply. It comes after 5 ("payload under 18, or erase_size 0, capacity 0, or
+/// max_payload under 4"), and in a flash after 3 ("if the image exceeds capacity") and 6 ("if compat is set and the
+/// image's key is missing or different").
 fn too_far(operation: &Operation, record: &[u8]) -> bool {
     let Some(info) = granted(record).filter(|payload| payload.len() >= 18) else { return false };
     let (capacity, erase_size) = (number(&info[..4]), number(&info[4..6]));
@@ -115,8 +119,8 @@ fn too_far(operation: &Operation, record: &[u8]) -> bool {
     passes && capacity > 0 && max_payload >= 4 && spans_too_far(capacity, erase_size)
 }
 
-/// The step at which 15 is due: there the Rust keeps its 65th id. That is judged by the Rust's own list where its discovery ended, else by
-/// its walk over the same records once more.
+/// The step at which 15 is due: where the Rust keeps its 65th id. It is not due if the Rust's discovery ended with at
+/// most 64 ids. Otherwise the Rust's walk is run again over the same records.
 fn table_full(operation: &Operation, rust: &Trace, ours: &Trace) -> Option<usize> {
     let Operation::Discover(prefix) = operation else { return None };
     let n = ours.handed.len();
@@ -127,7 +131,7 @@ fn table_full(operation: &Operation, rust: &Trace, ours: &Trace) -> Option<usize
     if kept(n) <= 64 {
         return None;
     }
-    // So many records are enough; one fewer is not. A record more never keeps an id less.
+    // Finds the fewest records that are enough. One more record never means fewer ids kept.
     let (mut few, mut enough) = (64, n);
     while few + 1 < enough {
         let middle = (few + enough) / 2;
@@ -136,20 +140,20 @@ fn table_full(operation: &Operation, rust: &Trace, ours: &Trace) -> Option<usize
     Some(enough - 1)
 }
 
-/// The first step at which a refusal of 13 to 22 is due in a run of the port, and its number. 13, 16 and 20 to 22 are never due here: the
-/// runs give no cause for them.
+/// The first step at which a refusal from 13 to 22 is due in a run of the port, and its number. 13, 16 and 20 to 22 are
+/// never due here: the runs give no cause for them.
 pub fn due(operation: &Operation, rust: &Trace, ours: &Trace) -> Option<(usize, u8)> {
     let (mut before, mut times): (&[u8], u32) = (&[], 0);
     let by_record = ours.steps().enumerate().find_map(|(k, (request, handed))| {
         let record = &handed.record;
-        // The same Write, refused so many times in a row.
+        // How many times in a row the same Write was refused.
         times = if request[1] != 2 || !refused(record) { 0 } else if request == before { times + 1 } else { 1 };
         before = request;
         let number = match request[1] {
             0 => too_far(operation, record).then_some(19),
             2 => (times == 17).then_some(17),
             3 => short_verify(record).then_some(18),
-            // A deselect, of 129 bits, ignores what it hears.
+            // A deselect, of 129 bits, ignores its record.
             5 => (request[11] <= 128 && long_id(record)).then_some(14),
             _ => None,
         };

@@ -24,7 +24,7 @@ pub enum Operation {
     SetBaud(u8, bool, bool),
 }
 
-/// How an operation ended: refusals by their numbers and what they carry.
+/// How an operation ended: a refusal by its number and what it carries.
 #[derive(Debug, Clone, PartialEq, Eq)]
 pub enum End {
     Quiet,
@@ -35,7 +35,8 @@ pub enum End {
     Refused(u8, Vec<u64>),
 }
 
-/// What lay unread after a request that was sent, which a host hands in; how much of it was read; and the progress reported then.
+/// The unread bytes after a request was sent, which a host hands in; how many of them were read; and the progress
+/// reported.
 #[derive(Debug, Clone, Default, PartialEq, Eq)]
 pub struct Handed {
     pub record: Vec<u8>,
@@ -50,7 +51,7 @@ pub struct State {
     pub seed: u8,
 }
 
-/// All that is compared. There is one `handed` for each request, but for a last one whose sending failed.
+/// Everything that is compared. Each request has one `handed`, except a last one whose sending failed.
 #[derive(Debug, Clone, PartialEq, Eq)]
 pub struct Trace {
     pub before: State,
@@ -62,13 +63,13 @@ pub struct Trace {
 }
 
 impl Trace {
-    /// Each request with what it heard.
+    /// Each request with what was handed in after it.
     pub fn steps(&self) -> impl Iterator<Item = (&[u8], &Handed)> {
         self.requests.iter().map(Vec::as_slice).zip(&self.handed)
     }
 
-    /// The state after an operation that was refused at a Select or in a flash: "seed and (but for deselects) attached id stay as they are
-    /// then". The seed is that of the last Select.
+    /// The state after an operation that was refused at a Select or in a flash: "seed and (but for deselects) attached
+    /// id stay as they are then". The seed is that of the last Select.
     fn stays(&self) -> State {
         let select = self.requests.iter().rfind(|request| request[1] == 5);
         State { attached: self.before.attached.clone(), seed: select.map_or(self.before.seed, |request| request[10]) }
@@ -95,7 +96,7 @@ struct Port {
     handed: Vec<Handed>,
 }
 
-/// The bus of the Rust's client; the runs keep a handle of their own to look into it.
+/// The bus of the Rust's client. The runs keep a second handle to inspect it.
 #[derive(Clone)]
 pub struct Bus(Rc<RefCell<Port>>);
 
@@ -181,7 +182,7 @@ fn knows(i: reference::DeviceInfo) -> End {
     ])
 }
 
-/// The Rust's client, which goes on from one operation to the next.
+/// The Rust's client, used for one operation after another.
 pub struct Rust {
     bus: Bus,
     client: reference::Client<Bus>,
@@ -194,7 +195,7 @@ impl Rust {
         Rust { client: reference::Client::new(bus.clone(), Duration::ZERO), bus }
     }
 
-    /// The ids that the walk under a prefix keeps, to its end, or until the link fails after the last of these records.
+    /// The ids that the walk under a prefix keeps, until it ends or the link fails after the last of these records.
     pub fn kept(prefix: &[u8], records: Vec<Vec<u8>>) -> Vec<Vec<u8>> {
         let mut rust = Rust::new();
         rust.begin(Some(records.len()), Wire::Scripted(records), &[]);
@@ -290,7 +291,7 @@ fn ended(o: Outcome) -> End {
     }
 }
 
-/// The port's client, which goes on from one operation to the next.
+/// The port's client, used for one operation after another.
 pub struct Ours {
     pub client: Client,
     buffer: [u8; fahireky::REQUEST],
@@ -305,7 +306,7 @@ impl Ours {
         State { attached: self.client.attached().map(|id| id.bytes().to_vec()), seed: self.client.seed() }
     }
 
-    /// An operation, started while none runs.
+    /// Starts an operation; none is running.
     fn start(&mut self, operation: &Operation) -> Result<(), Refusal> {
         let c = &mut self.client;
         match operation {
@@ -336,7 +337,7 @@ impl Ours {
         assert!(before == self.client);
     }
 
-    /// The next request's bytes, and whether its answer is awaited; no byte after them is changed.
+    /// The next request's bytes, and whether its reply is awaited; no byte after them is changed.
     fn request(&mut self, image: &[u8]) -> Result<(Vec<u8>, bool), Refusal> {
         self.buffer.fill(0xC3);
         let Request { len, awaited } = self.client.request(image, &mut self.buffer)?;
@@ -397,10 +398,10 @@ impl Ours {
     }
 }
 
-/// What a comparison may excuse: the refusals of 13 to 22 that can occur in this kind of run.
+/// The refusals from 13 to 22 that may occur in this kind of run.
 pub type Allowed = &'static [u8];
 
-/// The refusal of 13 to 22 that the port gave, and the step at which it gave it.
+/// The refusal from 13 to 22 that the port gave, and the step at which it gave it.
 fn own(ours: &Trace) -> Option<(usize, u8)> {
     match ours.end {
         End::Refused(n @ 13..=22, _) => Some((ours.requests.len().saturating_sub(1), n)),
@@ -408,15 +409,15 @@ fn own(ours: &Trace) -> Option<(usize, u8)> {
     }
 }
 
-/// Whether the port's run is the Rust's. The port gives a refusal of its own exactly where it is due by the bytes, and only where it is
-/// allowed; all that came before it is compared.
+/// Whether the port's run agrees with the Rust's. The port gives a refusal of its own exactly where it is due by the
+/// bytes, and only where it may occur. Everything before it is compared.
 pub fn same(operation: &Operation, rust: &Trace, ours: &Trace, allowed: Allowed) -> Result<(), String> {
     let given = own(ours);
     if given.is_some_and(|(_, n)| !allowed.contains(&n)) {
         return Err(format!("a refusal that may not occur here: {:?}", ours.end));
     }
     agree(rust.before == ours.before, "attached id or seed before")?;
-    // After a refusal of the port's own the Rust may go on.
+    // After a refusal that only the port has, the Rust may go on.
     let n = if given.is_some() { ours.requests.len() } else { rust.requests.len() };
     agree(rust.requests.get(..n) == Some(&ours.requests[..]), "requests")?;
     agree(given.is_some() || rust.handed.len() == ours.handed.len(), "records")?;

@@ -1,10 +1,11 @@
-//! Wires: what is heard after a request, as a function of the requests so far. A wire is cloned, so that both sides meet the same one.
+//! Wires: the record of each request, as a function of the requests so far. A wire is cloned, so that both sides get
+//! the same one.
 
 use std::collections::HashSet;
 
 use tinyboot_protocol::crc::{CRC_INIT, crc16};
 
-/// xorshift64*: the runs of a seed are the same everywhere.
+/// xorshift64*: a seed gives the same runs on every machine.
 #[derive(Clone)]
 pub struct Random(u64);
 
@@ -61,7 +62,7 @@ pub fn reply(command: u8, status: u8, payload: &[u8]) -> Vec<u8> {
     frame(command, status, 0, 0, payload)
 }
 
-/// With its check damaged.
+/// A frame with its check damaged.
 pub fn damaged(mut bytes: Vec<u8>) -> Vec<u8> {
     if let Some(last) = bytes.last_mut() {
         *last ^= 0x5A;
@@ -69,7 +70,7 @@ pub fn damaged(mut bytes: Vec<u8>) -> Vec<u8> {
     bytes
 }
 
-/// What a device says of itself.
+/// The device information.
 #[derive(Clone, Copy)]
 pub struct Info {
     pub capacity: u32,
@@ -106,32 +107,33 @@ fn begins((count, bits): (usize, &[u8]), id: &[u8]) -> bool {
 
 #[derive(Clone)]
 pub enum Wire {
-    /// The k-th request hears the k-th record; what comes after them is silence.
+    /// The k-th request gets the k-th record; after the last there is silence.
     Scripted(Vec<Vec<u8>>),
-    /// Pods of these ids: silence, the one's reply, or a clash.
+    /// Pods with these ids: silence, the reply of the one that matches, or a clash.
     Honest(Vec<Vec<u8>>),
-    /// Anything that a Select may hear, with the ids that fit what was asked for likely.
+    /// Anything that a Select may hear, often an id that matches the prefix.
     Adverse(Random),
-    /// Pods of these ids, each made to fail its confirmation down to its last bit: the most Selects that so many ids take.
+    /// Pods with these ids, each of which fails its confirmation down to its last bit: the most Selects for that many
+    /// ids.
     Stubborn(Vec<Vec<u8>>, HashSet<(usize, Vec<u8>)>),
     /// One pod in its bootloader.
     Pod(Pod),
 }
 
-/// A pod: what it says of itself, the faults that it has, and what was written to it.
+/// A pod: its device information, its faults, and what was written to it.
 #[derive(Clone)]
 pub struct Pod {
     pub info: Vec<u8>,
     pub faults: Random,
-    /// The command and address from which on it has its faults and refuses Writes: a flash's requests come in this order.
+    /// Faults and refused Writes begin at this command and address. The requests of a flash come in this order.
     pub from: (u8, u32),
-    /// One answer in so many is a fault; none if 0.
+    /// One reply in this many is a fault; none if 0.
     pub every: usize,
-    /// So many Writes at each offset are answered with status 3 first, or with a bad check.
+    /// At each offset, this many Writes are first answered with status 3 or with a bad check.
     pub refuses: u8,
     pub seen: u8,
     pub flash: Vec<u8>,
-    /// The verify reply.
+    /// The payload of the Verify's reply; if None, the check of what was written.
     pub check: Option<Vec<u8>>,
 }
 
@@ -140,7 +142,7 @@ impl Pod {
         Pod { info, faults: Random::new(seed), from: (0, 0), every: 0, refuses: 0, seen: 0, flash: Vec::new(), check: None }
     }
 
-    /// Whether it is to have faults at a request.
+    /// Whether faults have begun at this request.
     fn begun(&self, request: &[u8]) -> bool {
         (request[1], address(request)) >= self.from
     }
@@ -204,7 +206,7 @@ impl Pod {
 }
 
 impl Wire {
-    /// What is heard after the k-th request, or that sending it failed.
+    /// The record of the k-th request.
     pub fn heard(&mut self, k: usize, request: &[u8]) -> Vec<u8> {
         match self {
             Wire::Scripted(records) => records.get(k).cloned().unwrap_or_default(),

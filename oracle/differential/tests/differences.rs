@@ -64,7 +64,7 @@ fn a_select_of_129_bits() {
 
 #[test]
 fn an_erase_address_that_overflows() {
-    // The Rust has no end here: its link fails.
+    // The Rust does not end here, so its link fails.
     let info = Info { capacity: 0xFFFF_FFFF, erase_size: 2, ..INFO };
     let wire = Wire::Pod(Pod::new(info.bytes(), 1));
     let rust = Rust::new().run(&Operation::Erase, wire.clone(), Some(1000), &[]);

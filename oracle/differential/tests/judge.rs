@@ -1,4 +1,4 @@
-//! The comparison can fail: each thing that it compares, changed in one of two equal runs, is a disagreement.
+//! The comparison can fail: changing any compared field in one of two equal runs gives a disagreement.
 
 use differential::run::{End, Operation, Ours, Rust, Trace, same};
 use differential::wire::{Info, Pod, Wire, reply};
@@ -45,14 +45,14 @@ fn each_thing_compared_can_disagree() {
 
 #[test]
 fn after_io_the_rest_is_not_compared_and_the_steps_before_it_are() {
-    // A frame that is too long: the Rust stops in it. The record before it is read to its end.
+    // In a frame that is too long the Rust stops. The record before it is read to its end.
     let records = vec![reply(0, 1, &INFO.bytes()), vec![0xA5, 1, 1, 0, 0, 0, 0, 0, 1, 4, 0]];
     let (rust, mut ours) = both(&flash(), Wire::Scripted(records), None);
     assert_eq!((&rust.end, rust.handed[1].read, ours.handed[1].read), (&End::Refused(1, vec![]), 10, 11));
     assert_eq!(same(&flash(), &rust, &ours, &[]), Ok(()));
     ours.handed[0].read -= 1;
     assert!(same(&flash(), &rust, &ours, &[]).is_err());
-    // A link that failed has no record: there all records are compared.
+    // A failed link has no record, so all records are compared.
     let (rust, mut ours) = both(&flash(), Wire::Pod(Pod::new(INFO.bytes(), 1)), Some(2));
     assert_eq!(same(&flash(), &rust, &ours, &[]), Ok(()));
     ours.handed[1].read -= 1;

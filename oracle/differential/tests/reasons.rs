@@ -1,5 +1,6 @@
-//! Each refusal that document 01 adds is excused with its reason alone: a port that gives it too early, too late, for another reason or not
-//! at all disagrees. The wrong ports are the Rust's own run, cut at a step and ended with the refusal, so that nothing else can disagree.
+//! Each refusal that document 01 adds is accepted only for its reason. A port that gives it too early, too late, for
+//! another reason or not at all disagrees. The wrong ports are the Rust's own runs, cut at a step and ended with the
+//! refusal, so that nothing else can disagree.
 
 use differential::reasons;
 use differential::run::{Allowed, End, Operation, Ours, Rust, Trace, same};
@@ -12,7 +13,7 @@ fn both(operation: &Operation, wire: Wire, fails_at: Option<usize>) -> (Trace, T
     (Rust::new().run(operation, wire.clone(), fails_at, &[]), Ours::new().run(operation, wire, fails_at, &[], false))
 }
 
-/// As the Rust up to a step, and there a refusal.
+/// The Rust's run up to a step, ended there with a refusal.
 fn refusing(rust: &Trace, step: usize, number: u8) -> Trace {
     let mut wrong = rust.clone();
     wrong.requests.truncate(step + 1);
@@ -21,7 +22,8 @@ fn refusing(rust: &Trace, step: usize, number: u8) -> Trace {
     wrong
 }
 
-/// The port gives this refusal, with its reason; the Rust's own run, taken as the port's, lacks it.
+/// The port gives this refusal, for its reason. The Rust's own run, taken as the port's, does not give it and
+/// disagrees.
 #[track_caller]
 fn due(operation: Operation, wire: Wire, fails_at: Option<usize>, number: u8) {
     let (rust, ours) = both(&operation, wire, fails_at);
@@ -30,7 +32,7 @@ fn due(operation: Operation, wire: Wire, fails_at: Option<usize>, number: u8) {
     unjust(&operation, &rust, &rust);
 }
 
-/// A port that goes on, and agrees, is right; one that gives this refusal at this step is not.
+/// A port that goes on agrees; one that gives this refusal at this step does not.
 #[track_caller]
 fn not_due(operation: Operation, wire: Wire, fails_at: Option<usize>, number: u8, step: impl FnOnce(&Trace) -> usize) {
     let (rust, ours) = both(&operation, wire, fails_at);
@@ -38,7 +40,7 @@ fn not_due(operation: Operation, wire: Wire, fails_at: Option<usize>, number: u8
     unjust(&operation, &rust, &refusing(&rust, step(&rust), number));
 }
 
-/// Only the reason disagrees.
+/// The two runs disagree only in the refusal that is due.
 #[track_caller]
 fn unjust(operation: &Operation, rust: &Trace, wrong: &Trace) {
     let verdict = same(operation, rust, wrong, ALL);
@@ -66,7 +68,7 @@ fn an_id_of_17_bytes_and_not_of_16() {
     due(select(), said(&[long.clone()]), None, 14);
     due(select(), said(&[[reply(5, 0, &[7; 17]), long.clone()].concat()]), None, 14);
     due(Operation::Attach(None), said(&[long.clone()]), None, 14);
-    // At a confirming Select: the Rust only fails the confirmation.
+    // At a confirming Select: in the Rust only the confirmation fails.
     due(Operation::Discover(vec![]), said(&[reply(5, 1, &[0]), long.clone()]), None, 14);
     for heard in [
         reply(5, 1, &[7; 16]),
@@ -113,7 +115,7 @@ fn the_17th_refusal_of_one_write_and_not_the_16th() {
     due(flash(), refuses(17), None, 17);
     // Info, Erase, and sixteen Writes.
     not_due(flash(), refuses(16), None, 17, |_| 17);
-    // The first Write of the second offset, which is no more the same.
+    // The first Write at the second offset is no longer the same Write.
     not_due(flash(), refuses(16), None, 17, |_| 19);
     let (rust, ours) = both(&flash(), refuses(17), None);
     for heard in [reply(2, 7, &[]), reply(2, 1, &[]), reply(2, 0, &[]), vec![], damaged(reply(2, 0, &[]))] {
@@ -140,7 +142,7 @@ fn a_verify_of_one_byte_and_not_of_two() {
     for heard in [reply(3, 2, &[]), damaged(reply(3, 1, &[])), reply(3, 1, &[])[..11].to_vec()] {
         not_due(Operation::Flash(vec![]), said(&[&before[..], &[heard]].concat()), None, 18, last);
     }
-    // An Erase's answer has no payload either.
+    // An Erase's reply has no payload either.
     not_due(Operation::Flash(vec![]), pod(INFO, |_| {}), None, 18, |_| 1);
 }
 
@@ -149,7 +151,7 @@ fn a_capacity_over_the_edge_and_not_at_it() {
     let of = |capacity, erase_size| Info { capacity, erase_size, ..INFO };
     let sound = |info| pod(info, |_| {});
     let flash = || Operation::Flash(vec![1, 2, 3, 4, 5, 6]);
-    // The Rust has no end: its link fails at the first Erase, or later.
+    // The Rust does not end, so its link fails at the first Erase or later.
     for info in [of(0xFFFF_FFFF, 2), of(0xFFFF_FFFF, 0xFFFE), of(0xFFFF_FFF8, 0xFFFD)] {
         for fails_at in [1, 5] {
             due(Operation::Erase, sound(info), Some(fails_at), 19);
@@ -161,13 +163,13 @@ fn a_capacity_over_the_edge_and_not_at_it() {
         not_due(flash(), sound(info), Some(2), 19, |_| 0);
     }
     let over = of(0xFFFF_FFFF, 2);
-    // 5 and 6 come before it, and an Info alone has no Erases.
+    // 5 and 6 come before 19, and an Info alone has no Erases.
     not_due(Operation::Erase, sound(Info { max_payload: 3, ..over }), None, 19, |_| 0);
     not_due(Operation::Erase, sound(Info { erase_size: 0, ..over }), None, 19, |_| 0);
     not_due(flash(), sound(Info { compat: 7, ..over }), None, 19, |_| 0);
     not_due(Operation::Info, sound(over), None, 19, |_| 0);
     due(flash(), sound(Info { compat: 0x0403_0201, ..over }), Some(1), 19);
-    // It comes at the Info, and not later.
+    // 19 is given at the Info, and not later.
     let (rust, _) = both(&Operation::Erase, sound(over), Some(5));
     unjust(&Operation::Erase, &rust, &refusing(&rust, 1, 19));
 }

@@ -1,4 +1,4 @@
--- The ways through what the one answer makes of the client, from the facts that the code has.
+-- A lemma for each way through the handling of a reply, with the facts known there as its premises.
 use Prim.Native.Nat.{ℕ, _+_, _-_, _^_, _<_, _≤_}
 use mathlib.Core.List.{List}
 use mathlib.Core.Path.{_≡_, refl, sym, _∙_, ap}
@@ -28,7 +28,7 @@ use Rattle.client_job.specs.declared.Then.the-variants.{On, Over, Refused}
 use Rattle.client_job.specs.Job.{accepted, declined}
 use Rattle.client_record.specs.Answer.{goes, tells}
 
--- The verdict that progress is added to is named to the search by its rest's range.
+-- The premise on the rest's range is only there for the search: it names the verdict that progress is added to.
 module _ (f : Front) (next : Next) (at : ℕ) (r : Verdict) where
   module _ (v : Verdict) (l : v .rest < 2 ^ 64)
       (q : (w : Walk) → toldOf r w ≡ making (toldOf v w) (next .progress)) where
@@ -50,6 +50,7 @@ module _ (f : Front) (next : Next) (at : ℕ) (r : Verdict) where
   unfolding goes
   goes-refused x h e w = rw h (e w)
 
+-- Document 01's answer, from what the code has of it.
 was-lost : (x : Answer) → shownAnswer x ≡ Lost → x ≡ lost
 was-lost lost e = refl
 was-lost (answered (ok p) m) e = absurd (let z : _≡_ {A = ℕ} 0 1 = cc in omega arith)
@@ -60,7 +61,7 @@ was-device lost s end e = absurd (let z : _≡_ {A = ℕ} 0 1 = cc in omega arit
 was-device (answered (ok p) m) s end e = absurd (let z : _≡_ {A = ℕ} 0 1 = cc in omega arith)
 was-device (answered (device k) m) s end e = cc
 
--- The paper's answer of status Ok, of which the code has the places.
+-- Document 01's answer of status Ok, with the places in the record that the code has.
 record Paid (x : Answer) (from len end : ℕ) : Type 0 where
   payload : List ℕ
   came : x ≡ answered (ok payload) end

@@ -4,8 +4,8 @@ use borrow.Author.Needs.{needs}
 use Rattle.client_record.proofs.probed.Statement.{statement}
 use Rattle.client_record.proofs.probed.Tie as tie
 
-long-requires : tie.Need-long-requires
-long-requires c κs = search needs
+is-long-requires : tie.Need-is-long-requires
+is-long-requires c κs = search needs
 
 stops-requires : tie.Need-stops-requires
 stops-requires c κs = search needs
@@ -20,4 +20,4 @@ returns-2 : tie.Need-returns-2
 returns-2 c = search (probed-heard, needs)
 
 pub probed-spec : {M : Type 1} → statement M
-probed-spec = tie.close (tie.spec long-requires stops-requires returns over-requires returns-2)
+probed-spec = tie.close (tie.spec is-long-requires stops-requires returns over-requires returns-2)

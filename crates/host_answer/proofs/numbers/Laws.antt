@@ -1,4 +1,4 @@
--- An answer's numbers are read as that answer: nothing of it is lost.
+-- An answer's numbers give that answer back: nothing is lost.
 use mathlib.Core.Path.{_≡_, refl, ap}
 use Rattle.hearing.specs.declared.Heard.{Heard}
 use Rattle.hearing.specs.declared.Heard.the-variants as Heard

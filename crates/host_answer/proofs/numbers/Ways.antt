@@ -1,4 +1,4 @@
--- The ways through an answer's numbers, from the facts that the code has.
+-- Lemmas for an answer's numbers: one for each path through the code.
 use Prim.Native.Nat.{ℕ}
 use mathlib.Core.Bool.{Bool, false}
 use mathlib.Core.Path.{_≡_}
@@ -45,7 +45,7 @@ pub refusing-is : (number length first second : ℕ) (key : Bool) (i : Info) →
 unfolding refusing
 refusing-is number length first second key i e = rw e
 
--- With no information.
+-- An outcome without information.
 pub ending-is : (number outcome heard h : ℕ) (any : Bool) (i : Info) (r : Note) → i ≡ noInfo → h ≡ heard
     → r ≡ ending number outcome h any i
     → r ≡ ending number outcome heard any noInfo

@@ -1,4 +1,4 @@
--- What meets the premises: each theorem with a premise, applied to values that meet it.
+-- Examples: each theorem with a premise, applied to values that meet it.
 use Prim.Native.Nat.{_/_, _%_}
 use mathlib.Core.Path.{_≡_}
 use native.Mathlib.Omega.{arith}

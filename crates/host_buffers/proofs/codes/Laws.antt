@@ -1,4 +1,4 @@
--- A code holds its number and its length.
+-- A code's number and length can be read back from it.
 use Prim.Native.Nat.{ℕ, _/_, _%_, _^_, _<_}
 use mathlib.Core.Path.{_≡_}
 use native.Mathlib.Omega.{arith}

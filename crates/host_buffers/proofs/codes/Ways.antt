@@ -1,4 +1,4 @@
--- The ways through the codes and the ids behind them, from the facts that the code has.
+-- Lemmas for the codes and for ids written behind them: one for each path through the code.
 use Prim.Native.Nat.{ℕ, _<_, _≤_}
 use mathlib.Core.List.{List, _++_}
 use mathlib.Core.Path.{_≡_, sym, _∙_, ap}
@@ -13,7 +13,7 @@ use Rattle.text.specs.declared.Parse.{Parse}
 use Rattle.text.specs.declared.Parse.the-variants.{Uid, BadText}
 use Rattle.host_buffers.specs.Codes.{coded, Coded, putUid, readAs, readUid}
 
--- An id written.
+-- Writing an id.
 module _ (x : Id) (n r : ℕ) (out : List ℕ) (en : n ≡ length (idOf x)) where
   pub uid-short : length out < n → r ≡ coded 16 n → record { code = r; bytes = out } ≡ putUid x out
   unfolding putUid

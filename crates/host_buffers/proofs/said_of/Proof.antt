@@ -4,8 +4,8 @@ use borrow.Author.Needs.{needs}
 use Rattle.host_buffers.proofs.said_of.Statement.{statement}
 use Rattle.host_buffers.proofs.said_of.Tie as tie
 
-long-requires : tie.Need-long-requires
-long-requires c κs = search needs
+is-long-requires : tie.Need-is-long-requires
+is-long-requires c κs = search needs
 
 returns : tie.Need-returns
 returns c = search (said-long, needs)
@@ -14,4 +14,4 @@ returns-2 : tie.Need-returns-2
 returns-2 c = search (said-heard, needs)
 
 pub said-of-spec : {M : Type 1} → statement M
-said-of-spec = tie.close (tie.spec long-requires returns returns-2)
+said-of-spec = tie.close (tie.spec is-long-requires returns returns-2)

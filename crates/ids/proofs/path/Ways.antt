@@ -1,4 +1,4 @@
--- The ways through the comparison of an id with the first bits of a path.
+-- Lemmas for `ids::path::begins`, which compares an id with the first bits of a path.
 use Prim.Native.Nat.{ℕ, suc, _+_, _*_, _<_, _≤_}
 use mathlib.Core.Bool.{Bool, true, false, not, Bool·beq}
 use mathlib.Core.List.{List, _∷_}
@@ -14,7 +14,7 @@ use Rattle.ids.proofs.Ways.{sized, bit-in}
 
 module _ (path x : List ℕ) (bits n k : ℕ) (plong : length path ≡ 16) (xlong : length x ≡ 16) (pb : bits ≤ 128)
     (xn : n ≤ 16) where
-  -- The path's bit at k and those after it; the id's.
+  -- The bits from k on, as bit k and those after it: of the path, and of the id.
   at-path : k < bits → drop k (take bits (bitsOf path)) ≡ bit path k ∷ drop (k + 1) (take bits (bitsOf path))
   at-path h =
       rw (add-one k)

@@ -1,4 +1,4 @@
--- The device information from its bytes: what was saved, and what any bytes hold.
+-- The device information loaded from bytes: it is what was saved there, and its fields are within their bounds.
 use Prim.Native.Nat.{ℕ, _+_}
 use mathlib.Core.List.{List, [], _∷_}
 use mathlib.Core.Path.{_≡_, refl}
@@ -32,7 +32,7 @@ module _ (at : ℕ) (b : List ℕ) where
         field-at (at + 16) 2 (i .«max_payload») b (h .payload) (s .1 .1 .1 .1 .0),
       )
 
-  -- What bytes hold fits.
+  -- Fields loaded from any bytes are within their bounds.
   pub info-fits : Bytes b → InfoFits (loadedInfo at b)
   unfolding loadedInfo
   info-fits h = record {

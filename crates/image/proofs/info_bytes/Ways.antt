@@ -1,4 +1,4 @@
--- The ways through the reader and the writer of the device information's bytes, from the facts that the code has.
+-- Lemmas for each path through loading and saving the device information, from the facts that hold there.
 use Prim.Native.Nat.{ℕ, _+_, _≤_}
 use mathlib.Core.List.{List, [], _∷_, _++_}
 use mathlib.Core.Path.{_≡_, refl}

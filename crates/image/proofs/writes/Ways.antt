@@ -1,4 +1,4 @@
--- The ways through the rules on Writes, from the facts that the code has.
+-- Lemmas for each path through the rules on Writes, from the facts that hold there.
 use Prim.Native.Nat.{ℕ, _+_, _-_, _/_, _^_, _<_, _≤_}
 use mathlib.Core.Bool.{Bool, true, false, cond}
 use mathlib.Core.List.{List}
@@ -77,7 +77,7 @@ module _ (o k held : ℕ) (image : List ℕ) (eh : held ≡ imageBytes (length i
   pub part-fits : (held ≡ 0 → ⊥) → length image < 2 ^ 64 → o + held < 2 ^ 64
   part-fits h l = omega (arith, held-within)
 
-  -- So many as are held are so many as are asked for.
+  -- Taking only the bytes that there are gives the same as taking k bytes.
   take-held : take held (drop o image) ≡ part o k image
   unfolding imageBytes
   take-held = rw eh (go (decLe k (length image - o)))

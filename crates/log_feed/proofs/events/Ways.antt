@@ -1,4 +1,4 @@
--- The ways through what the reader met, from the facts that the code has.
+-- A lemma for each way through the handling of an event, with the facts known there as its premises.
 use Prim.Native.Nat.{ℕ}
 use mathlib.Core.Bool.{true, false, cond}
 use mathlib.Core.List.{List}
@@ -14,7 +14,6 @@ use Rattle.log_run.specs.Run.{onStage, stops, opens, takes}
 use Rattle.log_feed.specs.declared.events.Log.{Log}
 use Rattle.log_feed.specs.Events.{idle, logOf, lined, emptied, met}
 
--- The end of a line.
 module _ (v : Replay) (r : Reader) (buf : List ℕ) (w : Log) where
   module _ (x : Reader) (line : List ℕ) (u : Replay) (el : line ≡ take (r .len) buf) (ex : x ≡ idle)
       (ew : w ≡ logOf x u) where

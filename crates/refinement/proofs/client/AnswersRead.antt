@@ -1,4 +1,4 @@
--- The code's answers, read as document 01's, are what the machine says.
+-- The code's answers, read as document 01's, are the machine's.
 use Prim.Native.Nat.{ℕ, _≤_}
 use mathlib.Core.Bool.{Bool, true, false, cond}
 use mathlib.Core.List.{List, [], _∷_, map}
@@ -39,11 +39,11 @@ use Rattle.refinement.proofs.walk.TableRows.{table-rows, table-count}
 abbrev pub readBack : Shown → Says
 readBack s = saysOf (s .says) (s .progress) (s .id) (s .found)
 
--- An answer that is read as it was said.
+-- The code's form of this answer reads back as the same answer.
 abbrev pub Readable : Says → Type 0
 Readable s = readBack (shownSays s) ≡ s
 
--- The ids of a table of ids.
+-- The ids read from the table of some ids are those ids.
 map-back : (ids : List Paper.Id) → All Short ids → map (λ (e : Entry). idOf (e .id)) (map rowOf ids) ≡ ids
 map-back [] s = refl
 map-back (x ∷ xs) s = ap₂ _∷_ (id-of-from x (s .0)) (map-back xs (s .1))
@@ -175,7 +175,7 @@ outcome-read (attached (some x)) f = ap (λ (y : Paper.Id). over none (attached 
 outcome-read (found ids) f = ap (λ (l : List Paper.Id). over none (found l)) (ids-back ids (f .0) (f .1))
 outcome-read (knows info) f = knows-read info none
 
--- What follows, with the progress made.
+-- What follows a step reads back, with the progress made.
 abbrev pub ReadableThen : Option (ℕ × ℕ) → Then → Type 0
 ReadableThen p (to ph) = Unit {0}
 ReadableThen p (ends o) = Readable (over p o)
@@ -199,7 +199,7 @@ sought-read none b unaddressed e = outcome-read (attached none) tt
 sought-read (some x) b unaddressed e = bare-read
 sought-read uid b garble e = tt
 
--- A walk's number, where it was stopped, is one that is read as it was said.
+-- If the walk has stopped, its number reads back.
 abbrev pub Stops : Walk.Next → Type 0
 Stops (going s) = Unit {0}
 Stops (ended (done ids)) = Unit {0}
@@ -241,8 +241,7 @@ search-read (backing none) f h = several-read
 search-read (backing (some x)) f h = ambiguous-read x f
 search-read (walking s) f h = walked-read (Walk.step s h) (step-fits s h f) (step-stops s h)
 
--- What a job leads to: P of the phase that follows, or an end that is read as it was said, whatever progress is made
--- with it.
+-- What a job leads to: a phase that satisfies P, or an end that reads back with any progress.
 abbrev pub Reads : (Phase → Type 0) → Then → Type 0
 Reads P (to ph) = P ph
 Reads P (ends o) = (p : Option (ℕ × ℕ)) → Readable (over p o)
@@ -262,7 +261,7 @@ job-ends P = record {
   far = far-read;
 }
 
--- Whatever a phase that fits is answered.
+-- Whatever is answered in a phase that fits, what follows reads back.
 pub phase-read : (ph : Phase) → FitsPhase ph → (a : AnswerTo (Phases.request ph))
     → ReadableThen (step ph a .progress) (step ph a .then)
 unfolding step

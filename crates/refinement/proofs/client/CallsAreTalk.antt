@@ -1,4 +1,4 @@
--- The driven client is document 01's conversation: every answer, whatever is called and in whatever order.
+-- The code's answers to any calls, in any order, are document 01's.
 use Prim.Native.Nat.{ℕ, _*_}
 use mathlib.Core.Bool.{Bool, true, false, _&&_, cond}
 use mathlib.Core.List.{List, [], _∷_, _++_}
@@ -99,7 +99,7 @@ paper-call c f (request image buffer) = ap askedOf (request-sim c image buffer)
 paper-call c f (record′ image bytes) = ap saidBy (record-sim c (turn-sound (c .turn) (f .turn)) image bytes)
 paper-call c f linkFailed = ap saidBy (linkFailed-sim c)
 
--- The starts' answers, read.
+-- A start's answer, read as document 01's.
 pub started-read : (c : Machine.Client) (good : Bool) (ph : Phase)
     → startedBy (startedAs (Machine.start c good ph)) ≡ inCode (settledBy (Machine.start c good ph))
 unfolding Machine.start settle refusedAs saysOf numberOf carriedBy progressOf
@@ -112,7 +112,7 @@ started-read c good ph = go (c .turn) good
     go (ready p) b = refl
     go (waiting p) b = refl
 
--- A request's answer, read.
+-- A request's answer, read as document 01's.
 handing-read : (q : Ask) (n : ℕ) → saysOf (shownSays (handing q n) .says) None noId noTable ≡ handing q n
 unfolding saysOf
 handing-read (select p) n = refl
@@ -142,7 +142,7 @@ asked-read c image buffer = go (c .turn)
         bytes = bytesOf (Phases.request ph) (seedAfter (Phases.request ph) (c .seed)) image
     go (waiting ph) = refl
 
--- An answer that is read as it was said.
+-- An answer that reads back as the same answer.
 said : (t : Machine.Told) → Readable (t .says) → toldBy (toldAs t) ≡ inCode (settledBy t)
 said t r = ap (λ (s : Says). (record { says = s; rest = t .rest; buffer = [] }, clientOf (t .client))) r
 
@@ -181,7 +181,7 @@ failed-read c = go (c .turn)
     go (ready ph) = turn-read
     go (waiting ph) = io-read
 
--- The calls of a round, read: of a request, a record and a failed link nothing is asked.
+-- The calls of a round, read as document 01's. Nothing is required of a request, a record or a failed link.
 pub request-call : (c : Machine.Client) → Fits c → (image buffer : List ℕ)
     → askedBy (CodeRequest.request (clientOf c) image buffer) ≡ inCode (handedBy (Machine.request c image buffer))
 request-call c f image buffer = ap askedBy (request-asked c f image buffer) ∙ asked-read c image buffer
@@ -291,17 +291,17 @@ agrees c f (call ∷ calls) g =
     answer : codeAnswer (inCode (machineCall c call)) ≡ paperAnswer (inPaper (machineCall c call))
     answer = same-answer ((machineCall c call) .0) after (call-fits c f call)
 
--- A new client is document 01's.
+-- The code's new client is the machine's.
 pub new-client : CodeClients.fresh ≡ clientOf Machine.fresh
 unfolding CodeClients.fresh Machine.fresh
 new-client = refl
 
--- Every answer of the code is document 01's: link failures and calls out of turn included.
+-- Every answer of the code is document 01's, also to failed links and to calls out of turn.
 pub calls-agree : (calls : List Call) → All Good calls
     → codeAnswers CodeClients.fresh calls ≡ paperAnswers Paper.fresh calls
 calls-agree calls g = rw (new-client, ← fresh-sim) (agrees Machine.fresh fresh-fits calls g)
 
--- A client that calls lead to.
+-- A client that calls lead to: the code's client for a client of the machine that fits.
 record Reached (d : Client) : Type 0 where
   machine : Machine.Client
   fits : Fits machine
@@ -324,7 +324,7 @@ idle-is c f b e = go (c .turn) e
     go (ready ph) e = absurd (let z : _≡_ {A = ℕ} 0 1 = cc in omega arith)
     go (waiting ph) e = absurd (let z : _≡_ {A = ℕ} 0 1 = cc in omega arith)
 
--- Whatever was called before: a client with no operation is of a seed and an attached id or none, and nothing else.
+-- After any calls, a client with no operation holds a seed, an attached id or none, and nothing else.
 pub idle-rests : (calls : List Call) → All Good calls → reached CodeClients.fresh calls .turn ≡ Idle
     → Rests (reached CodeClients.fresh calls)
 idle-rests calls g e = rw (r .client) (idle-is (r .machine) (r .fits) (r .bytes) (rw (r .client) at e))
@@ -342,7 +342,7 @@ unfolding CodeClients.idle CodeClients.attached
 same-idle c d s a = λ i. record
     { seed = s i; attached = a i .any; id = a i .id; turn = Idle; prefix = noId; bits = 0; walk = noWalk }
 
--- So two such clients of one seed and attached id are equal.
+-- So two such clients with the same seed and attached id are equal.
 pub idle-canonical : (xs ys : List Call) → All Good xs → All Good ys → reached CodeClients.fresh xs .turn ≡ Idle
     → reached CodeClients.fresh ys .turn ≡ Idle
     → reached CodeClients.fresh xs .seed ≡ reached CodeClients.fresh ys .seed

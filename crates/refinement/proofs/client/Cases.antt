@@ -1,4 +1,4 @@
--- Cases: of a turn, and of what a call says.
+-- Case analysis on a turn and on a call's answer.
 use mathlib.Core.Bool.{Bool, true, false}
 use mathlib.Core.Path.{_≡_, ap}
 use Rattle.lore.proofs.Choice.{clash}
@@ -10,7 +10,7 @@ use Rattle.client.specs.declared.Turn.{Turn}
 use Rattle.client.specs.declared.Turn.the-variants.{Idle, Ready, Waiting}
 use Rattle.client.specs.Clients.{onTurn}
 
--- What holds at each turn holds at any.
+-- What holds in each of the three turns holds in any turn.
 pub each-turn : {A : Type 0} (P : Turn → A → Type 0) (t : Turn) {a : A} {f g : Phase → A} → P Idle a
     → ((p : Phase) → P (Ready p) (f p)) → ((p : Phase) → P (Waiting p) (g p))
     → P t (onTurn t a f g)

@@ -1,5 +1,5 @@
--- The code's client, driven over any events, is document 01's: it says the same, hands out the same bytes, and stands
--- where the conversation does.
+-- The code's client, driven over any events, is document 01's: it gives the same answers, hands out the same bytes, and
+-- stands where the conversation does.
 use Prim.Native.Nat.{ℕ}
 use mathlib.Core.Bool.{Bool, true, false, cond}
 use mathlib.Core.List.{List, [], _∷_}
@@ -40,14 +40,14 @@ use Rattle.refinement.specs.ClientServed.{onSays, isOnward, opening, res
 use Rattle.refinement.proofs.client.CallsAreTalk.{settledBy, handedBy, inPaper, inCode, request-call}
 use Rattle.refinement.proofs.client.CallsAreTalk.{record-call, failed-call, attached-back, seed-of}
 
--- One machine stands behind the code's client and document 01's.
+-- The code's client and document 01's are both those of one client of the machine.
 pub record Alike (code : Client) (paper : Paper.Client) : Type 0 where
   pub machine : Machine.Client
   pub fits : Fits machine
   pub is-code : code ≡ clientOf machine
   pub is-paper : paper ≡ paperOf machine
 
--- Answers that say the same and leave such clients.
+-- Both give the same answer, and leave clients that are alike.
 pub record Answers (code : Reply × Client) (paper : Reply × Paper.Client) : Type 0 where
   pub reply : code .0 ≡ paper .0
   pub clients : Alike (code .1) (paper .1)
@@ -114,7 +114,7 @@ module _ (code : Client) (paper : Paper.Client) (a : Alike code paper) where
       (ap (λ (c : Client). toldBy (linkFailed c)) (a .is-code) ∙ failed-call m)
       (ap (λ (c : Paper.Client). saidBy (Paper.linkFailed c)) (a .is-paper) ∙ ap saidBy (linkFailed-sim m)))
 
--- What goes on, and what is handed out, is read off what is said.
+-- Whether the operation goes on, and what is handed out, depends only on the answer as document 01 has it.
 onward-same : (s : Says) (p : Progress) (x : Ids.Id) (t : Table) → isOnward s ≡ goesOn (saysOf s p x t)
 unfolding isOnward goesOn saysOf endOf
 onward-same (Granted n) p x t = refl

@@ -1,4 +1,4 @@
--- What the code makes of the one answer to a job's request, and of the image lent with it, is what the machine does.
+-- The code handles the answer to a job's request, and the image lent with it, as the machine does.
 use Prim.Native.Nat.{ℕ, suc, _+_, _-_}
 use mathlib.Core.Bool.{Bool, true, false, cond}
 use mathlib.Core.List.{List, [], _∷_}
@@ -40,7 +40,7 @@ use Rattle.client_job.specs.Job as CodeJob
 use Rattle.client_record.specs.Answer.{goes, onAnswer, tells}
 use Rattle.refinement.specs.ClientRecord.{purposeIn, jobIn, phaseIn, recordOf, refusedAs, progressIn, toldAs}
 
--- The test on the image lent, and what it says.
+-- The test on the length of the image lent, and what it shows.
 pub other-sim : (ph : Phase) (image : List ℕ) → otherImage (phaseIn ph) (length image) ≡ otherLength (lends ph) image
 unfolding otherImage otherFor differs
 other-sim (selecting s) image = refl
@@ -58,7 +58,7 @@ other-sim (leaving bootloader baud) image = refl
 pub same-length : (n : ℕ) (image : List ℕ) → otherLength (some n) image ≡ false → n ≡ length image
 same-length n image e = eqb-true n (length image) (not-false (eqb n (length image)) e)
 
--- A client with a job's request out: the machine's, and its record.
+-- A client with a job's request out: the machine's, and the code's.
 abbrev out : ℕ → Option Id → Job → Machine.Client
 out seed id j = record { seed = seed; id = id; turn = waiting (demanding j) }
 
@@ -66,7 +66,7 @@ abbrev code : ℕ → Option Id → Job → Client
 code seed id j = recordOf seed id (waiting (demanding j))
 
 module _ (seed : ℕ) (id : Option Id) (j : Job) (at : ℕ) where
-  -- What the code goes on with is what the machine does, whatever progress is made with it.
+  -- The code goes on as the machine does, with any progress.
   abbrev Shows : CodeThen.Then → Then → Type 0
   Shows t u = (p : Option (ℕ × ℕ))
       → goes (code seed id j) (record { progress = progressIn p; then = t }) at ≡ toldAs (settle (out seed id j) p u at)
@@ -133,7 +133,7 @@ module _ (seed : ℕ) (id : Option Id) (j : Job) (at : ℕ) where
       either (ltb (length payload) 2) _ _ (refuses 18 []) _ (λ p. refl)
       (either (eqb (check image) (field 0 2 payload)) _ _ _ (refuses 4 _) (knows-shown info) (λ p. refl))
 
-  -- The same, with the progress that is made.
+  -- The same, with the progress made.
   abbrev ShowsNext : CodeNext.Next → Next → Type 0
   ShowsNext m n = goes (code seed id j) m at ≡ toldAs (settle (out seed id j) (n .progress) (n .then) at)
 
@@ -205,7 +205,7 @@ module _ (seed : ℕ) (id : Option Id) (at : ℕ) where
   declined-shown (verifying n info) status = refl
   declined-shown (resetting bootloader baud) status = refl
 
--- A record, by the answer that is found in it.
+-- The machine's answer to a record, by the answer found in it.
 abbrev pub answering : ℕ → Option Id → Job → List ℕ → List ℕ → Paper.Answer → Machine.Told
 answering seed id j image bytes a =
     onSome (replied a image) (fails (out seed id j) (endOf a (length bytes)))

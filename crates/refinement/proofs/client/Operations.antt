@@ -1,4 +1,4 @@
--- Each operation, started on a client with none and driven over any rounds: it stands where document 01's conversation
+-- Each operation, started on a client with none and driven over any rounds, stands where document 01's conversation
 -- does.
 use Prim.Native.Nat.{ℕ, _*_, _≤_, _<_}
 use mathlib.Core.Bool.{Bool, true, _&&_}
@@ -55,7 +55,7 @@ module _ (buffer : List ℕ) (big : room ≤ length buffer) (seed : ℕ) (byte :
   fits : Fits m
   fits = record { seed = byte; id = brief; turn = tt }
 
-  -- A start that is the machine's and document 01's.
+  -- A start whose answer is the machine's and document 01's.
   opens : (good : Bool) (ph : Phase) (s : Started) (p : Paper.Told) → Fits (Machine.start m good ph .client)
       → s ≡ startedAs (Machine.start m good ph) → p ≡ toldOf (Machine.start m good ph) → Same (opening s) p
   opens good ph s p f c e =
@@ -145,7 +145,7 @@ module _ (buffer : List ℕ) (big : room ≤ length buffer) (seed : ℕ) (byte :
         (Code.startFlash (resting seed id) image)
     flash-driven = plays (some (length image)) (flash (length image)) (flash-modest (length image)) lent _ flash-same
 
-    -- What a flash hands out is in order.
+    -- The requests that a flash hands out are in order.
     pub flash-handed : All (λ r. Bytes (r .lent)) rounds
         → FlashOrder (length image) (sends buffer rounds (opening (Code.startFlash (resting seed id) image)))
         (answerOf (driven buffer rounds (opening (Code.startFlash (resting seed id) image))))
@@ -153,7 +153,7 @@ module _ (buffer : List ℕ) (big : room ≤ length buffer) (seed : ℕ) (byte :
         let d = drives buffer rounds (opening (Code.startFlash (resting seed id) image)) _ flash-same in
         rw (d .sent, d .last .says) (flash-order buffer big (length image) seed id rounds lent bytes)
 
-  -- In boot, with the answer awaited, or not.
+  -- A reset. In boot the answer is awaited, otherwise not.
   pub reset-driven : (bootloader inBoot : Bool)
       → Plays none seed id (reset bootloader none inBoot) buffer rounds
       (Code.startReset (resting seed id) bootloader inBoot)

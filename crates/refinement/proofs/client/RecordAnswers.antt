@@ -1,5 +1,4 @@
--- What the code answers to a record, or to a failed link, is what the machine answers, on the record of each client
--- that fits.
+-- The code's answer to a record, or to a failed link, is the machine's, for each client that fits.
 use Prim.Native.Nat.{ℕ, _≤_}
 use mathlib.Core.Bool.{Bool, true, false, not, cond}
 use mathlib.Core.List.{List, [], _∷_}
@@ -58,7 +57,7 @@ pub clears : (id : Option Paper.Id) → cleared (select nobody) id ≡ none
 unfolding nobody
 clears id = refl
 
--- The phases of a walk that ask for a prefix.
+-- In every phase of a walk except the deselect, at most 128 bits are selected.
 pub asking-bits : (s : State) → StatesFit.Fits s → Staying (s .phase) → length (Walk.request s) ≤ 128
 unfolding Walk.request
 asking-bits s f a = go (s .phase) (f .held) a
@@ -78,14 +77,14 @@ asking-bits s f a = go (s .phase) (f .held) a
     go leaving w a = absurd a
 
 module _ (seed : ℕ) (id : Option Paper.Id) (at : ℕ) where
-  -- The machine's client with its request out, and an id.
+  -- A client with a Select out: the machine's, with an attached id, and the code's.
   abbrev out : Search → Option Paper.Id → Machine.Client
   out s x = record { seed = seed; id = x; turn = waiting (selecting s) }
 
   abbrev code : Search → Client
   code s = recordOf seed id (waiting (selecting s))
 
-  -- What the code makes of a thing heard in a search, and what the machine does with it.
+  -- The code's answer to what is heard in a search, and the machine's.
   abbrev answers : Search → Paper.Heard → Told
   answers s h = Code.hears (code s) (searchIn s) (shownHeard h .heard) (shownHeard h .id) at
 
@@ -138,7 +137,7 @@ module _ (seed : ℕ) (id : Option Paper.Id) (at : ℕ) where
   seeking-told (some uid) unaddressed = refl
   seeking-told uid garble = refl
 
-  -- A walk's number, as the code shows it and as the machine's is shown.
+  -- The code's answer for the number that stops a walk is that of the machine's refusal.
   abbrev Same : ℕ → Type 0
   Same n = plainly (stopOf (endOf n)) ≡ refusedAs n []
 
@@ -234,7 +233,7 @@ module _ (seed : ℕ) (id : Option Paper.Id) (at : ℕ) where
       (sym (clears id))
   search-told (walking s) f h = walking-told s h f
 
--- The record that a phase is answered with.
+-- The machine's answer to a record in a phase, and that the code's is the same.
 module _ (c : Machine.Client) (image bytes : List ℕ) where
   abbrev after : Phase → Machine.Client
   after ph = record { seed = c .seed; id = cleared (Phases.request ph) (c .id); turn = waiting ph }

@@ -1,4 +1,4 @@
--- The code's request is the machine's, byte for byte, on the record of each client that fits.
+-- The code's request is the machine's, byte for byte, for each client that fits.
 use Prim.Native.Nat.{ℕ, _+_, _-_, _*_, _/_, _%_, _≤_}
 use mathlib.Core.Bool.{Bool, true, false, cond}
 use mathlib.Core.List.{List, [], _∷_, _++_, append-assoc}
@@ -43,7 +43,7 @@ use Rattle.refinement.specs.ClientRecord.{shownSays, askedAs}
 use Rattle.refinement.proofs.walk.AskedBits.{asks-sim, asks-count, nobody-back}
 use Rattle.refinement.proofs.client.JobAnswers.{other-sim, same-length}
 
--- The bits of bytes and more bytes.
+-- The bits of bytes followed by more bytes.
 pub bits-append : (x y : List ℕ) → bitsOf (x ++ y) ≡ bitsOf x ++ bitsOf y
 unfolding bitsOf counting
 bits-append [] y = refl
@@ -53,7 +53,7 @@ bits-append (b ∷ x) y =
     ∙ sym (append-assoc (counting (Paper.bit (b ∷ [])) 0 8) (bitsOf x) (bitsOf y))
     ∙ ap (λ (l : List Bool). l ++ bitsOf y) (sym (bits-cons b x))
 
--- Bits within the bytes of an id, asked of its 16 bytes.
+-- The first n bits of an id, taken from its 16 bytes.
 front : (x : List ℕ) (n : ℕ) → length x ≤ 16 → n ≤ 8 * length x → asked (idFrom x .bytes) (n % 256) ≡ take n (bitsOf x)
 unfolding idFrom
 front x n s h =
@@ -63,7 +63,7 @@ front x n s h =
     ∙ ap (take n) (append-assoc (bitsOf x) (bitsOf (replicate (16 - length x) 0)) (replicate 127 false))
     ∙ take-append-le n (bitsOf x) _ (rw (bits-length x) h)
 
--- An id's bits, asked as the code asks for them.
+-- All bits of an id, taken as the code takes them.
 whole : (x : List ℕ) → length x ≤ 16 → asked (idFrom x .bytes) (8 * length (idOf (idFrom x)) % 256) ≡ bitsOf x
 whole x s =
     ap (λ (l : List ℕ). asked (idFrom x .bytes) (8 * length l % 256)) (id-of-from x s)
@@ -90,7 +90,7 @@ search-asks seed id (walking s) f =
     mod-eq-of-lt (omega (arith, asks-count (walkOf s) (phaseOf (s .phase)))) in
     ap (asked (Moves.asks (walkOf s) (phaseOf (s .phase)) .bits)) n ∙ asks-sim s f
 
--- No Select is of more than 129 bits.
+-- No Select has more than 129 bits.
 search-bits : (s : Search) → FitsSearch s → length (selected s) ≤ 129
 unfolding selected nobody
 search-bits (probing bytes bits) f = omega (arith, f .0, f .1, bits-length bytes, length-take bits (bitsOf bytes))
@@ -130,7 +130,7 @@ demand-short (writing n info offset retries) image e =
 demand-short (verifying n info) image e = omega arith
 demand-short (resetting bootloader baud) image e = omega arith
 
--- What a client of the machine says and leaves once its request is handed out.
+-- The answer and the client after a request is handed out.
 handing-sim : (ph : Phase) (n : ℕ) → Code.handing (phaseIn ph) n ≡ shownSays (handing (Phases.request ph) n) .says
 unfolding Code.handing
 handing-sim (selecting s) n = refl

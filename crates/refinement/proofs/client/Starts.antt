@@ -1,4 +1,4 @@
--- The code's starts are the machine's, on the record of each client.
+-- The code's answer to each start is the machine's, for each client.
 use Prim.Native.Nat.{ℕ, _<_}
 use mathlib.Core.Bool.{Bool, true, false}
 use mathlib.Core.List.{List}
@@ -31,7 +31,7 @@ use Rattle.refinement.proofs.refused.Starts.{select-begins, deselect-be
 use Rattle.refinement.proofs.refused.Starts.{discover-begins, info-begins, erase-begins, flash-begins}
 use Rattle.refinement.proofs.refused.Starts.{reset-begins, set-baud-begins}
 
--- A start, by what its test says of the arguments.
+-- A start, by whether its arguments are good.
 begins-sim : (c : Machine.Client) (good : Bool) (ph : Phase)
     → begins (clientOf c) good (begun (clientOf c) (Ready (phaseIn ph)) (prefixIn ph) (bitsIn ph) (walkIn ph))
     ≡ startedAs (Machine.start c good ph)
@@ -47,7 +47,7 @@ begins-sim c good ph = go (c .turn) good
     go (ready p) b = refl
     go (waiting p) b = refl
 
--- The client that a start would begin matters where its arguments are good.
+-- The client that a start would begin matters only where its arguments are good.
 begins-next : (c next other : Client) (good : Bool) → (good ≡ true → next ≡ other)
     → begins c good next ≡ begins c good other
 unfolding begins

@@ -1,4 +1,4 @@
--- Bytes that follow an answer: handed in with it, or kept as its unread rest, they change nothing.
+-- Bytes after an answer do not change the code's answer: they may be handed in with it or kept as the unread rest.
 use Prim.Native.Nat.{ℕ}
 use mathlib.Core.Bool.{Bool, true, false, cond}
 use mathlib.Core.List.{List, _++_}
@@ -30,7 +30,7 @@ goes-rest c next at = go (next .then)
     go (Over o) = refl
     go (Refused r) = refl
 
--- Any client, whose request is out.
+-- Any client with a job's request out.
 module _ (c : Client) (j : Job) (out : c .turn ≡ Waiting (Demand j)) (image : List ℕ) where
   next : Reply → Next
   next (ok payload) = accepted j payload image

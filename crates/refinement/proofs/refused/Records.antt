@@ -1,4 +1,4 @@
--- What a record and a failed link change where they are refused, of every value of the client.
+-- The client after a record or a failed link that is refused, and where the rest begins, for every value of the client.
 use Prim.Native.Nat.{ℕ}
 use mathlib.Core.Bool.{Bool, true, false, cond}
 use mathlib.Core.List.{List}
@@ -20,6 +20,7 @@ use Rattle.image.specs.Images.{paperInfo, shownInfo, eraseAfter}
 use Rattle.image.specs.Pieces.{isLast}
 use Rattle.walk_table.specs.declared.Table.{Table}
 use Rattle.walk.specs.declared.Walk.{Walk}
+use Rattle.hearing.specs.Heard.{isLong}
 use Rattle.walk_step.specs.declared.End.{End}
 use Rattle.walk_step.specs.declared.End.the-variants as End
 use Rattle.walk_step.specs.Steps.{Goes}
@@ -59,7 +60,7 @@ use Rattle.lore.proofs.Choice.{either, clash}
 use Rattle.refinement.proofs.client.Cases.{each-turn, isRefused, unrefused, same-refusal}
 use Rattle.refinement.proofs.refused.Starts.{leaves-kept, leaves-seed}
 
--- A refusal that ends the operation, and no more.
+-- A refusal that ends the operation, comes after no deselect, and is not 1.
 abbrev Plain : Refusal → Type 0
 Plain r = (keeps r ≡ false) × ((parts r ≡ false) × (eqb (numberOf r) 1 ≡ false))
 
@@ -132,14 +133,14 @@ not-io : {A : Type 0} (q : Refusal) → q ≡ Io → eqb (numberOf q) 1 ≡ fals
 unfolding numberOf
 not-io q e m = clash (eqb (numberOf q) 1) (ap (λ (x : Refusal). eqb (numberOf x) 1) e) m
 
--- What a record of n bytes leaves of a client.
+-- After a record of n bytes: the client if it was refused, where the rest begins, and the seed.
 record Leaves (c : Client) (n : ℕ) (t : Told) : Type 0 where
   client : (r : Refusal) → t .says ≡ Refused r → t .client ≡ leaves r c
   lost : t .says ≡ Refused Io → t .rest ≡ n
   whole : (r : Refusal) → t .says ≡ Refused r → keeps r ≡ true → t .rest ≡ 0
   seed : t .client .seed ≡ c .seed
 
--- One that is read, in turn and with the image that runs: each refusal ends the operation.
+-- After a record in turn, with the right image lent: each refusal ends the operation.
 record Tells (c : Client) (n : ℕ) (t : Told) : Type 0 where
   client : (r : Refusal) → t .says ≡ Refused r → t .client ≡ leaves r c
   lost : t .says ≡ Refused Io → t .rest ≡ n
@@ -222,7 +223,7 @@ module _ (c : Client) (n : ℕ) where
 
     probed-tells : (h : Heard) (x : Id) → Tells c n (probed c h x at)
     unfolding probed over idle keeps parts numberOf
-    probed-tells h x = either (Tells c n) (Steps.long h) (ends-tells false Refusal.LongId _ _ refl refl refl)
+    probed-tells h x = either (Tells c n) (isLong h) (ends-tells false Refusal.LongId _ _ refl refl refl)
         (unrefused-tells _ refl refl)
 
     hears-tells : (s : Search) (h : Heard) (x : Id) → Tells c n (hears c s h x at)
@@ -297,7 +298,7 @@ module _ (c : Client) (image bytes : List ℕ) where
   unfolding record′
   told-waiting p e = sym (at-waiting (c .turn) _ _ _ p e)
 
-  -- A record that is read is refused with nothing that changes no state: 20 and 21 are given where they are due alone.
+  -- A record in turn, with the right image lent, is never refused with 20, 21 or another refusal that changes no state.
   pub told-due : (p : Phase) → c .turn ≡ Waiting p → otherImage p (length image) ≡ false → (r : Refusal)
       → record′ c image bytes .says ≡ Refused r → keeps r ≡ false
   told-due p e h r f = answered-tells p .ends r (ap (λ (t : Told). t .says) (sym reads) ∙ f)

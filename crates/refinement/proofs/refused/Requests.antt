@@ -1,4 +1,4 @@
--- What asking for a request answers, granted and refused, of every value of the client.
+-- The answer to asking for a request, granted or refused, for every value of the client.
 use Prim.Native.Nat.{ℕ}
 use mathlib.Core.Bool.{true, cond}
 use mathlib.Core.List.{List}
@@ -22,7 +22,7 @@ use Rattle.client_request.specs.Request.{frameOf, handing, Asking, withheld, gr
 use Rattle.refinement.specs.Refusals.{keeps}
 use Rattle.refinement.proofs.client.Cases.{each-turn, unrefused, same-refusal}
 
--- Asking for a request: what it leaves where it is refused.
+-- A request that is refused leaves the client and the buffer as they were.
 record Asks (c : Client) (buffer : List ℕ) (o : Asking) : Type 0 where
   refused : (r : Refusal) → o .answer .says ≡ Refused r
       → (o .answer .client ≡ c) × ((o .bytes ≡ buffer) × (keeps r ≡ true))

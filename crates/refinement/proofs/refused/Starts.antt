@@ -1,4 +1,4 @@
--- What a refusal leaves, and what each start answers, of every value of the client.
+-- The client after a refusal, and the answer to each start, for every value of the client.
 use Prim.Native.Nat.{ℕ, _*_, _≤_}
 use mathlib.Core.Bool.{Bool, true, false, _&&_, cond}
 use mathlib.Core.List.{List}
@@ -32,7 +32,7 @@ use Rattle.client_start.specs.Start.{startDiscover, startInfo, startErase, star
 use Rattle.refinement.specs.Refusals.{keeps, parts, leaves, begins, goodCount, asking, resetPhase}
 use Rattle.refinement.proofs.client.Cases.{unrefused}
 
--- What a refusal leaves.
+-- The client after a refusal.
 module _ (r : Refusal) (c : Client) where
   pub leaves-kept : keeps r ≡ true → leaves r c ≡ c
   unfolding leaves
@@ -67,7 +67,7 @@ begins-kept c good next r e = go (running (c .turn)) good e
     go false true e = unrefused Onward r refl e
     go false false e = refl
 
--- Starts: 21, then 13, else it begins.
+-- A start is refused with 21, then with 13; else it begins.
 module _ (c : Client) where
   starts-begins : (p : Phase) (x : Id) (bits : ℕ) (w : Walk)
       → starts c p x bits w ≡ begins c true (begun c (Ready p) x bits w)
@@ -78,7 +78,7 @@ module _ (c : Client) where
   unfolding badPrefix begins
   bad-begins next = refl
 
-  -- By what a test says of the arguments.
+  -- A start with a test of its arguments.
   module _ (next : Client) (test : Bool) where
     good : (s : Started) → s ≡ begins c true next → test ≡ true → s ≡ begins c test next
     good s f e = f ∙ ap (λ (b : Bool). begins c b next) (sym e)

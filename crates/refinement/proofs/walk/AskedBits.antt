@@ -1,4 +1,4 @@
--- The bits that the code asks for are the machine's.
+-- The bits that the code's walk selects are those that the machine selects.
 use Prim.Native.Nat.{ℕ, zero, suc, _+_, _<_, _≤_}
 use mathlib.Core.Bool.{Bool, true, false, not, cond}
 use mathlib.Core.List.{List, [], _∷_}
@@ -33,7 +33,7 @@ after [] (suc k) = refl
 after (b ∷ l) zero = refl
 after (b ∷ l) (suc k) = after l k
 
--- A request of the code's, from its bits.
+-- The code's request for a prefix.
 abbrev pub askOf : Prefix → Ask
 askOf q = record { bits = packed 16 q; count = length q }
 
@@ -52,7 +52,7 @@ next-is : (q : Prefix) (id : Paper.Id) → length id ≤ 16
 unfolding nextBit
 next-is q id s = ap (λ (x : List ℕ). getD (bitsOf x) (length q) false) (id-of-from id s) ∙ after (bitsOf id) (length q)
 
--- The request that holds a prefix asks for that prefix.
+-- The code's request for a prefix asks for that prefix.
 pub asked-back : (q : Prefix) → length q ≤ 128 → bitsAsked (askOf q) ≡ q
 asked-back q h = take-append-le (length q) (bitsOf (packed 16 q)) (replicate 127 false)
     (rw (bits-length (packed 16 q), packed-length 16 q) h) ∙ packed-read 16 q h
@@ -61,7 +61,7 @@ pub nobody-back : bitsAsked Moves.nobody ≡ nobody
 unfolding Moves.nobody nobody bitsOf counting bit
 nobody-back = refl
 
--- What the code asks for is what the machine asks for.
+-- The code's walk selects what the machine selects.
 pub asks-sim : (s : State) → Fits s → bitsAsked (Moves.asks (walkOf s) (phaseOf (s .phase))) ≡ request s
 unfolding Moves.asks request
 asks-sim s t = rw (le-leb (length (path (s .pre) (s .marks))) 128 (t .depth)) (go (s .phase) (t .held))
@@ -87,7 +87,7 @@ asks-sim s t = rw (le-leb (length (path (s .pre) (s .marks))) 128 (t .depth)) (g
         ∙ asked-back (q ▹ not (nextBit q id)) (omega (arith, w .0, w .1, length-append q (not (nextBit q id) ∷ [])))
     go leaving w = nobody-back
 
--- A request of any record has at most 129 bits.
+-- A request of any walk has at most 129 bits.
 pub asks-count : (w : Walk) (p : P.Phase) → Moves.asks w p .count ≤ 129
 unfolding Moves.asks Moves.child Moves.nobody
 asks-count w p = go (leb (w .depth) 128) refl p

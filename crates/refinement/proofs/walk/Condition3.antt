@@ -1,4 +1,5 @@
--- Acceptance condition 3, of the code's walk.
+-- Acceptance condition 3 for the code's walk: it ends within the limit, and on an honest wire finds exactly the ids
+-- that match.
 use Prim.Native.Nat.{ℕ, zero, suc, _+_, _-_, _*_, _≤_, _<_}
 use mathlib.Core.List.{List, []}
 use mathlib.Core.Path.{_≡_, refl, sym, _∙_, ap}
@@ -27,7 +28,7 @@ use Rattle.refinement.proofs.walk.AskedBits.{asks-sim}
 use Rattle.refinement.proofs.walk.PathBytes.{pack-bytes}
 use Rattle.refinement.proofs.walk.StepIsMachine.{step-sim, stand}
 
--- The code over a wire does as the machine does.
+-- The code's walk over a wire does what the machine does.
 pub drive-sim : (n : ℕ) (wire : Wire) (k : ℕ) (next : Next) → FitsNext next
     → driven n wire k (nextOf next) ≡ (nextOf ((drive n wire k next) .0), (drive n wire k next) .1)
 unfolding driven drive Steps.stopped
@@ -39,7 +40,7 @@ drive-sim (suc n) wire k (going s) f =
     ∙ ap (driven n wire (suc k)) (step-sim s (wire k (request s)) f)
     ∙ drive-sim n wire (suc k) (step s (wire k (request s))) (step-fits s (wire k (request s)) f)
 
--- The code's start from bytes.
+-- The code's walk, begun under a prefix of whole bytes.
 pub begin-sim : (x : Id) → length x ≤ 16 → All (λ b. b < 256) x
     → Moves.begin (idFrom x) ≡ walkOf (record { pre = bitsOf x; marks = []; ids = []; phase = asked })
 unfolding Moves.begin Moves.noWalk idFrom tableOf puts noTable
@@ -61,7 +62,7 @@ pub follows : (n : ℕ) (wire : Wire) (pre : Prefix) → length pre ≤ 128
 unfolding begun start
 follows n wire pre le = drive-sim n wire 0 (start pre) (start-fits pre le)
 
--- Whatever is heard: it ends within the limit, as document 01's discovery ends and after as many Selects.
+-- Whatever is heard, it ends within the limit, as document 01's discovery does and after the same number of Selects.
 pub ends : (wire : Wire) (pre : Prefix) → length pre ≤ 128
     → (driven (limit pre) wire 0 (begun pre)
     ≡ (nextOf (ended ((run wire 0 (discover pre)) .0)), (run wire 0 (discover pre)) .1))
@@ -72,8 +73,8 @@ ends wire pre le = (
   (Machine.ends wire pre) .1,
 )
 
--- On an honest wire: exactly the ids that match, sorted, after exactly the Selects counted with each id's own length,
--- and those are few.
+-- On an honest wire it finds exactly the ids that match, sorted, after exactly the Selects counted with each id's own
+-- length. For n ids of at most L bytes the count is at most 2 + n * (8 L - p + 2).
 pub finds-apart : (wire : Wire) (S : List Id) (L : ℕ) (pre : Prefix) → Alike wire (honest S) pre → length pre ≤ 128
     → Apart (matching pre S)
     → All (λ x. length x ≤ L) (matching pre S)
@@ -92,13 +93,13 @@ finds wire S L pre h le pods =
     let m = Machine.finds wire S L pre h le pods in
     (follows (limit pre) wire pre le ∙ ap (λ r. (nextOf (r .0), r .1)) (m .0), m .1)
 
--- A walk that ended with the table of ids that begin with the prefix, are in order, and of which none begins another.
+-- The walk has ended with the table of ids that begin with the prefix and are sorted, none a prefix of another.
 pub record Lists (pre : Prefix) (n : Steps.Next) : Type 0 where
   pub ids : List Id
   pub listed : Listed pre ids
   pub walk : n ≡ nextOf (ended (done ids))
 
--- Whatever is heard: a walk that is done has such a table.
+-- Whatever is heard, a walk that is done has such a table.
 pub lists : (wire : Wire) (pre : Prefix) → length pre ≤ 128 → (driven (limit pre) wire 0 (begun pre)) .0 .goes ≡ Done
     → Lists pre ((driven (limit pre) wire 0 (begun pre)) .0)
 unfolding Steps.stopped

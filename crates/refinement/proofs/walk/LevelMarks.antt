@@ -1,4 +1,4 @@
--- The marks of the levels in their array.
+-- The marks of the levels in the code's array: adding, changing, clearing and reading the last one.
 use Prim.Native.Nat.{ℕ, zero, suc, _+_, _-_, _<_}
 use mathlib.Core.Bool.{cond}
 use mathlib.Core.List.{List, [], _∷_, _++_}

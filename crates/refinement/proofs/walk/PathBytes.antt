@@ -1,4 +1,4 @@
--- The path in its bytes: one bit less, and the path of whole bytes.
+-- The path in its 16 bytes: with its last bit removed, and of a prefix of whole bytes.
 use Prim.Native.Nat.{ℕ, zero, suc, _+_, _-_, _*_, _/_, _%_, _^_, _<_, _≤_}
 use mathlib.Core.Bool.{Bool, cond}
 use mathlib.Core.List.{List, [], _∷_}
@@ -24,7 +24,7 @@ binary-cut q b = ap (λ (n : ℕ). n % 2 ^ length q) (binary-more q b ∙ swap (
     swap : (a b : ℕ) → a + b ≡ b + a
     swap a b = omega arith
 
--- A bit of the first byte, and of the rest.
+-- Cutting within the first byte, and after it.
 module _ (x : ℕ) (xs : List ℕ) (k : ℕ) where
   cut-short : k < 8 → cut (x ∷ xs) k ≡ x % 2 ^ k ∷ xs
   unfolding cut
@@ -34,7 +34,7 @@ module _ (x : ℕ) (xs : List ℕ) (k : ℕ) where
   unfolding cut
   cut-long h = let d : k / 8 ≡ suc ((k - 8) / 8) = omega arith in let m : k % 8 ≡ (k - 8) % 8 = omega arith in rw (d, m)
 
--- A bit less is the bytes cut there.
+-- Removing the last bit cuts the bytes there.
 pub pack-cut : (n : ℕ) (q : List Bool) (b : Bool) → length q < 8 * n → cut (packed n (q ▹ b)) (length q) ≡ packed n q
 unfolding packed
 pack-cut zero q b l = absurd (omega arith)
@@ -53,7 +53,7 @@ pack-cut (suc n) q b l = go (λ h. pack-cut n (drop 8 q) b (omega (arith, length
         ∙ ap (λ (l : List ℕ). binary (take 8 q) ∷ l)
         (ap (cut (packed n (drop 8 q ▹ b))) (sym (length-drop 8 q)) ∙ ih (omega arith))
 
--- The bits of bytes packed are those bytes, and zeros.
+-- The bits of some bytes, packed, are those bytes followed by zeros.
 pub pack-bytes : (n : ℕ) (x : List ℕ) → length x ≤ n → All (λ b. b < 256) x → packed n (bitsOf x) ≡ padded n x
 unfolding packed bitsOf counting
 pack-bytes n [] h a = let e : n - 0 ≡ n = omega arith in packed-none n ∙ rw e

@@ -1,4 +1,4 @@
--- What every record that the walk comes to satisfies, and that each step keeps it.
+-- Every value of the code's walk that steps lead to represents a state of the machine that fits.
 use mathlib.Core.Path.{_≡_, refl}
 use Rattle.paper.specs.Hearing as Paper
 use Rattle.paper.specs.Walk.{done, stopped}
@@ -11,7 +11,7 @@ use Rattle.refinement.specs.WalkRecord.{walkOf, phaseOf, nextOf}
 use Rattle.refinement.specs.WalkDriven.{told, onGoes}
 use Rattle.refinement.proofs.walk.StepIsMachine.{step-sim}
 
--- The record of a state that fits: each spare bit, mark, byte and row is zero.
+-- The code's walk for a state that fits: each unused bit, mark, byte and row is zero.
 pub record Sound (w : Walk) (p : Phase) : Type 0 where
   pub state : State
   pub fits : Fits state

@@ -1,4 +1,4 @@
--- The code's step is the machine's, on the record of each state that the machine can be in.
+-- The code's step is the machine's, for each state that fits.
 use Prim.Native.Nat.{ℕ, zero, suc, _+_, _-_, _*_, _<_, _≤_}
 use mathlib.Core.Bool.{Bool, true, false, cond, _&&_}
 use mathlib.Core.List.{List, [], _∷_, _++_}
@@ -44,7 +44,7 @@ pub stand : (t : Table) (x : Id) {p q : List ℕ} {d e : ℕ} {m n : List ℕ} �
     (record { path = q; depth = e; marks = n; found = t; candidate = x })
 stand t x ep ed em = λ i. record { path = ep i; depth = ed i; marks = em i; found = t; candidate = x }
 
--- The marks where a branch that has ended leads: out of every one child.
+-- The marks after climbing out of every one child, when a branch has ended.
 up : Marks → Marks
 up [] = []
 up (false ∷ marks) = false ∷ marks
@@ -185,7 +185,7 @@ module _ (pre : Prefix) where
     settled-sim id true = kept-sim id
     settled-sim id false = descend-sim ids marks
 
--- What is heard: an id that is not too long is told.
+-- An id that is heard and not too long is passed on.
 pub short-of : (x : Paper.Id) → long (one x) ≡ false → Short x
 unfolding long
 short-of x e = ltb-false 16 (length x) e
@@ -194,7 +194,7 @@ pub told : (x : Paper.Id) → long (one x) ≡ false → oneHeard x ≡ record {
 unfolding long oneHeard
 told x e = rw e
 
--- One that is too long ends the walk.
+-- An id that is too long ends the walk.
 heard-one : (x : Paper.Id) (f : Hearing → Next) (m : Machine.Next) → f (heardAs TooLong) ≡ Code.stopped LongId
     → (Short x → f (record { heard = One; id = idFrom x }) ≡ nextOf m)
     → f (oneHeard x) ≡ nextOf (cond (long (one x)) (ended (stopped 14)) m)
@@ -208,7 +208,7 @@ heard-one x f m e g = go (ltb 16 (length x)) refl
 
 module _ (pre : Prefix) (marks : Marks) (ids : List Paper.Id) (d : length (path pre marks) ≤ 128) (f : length ids ≤ 64)
     (s : All Short ids) where
-  -- The machine's step of a phase, refused where the id heard is too long.
+  -- The machine's step in a phase, refused if the id heard is too long.
   abbrev steps : Phase → Paper.Heard → Machine.Next
   steps phase h = cond (tooLong phase h) (ended (stopped 14)) (tell pre marks ids phase h)
 

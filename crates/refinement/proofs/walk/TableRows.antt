@@ -1,4 +1,4 @@
--- The table of some ids: one more kept, sorted, and each of its rows.
+-- The table of some ids: with one more id, sorted, and row by row.
 use Prim.Native.Nat.{ℕ, zero, suc, _+_, _-_, _*_, _<_, _≤_}
 use mathlib.Core.Bool.{Bool, true, false, cond}
 use mathlib.Core.List.{List, [], _∷_, _++_, map, map-append}
@@ -45,7 +45,7 @@ puts-snoc (y ∷ xs) t i x = puts-snoc xs (put t i y) (i + 1) x
 count-map : (ids : List Paper.Id) → length (map rowOf ids) ≡ length ids
 count-map ids = length-map ids rowOf
 
--- One id more.
+-- One more id.
 pub table-keep : (ids : List Paper.Id) (x : Paper.Id) → keep (tableOf ids) (rowOf x) ≡ tableOf (ids ++ (x ∷ []))
 unfolding keep tableOf put
 table-keep ids x =
@@ -60,7 +60,7 @@ pub table-count : (ids : List Paper.Id) → tableOf ids .count ≡ length ids
 unfolding tableOf
 table-count ids = refl
 
--- How many rows are in use matters to no row.
+-- The number of rows in use changes no row.
 rows-counting : (n : ℕ) (t : Table) (i k : ℕ) → rows (counting t k) i n ≡ rows t i n
 unfolding rows row
 rows-counting zero t i k = refl
@@ -94,7 +94,7 @@ no-sized : Sized noTable
 unfolding noTable
 no-sized = record { bytes = length-replicate {A = ℕ} 1024 0; lengths = length-replicate {A = ℕ} 64 0 }
 
--- Writing rows leaves those after them.
+-- Writing rows does not change the rows after them.
 bytes-after : (t : Table) (i : ℕ) (x : Entry) → Sized t → Whole x → i < 64 → (k : ℕ)
     → drop (i * 16 + 16 + k) (put t i x .ids) ≡ drop (i * 16 + 16 + k) (t .ids)
 unfolding put
@@ -141,7 +141,7 @@ module _ (ids : List Paper.Id) (few : length ids ≤ 64) (short : All Short ids)
   table-sized = let s = puts-sized (map rowOf ids) noTable no-sized (rows-whole ids short) 0 room
       in record { bytes = s .bytes; lengths = s .lengths }
 
-  -- The rows in use are the ids.
+  -- The rows in use hold the ids.
   pub table-rows : rows (tableOf ids) 0 (length ids) ≡ map rowOf ids
   unfolding tableOf
   table-rows =
@@ -156,7 +156,7 @@ module _ (ids : List Paper.Id) (few : length ids ≤ 64) (short : All Short ids)
       ∙ ap (λ (l : List Entry). getD l i (rowOf [])) table-rows
       ∙ List·getD-map rowOf ids i []
 
-  -- All after them is zero.
+  -- Everything after them is zero.
   pub unused-bytes : (k : ℕ) → length ids * 16 ≤ k → drop k (tableOf ids .ids) ≡ replicate (1024 - k) 0
   unfolding tableOf noTable
   unused-bytes k h = bytes-past (map rowOf ids) noTable no-sized (rows-whole ids short) 0 k room

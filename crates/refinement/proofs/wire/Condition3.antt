@@ -1,4 +1,5 @@
--- Acceptance condition 3, of the driven client, from bytes to bytes.
+-- Acceptance condition 3 for the client driven over a wire of bytes: it ends within the limit, and on an honest wire
+-- finds exactly the ids that match.
 use Prim.Native.Nat.{ℕ, zero, suc, _+_, _-_, _*_, _%_, _≤_, _<_}
 use mathlib.Core.Bool.{true, false}
 use mathlib.Core.List.{List, [], _∷_}
@@ -42,7 +43,7 @@ use Rattle.refinement.proofs.client.AnswersRead.{ids-back, Stops, step-
 use Rattle.refinement.proofs.wire.ServedIsMachine.{stood, Stands, serve-walks, ended-onward, refused-table}
 use Rattle.refinement.proofs.client.Starts.{discover-started}
 
--- What each step keeps holds wherever the machine comes to.
+-- What every step keeps holds wherever the machine gets to.
 drive-keeps : (P : Next → Type 0) → ((s : State) (h : PaperHearing.Heard) → P (going s) → P (Walk.step s h))
     → (n : ℕ) (wire : PaperWalk.Wire) (k : ℕ) (next : Next) → P next → P ((drive n wire k next) .0)
 unfolding drive
@@ -59,7 +60,7 @@ insert-first : (x y : Id) (ys : List Id) → before x y ≡ true → insert x (y
 unfolding insert
 insert-first x y ys e = rw e
 
--- A list in order is its own sort.
+-- Sorting a sorted list changes nothing.
 sort-sorted : (xs : List Id) → Sorted xs → sort xs ≡ xs
 unfolding sort
 sort-sorted [] h = refl
@@ -80,7 +81,7 @@ start-stops : (pre : Prefix) → Stops (Walk.start pre)
 unfolding Walk.start
 start-stops pre = tt
 
--- An answer where the machine has ended.
+-- The answer when the machine has ended.
 told-ends : (seed : ℕ) (id : Option Id) (k : ℕ) (e : Ended (List Id)) (at : ℕ) → FitsNext (ended e) → Stops (ended e)
     → (code : Told × ℕ) → code .0 ≡ stood seed id k (ended e) at → code .1 ≡ k → EndsAs seed id (e, k) code
 unfolding settle idAfter
@@ -137,7 +138,7 @@ module _ (buffer : List ℕ) (room : 31 ≤ length buffer) (wire : Wire) (seed :
   abbrev pub paper : Ended (List Id) × ℕ
   paper = run (heardBy wire seed) 0 (discover (bitsOf given))
 
-  -- Whatever the wire answers: it has ended as document 01's discovery did.
+  -- Whatever the wire answers, the discovery ends as document 01's does.
   pub ends-as : EndsAs seed id paper code
   unfolding ended-as
   ends-as = go (ended-as .0) (stands .at) (stands .told) (keeps .0) (keeps .1)
@@ -157,7 +158,7 @@ module _ (buffer : List ℕ) (room : 31 ≤ length buffer) (wire : Wire) (seed :
           → Stops (ended e) → EndsAs seed id (e, paper .1) code
       go e at t f u = told-ends seed id (paper .1) e at f u code t (stands .count)
 
-  -- Within the limit.
+  -- It ends within the limit.
   pub ends-within : (isOnward (code .0 .says) ≡ false) × (code .1 ≤ limit (bitsOf given))
   unfolding ended-as
   ends-within = (
@@ -165,8 +166,8 @@ module _ (buffer : List ℕ) (room : 31 ≤ length buffer) (wire : Wire) (seed :
     rw (stands .count) ((MachineCondition3.ends (heardBy wire seed) (bitsOf given)) .1),
   )
 
-  -- On an honest wire: exactly the ids that match, sorted, after exactly document 01's count of Selects, and those are
-  -- few.
+  -- On an honest wire it finds exactly the ids that match, sorted, after exactly document 01's count of Selects. For n
+  -- ids of L bytes the count is at most 2 + n * (8 L - p + 2).
   pub finds : (S : List Id) (L : ℕ) → Honest wire seed (bitsOf given) S → Pods L (matching (bitsOf given) S)
       → Finds seed (sort (matching (bitsOf given) S)) (selects S L (bitsOf given)) code
       × (selects S L (bitsOf given) ≤ 2 + count S (bitsOf given) * (8 * L - length (bitsOf given) + 2))
@@ -189,7 +190,7 @@ module _ (buffer : List ℕ) (room : 31 ≤ length buffer) (wire : Wire) (seed :
         selects-most S L (bitsOf given) pods,
       )
 
-  -- Whatever the wire answers: what is found is in order, distinct and few.
+  -- Whatever the wire answers, the ids found are sorted, distinct and at most 64.
   pub lists : code .0 .says ≡ Over Found → Lists (bitsOf given) code
   unfolding ended-as
   lists says = go (paper .0) refl

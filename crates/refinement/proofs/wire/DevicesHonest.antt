@@ -1,4 +1,4 @@
--- The wire of some devices lets hear what document 01's honest wire does: the premise on wires is met.
+-- The wire of some devices is an honest wire in document 01's sense: the premise on wires can be met.
 use Prim.Native.Nat.{ℕ, suc, _+_, _/_, _%_, _≤_}
 use mathlib.Core.List.{List, [], _∷_}
 use mathlib.Core.Path.{_≡_, refl, _∙_, ap}
@@ -21,7 +21,7 @@ use Rattle.theory.proofs.walk.MatchingIds.{matching-extends, all-matching}
 use Rattle.refinement.specs.ClientServed.{heardBy, Honest, bitsIn, spoken, devices}
 use Rattle.refinement.proofs.client.RequestBytes.{bits-append}
 
--- The bits that were asked for are those that the bytes hold.
+-- The prefix read from a Select's bytes is the one selected.
 bits-in : (q : Prefix) (seed : ℕ) → bitsIn (bytesOf (select q) seed []) ≡ q
 unfolding bitsIn bytesOf frameBytes frameBody frameHead selectPayload le
 bits-in q seed =
@@ -57,7 +57,7 @@ spoken-heard [] h = nothing-heard
 spoken-heard (x ∷ []) h = hear-ok _ (reply-fits x (h .0 .0) (h .0 .1)) refl
 spoken-heard (x ∷ y ∷ zs) h = stray
 
--- Any ids of which those that match the given prefix are of at most 16 bytes: what the others are does not matter.
+-- Of any ids, those that match the given prefix must have at most 16 bytes. The others do not matter.
 pub devices-honest : (S : List Id) (seed : ℕ) (given : Prefix)
     → All (λ x. (length x ≤ 16) × Bytes x) (matching given S) → Honest (devices S) seed given S
 unfolding heardBy devices

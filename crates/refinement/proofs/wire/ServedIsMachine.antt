@@ -1,4 +1,4 @@
--- A client that is served discovers as the machine of the walk does, Select for Select.
+-- A client driven over a wire of bytes discovers as the walk machine does, Select by Select.
 use Prim.Native.Nat.{ℕ, zero, suc, _+_, _%_, _≤_}
 use mathlib.Core.Bool.{false}
 use mathlib.Core.List.{List, [], _++_}
@@ -41,7 +41,8 @@ use Rattle.refinement.specs.ClientServed.{Wire, sent, round, isOnward, s
 use Rattle.refinement.proofs.client.RequestBytes.{payload-length, request-asked}
 use Rattle.refinement.proofs.client.RecordAnswers.{keeps, clears, asking-bits, record-told}
 
--- What holds of each refusal as the code answers it, and of the outcome that document 01 numbers 23.
+-- What holds of each refusal in the code's form, and of the outcome that is number 23, holds of the answer to any
+-- number.
 refused-leads : (Q : Shown → Type 0) → ((r : Refusal) (x : Id) → Q (beside (Refused r) x))
     → Q (plainly (Over Unaddressed)) → (n : ℕ) (carries : List ℕ) → Q (refusedAs n carries)
 unfolding refusedAs
@@ -54,12 +55,12 @@ refused-leads Q r u n carries =
     (either Q (eqb n 15) (r _ _) (either Q (eqb n 16) (r _ _) (either Q (eqb n 17) (r _ _) (either Q (eqb n 18) (r _ _)
     (either Q (eqb n 19) (r _ _) (either Q (eqb n 20) (r _ _) (either Q (eqb n 23) u (r _ _)))))))))))))))))))))
 
--- No refusal goes on.
+-- After a refusal the operation does not go on.
 pub refused-ends : (n : ℕ) (carries : List ℕ) → isOnward (refusedAs n carries .says) ≡ false
 unfolding isOnward
 refused-ends = refused-leads (λ s. isOnward (s .says) ≡ false) (λ r x. refl) refl
 
--- No refusal has ids beside it.
+-- No refusal comes with a list of ids.
 pub refused-table : (n : ℕ) (carries : List ℕ) → refusedAs n carries .found ≡ noTable
 refused-table = refused-leads (λ s. s .found ≡ noTable) (λ r x. refl) refl
 
@@ -69,12 +70,12 @@ pub select-length : (q : Prefix) (seed : ℕ) (image : List ℕ) → length q �
 unfolding bytesOf
 select-length q seed image h = omega (arith, frame-length (selectFrame seed q), payload-length seed q)
 
--- The attached id where a walk goes on or has ended.
+-- The attached id while the walk goes on, and after it has ended.
 abbrev pub idAt : Option Paper.Id → Next → Option Paper.Id
 idAt id (going s) = id
 idAt id (ended e) = endId id e
 
--- The answer where the machine of the walk stands, after k Selects from the seed b on.
+-- The answer where the walk machine stands, after k Selects from the seed b.
 abbrev pub stood : ℕ → Option Paper.Id → ℕ → Next → ℕ → Told
 stood b id k next at = toldAs (settle (record { seed = (b + k) % 256; id = idAt id next; turn = idle }) none
     (walked next) at)
@@ -85,7 +86,7 @@ next-seed b k = mod-add-mod (b + k) 256 1 ∙ ap (λ (x : ℕ). x % 256) (shift 
     shift : (b k : ℕ) → b + k + 1 ≡ b + suc k
     shift b k = omega arith
 
--- Whatever was heard, the id is the one that stands there.
+-- Whatever is heard, the attached id after the step is the one that `idAt` gives.
 id-after : (s : State) → StatesFit.Fits s → (id : Option Paper.Id) (h : Paper.Heard)
     → cleared (select (Walk.request s)) id ≡ idAt id (Walk.step s h)
 unfolding Walk.request Walk.step Walk.tooLong Walk.tell
@@ -192,7 +193,7 @@ module _ (buffer : List ℕ) (room : 31 ≤ length buffer) (wire : Wire) (b : �
         turn-settles n x t (Phases.ends o) at = refl
         turn-settles n x t (Phases.refuses m carries) at = refl
 
-  -- The answer and the count, where the machine of the walk stands.
+  -- The answer and the count of Selects are those where the walk machine stands.
   pub record Stands (code : Told × ℕ) (machine : Next × ℕ) : Type 0 where
     pub at : ℕ
     pub told : code .0 ≡ stood b id (machine .1) (machine .0) at

@@ -1,5 +1,5 @@
--- `text::parse_uid` meets its contract. The loop's invariant: the bytes read, joined to those of the rest, are those of
--- the text.
+-- `text::parse_uid` meets its contract. The loop's invariant: the bytes read so far, joined with those of the rest, are
+-- the bytes of the whole text.
 use borrow.Author.Needs.{needs}
 use mathlib.Core.Path.{_≡_}
 use Prim.Native.Nat.{_≤_, _-_, _*_, _/_, _%_}

@@ -1,4 +1,4 @@
--- `text::put_hex` meets its contract. The loop's invariant: the digits of the bytes passed stand at the front.
+-- `text::put_hex` meets its contract. The loop's invariant: the digits of the bytes done so far are at the front.
 use borrow.Author.Needs.{needs}
 use mathlib.Core.Path.{_≡_}
 use mathlib.Core.List.{_++_}

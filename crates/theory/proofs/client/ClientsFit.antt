@@ -1,4 +1,4 @@
--- What every client of the operations' machine keeps to, for the record that holds it.
+-- Every client that the machine's calls lead to fits the code's client: the seed, the ids, the bit count and the walk.
 use Prim.Native.Nat.{ℕ, _*_, _≤_, _<_}
 use mathlib.Core.Bool.{Bool, true, false, _&&_, cond}
 use mathlib.Core.List.{List, []}
@@ -57,13 +57,13 @@ fits-sound (selecting s) f = tt
 fits-sound (demanding j) f = f
 fits-sound (leaving bootloader baud) f = tt
 
--- So it is document 01's client.
+-- The device information of a turn that fits satisfies the Info rule.
 pub turn-sound : (t : Turn) → FitsTurn t → SoundTurn t
 turn-sound idle f = tt
 turn-sound (ready ph) f = fits-sound ph f
 turn-sound (waiting ph) f = fits-sound ph f
 
--- An outcome's ids.
+-- The ids of an outcome fit.
 abbrev pub FitsOutcome : Outcome → Type 0
 FitsOutcome quiet = Unit {0}
 FitsOutcome (heard h) = long h ≡ false

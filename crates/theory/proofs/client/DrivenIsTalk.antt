@@ -1,4 +1,4 @@
--- Document 01's client, driven over any events, stands where its conversation does.
+-- Document 01's client, driven over any events, stands where its conversation does: the same answer, rest and client.
 use Prim.Native.Nat.{ℕ, _≤_}
 use mathlib.Core.Bool.{true, false}
 use mathlib.Core.List.{List, [], _∷_, _++_}
@@ -21,7 +21,7 @@ use Rattle.theory.specs.ClientDriven.{LendsIn, Lends, sizeOf, seedOver, 
 use Rattle.theory.specs.ClientDriven.{success, resting, StandsAs}
 use Rattle.theory.proofs.talk.RequestSizes.{asked-size, Returns, Modest, room}
 
--- An image of the length that runs passes the test on it.
+-- An image of the length that the flash was started with passes the test on its length.
 pub lent-passes : (n : Option ℕ) (image : List ℕ) → OfLength n image → otherLength n image ≡ false
 lent-passes none image e = refl
 lent-passes (some n) image e = rw (eq-eqb n (length image) (sym e))
@@ -34,14 +34,14 @@ any-lent (r ∷ rs) = ((tt, go (r .event)), any-lent rs)
     go (heard image bytes) = tt
     go failed = tt
 
--- An answer is awaited.
+-- The answer to the request is awaited.
 abbrev pub Awaits : Ask → Type 0
 Awaits (select p) = Unit {0}
 Awaits (demand d) = Unit {0}
 Awaits (leave d) = ⊥
 
 module _ (buffer : List ℕ) (n : Option ℕ) where
-  -- A client of a seed and an attached id or none, with this left.
+  -- A client with this seed, this attached id or none, and this left to do.
   abbrev pub client : ℕ → Option Id → Left → Client
   client seed id l = record { seed = seed; id = id; image = n; left = l }
 
@@ -50,7 +50,7 @@ module _ (buffer : List ℕ) (n : Option ℕ) where
     abbrev bytes : List ℕ
     bytes = bytesOf q (seedAfter q seed) image
 
-    -- A request whose answer is awaited, and one whose answer is not.
+    -- Asking for a request: it is handed out.
     pub asked : request (client seed id (ready q f)) image buffer
         ≡ record {
           says = Paper.handing q (length bytes);
@@ -65,7 +65,7 @@ module _ (buffer : List ℕ) (n : Option ℕ) where
           (omega (arith, asked-size q (seedAfter q seed) image)),
     )
 
-  -- What is told then.
+  -- The answer to the event after a request.
   unfoldable pub goes : (q : Ask) (f : AnswerTo q → Talk Outcome) → ℕ → Option Id → Event → Option (AnswerTo q) → Told
   goes q f seed id e o =
       onSome o (fails (client seed id (waiting q f)) (restAfter q e))
@@ -90,7 +90,7 @@ module _ (buffer : List ℕ) (n : Option ℕ) where
   quiet [] t e = refl
   quiet (r ∷ rs) t e = rw e
 
-  -- A round in which a request is handed out.
+  -- The answer that leaves a request next, and that request as it is handed out.
   abbrev pub next : (q : Ask) → (AnswerTo q → Talk Outcome) → ℕ → Option Id → Option (ℕ × ℕ) → ℕ → Told
   next q f seed id p at = record { says = Paper.onward p; client = client seed id (ready q f); rest = at }
 
@@ -159,7 +159,7 @@ module _ (buffer : List ℕ) (n : Option ℕ) where
         )
     sends-awaits (leave d) f w fits = absurd w
 
-    -- One whose answer is not awaited ends its operation.
+    -- A request whose answer is not awaited ends its operation.
     driven-leaves : (d : Demand) (f : AnswerTo (leave d) → Talk Outcome) (o : Outcome) → f tt ≡ return o
         → sizeOf (leave d) ≤ length buffer
         → driven buffer (r ∷ rs) (next (leave d) f seed id p at)
@@ -184,12 +184,13 @@ module _ (buffer : List ℕ) (n : Option ℕ) where
     )
 
   module _ (seed : ℕ) (id : Option Id) where
+    -- `StandsAs` for the conversation m over these rounds, after the exchanges of a past.
     abbrev Stood : Talk Outcome → List Round → Past → Left → Option (ℕ × ℕ) → ℕ → Type 0
     Stood m rs past l p at =
         StandsAs n seed id (play m (events rs) past) (brought m (events rs) (record { progress = p; rest = at }))
         (driven buffer rs (proceed (client (seedOver seed past) (idOver id past) l) p m at))
 
-    -- The latest request, if any, was answered.
+    -- The reply to the latest request, if there is one, was awaited: success is then the answer to a record.
     abbrev Answered : Past → Type 0
     Answered past = (p : Option (ℕ × ℕ)) (o : Outcome) → success past p o ≡ over p o
 
@@ -262,7 +263,7 @@ module _ (buffer : List ℕ) (n : Option ℕ) where
     stood most big (ask (leave d) f) h (r ∷ rs) lends past a l p at =
         leaves-stood d f (f tt) refl (h .1 .0) (omega (arith, h .0)) r rs (lends .0) past l p at
 
--- From a client with no operation, over any rounds.
+-- The result, from a client with no operation, over any rounds.
 pub driven-stands : (buffer : List ℕ) → room ≤ length buffer
     → (n : Option ℕ) (seed : ℕ) (id : Option Id) (m : Talk Outcome) → Modest room m
     → (rounds : List Round) → All (Lends n) rounds

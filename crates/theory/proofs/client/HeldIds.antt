@@ -1,4 +1,4 @@
--- What holds of every id that a client is given or hears holds of every id that it holds.
+-- What holds of every id that a client is given or hears holds of every id that it keeps.
 use Prim.Native.Nat.{ℕ, _*_}
 use mathlib.Core.Bool.{Bool, true, false, _&&_, cond}
 use mathlib.Core.List.{List, []}

@@ -1,4 +1,4 @@
--- The machine's client is document 01's: each call is answered alike, and leaves the same conversation.
+-- The machine's client is document 01's: each call has the same answer and leaves the same conversation.
 use Prim.Native.Nat.{ℕ, _*_}
 use mathlib.Core.Bool.{Bool, true, false, _&&_, cond}
 use mathlib.Core.List.{List, [], _∷_, _++_}
@@ -75,7 +75,7 @@ step-after (demanding j) k a =
     (λ i w. (w .0 k, w .1)) (a .reply) (a .image)
 step-after (leaving bootloader baud) k a = tt
 
--- The device information of a phase that follows keeps the Info rule, and the image lent is as long as before.
+-- The device information of the phase that follows satisfies the Info rule, and the image lent has the same length.
 pub step-sound : (ph : Phase) → Sound ph → (a : AnswerTo (Phases.request ph)) → Onward Sound (step ph a .then)
 step-sound ph k a = onward-weaken (After (lends ph)) Sound (λ q w. w .0) (step ph a .then) (step-after ph k a)
 
@@ -84,7 +84,7 @@ pub step-lends : (ph : Phase) → Sound ph → (a : AnswerTo (Phases.request ph)
 step-lends ph k a = onward-weaken (After (lends ph)) (λ q. lends q ≡ lends ph) (λ q w. w .1) (step ph a .then)
     (step-after ph k a)
 
--- What is left of the conversation, and the image's length.
+-- The rest of the conversation in a turn, and the length of the image lent.
 unfoldable pub leftOf : Turn → Left
 leftOf idle = Paper.idle
 leftOf (ready ph) = Paper.ready (Phases.request ph) (λ a. resumed (step ph a))
@@ -95,6 +95,7 @@ lentIn idle = none
 lentIn (ready ph) = lends ph
 lentIn (waiting ph) = lends ph
 
+-- A client of the machine as document 01's client.
 unfoldable pub paperOf : Client → Paper.Client
 paperOf c = record { seed = c .seed; id = c .id; image = lentIn (c .turn); left = leftOf (c .turn) }
 
@@ -146,7 +147,7 @@ next-sim c lent l n at s e = go (n .progress)
     go none = settle-sim c lent l none (n .then) at s e
     go (some p) = settle-sim c lent l (some p) (n .then) at s e
 
--- An operation starts where its first phase stands.
+-- A start whose conversation is that of its first phase.
 start-sim : (c : Client) (good : Bool) (talk : Talk Outcome) (ph : Phase) → Sound ph → talk ≡ resume ph
     → Paper.startWith (lends ph) (paperOf c) good talk ≡ toldOf (start c good ph)
 unfolding start Paper.startWith paperOf leftOf thereafter

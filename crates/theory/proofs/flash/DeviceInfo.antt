@@ -1,4 +1,4 @@
--- What the Info rule gives of a device's information.
+-- What follows from the Info rule: no size of the device is 0, and a chunk has at least 4 bytes.
 use Prim.Native.Nat.{ℕ, _<_, _≤_}
 use mathlib.Core.Bool.{Bool, true, false, _&&_, cond}
 use mathlib.Core.List.{List}
@@ -12,7 +12,7 @@ use Rattle.paper.specs.Frame.{Info, infoOf}
 use Rattle.paper.specs.Answers.{sound, informed, chunk}
 use Rattle.paper.proofs.Chunks.{chunk-least}
 
--- What the Info rule says.
+-- The Info rule, size by size.
 pub record Sizes (info : Info) : Type 0 where
   pub eraseSize : 0 < info .eraseSize
   pub capacity : 0 < info .capacity

@@ -1,4 +1,4 @@
--- What the rules on erase addresses come to: none passes the capacity or 32 bits.
+-- Erase addresses are below the capacity, and within 32 bits unless 19 is due.
 use Prim.Native.Nat.{ℕ, zero, suc, _+_, _-_, _*_, _/_, _<_, _≤_}
 use mathlib.Core.Bool.{false}
 use mathlib.Core.Path.{_≡_}
@@ -10,7 +10,7 @@ use Rattle.paper.specs.Count.{All}
 use Rattle.theory.proofs.walk.EachMember.{all-weaken}
 use Rattle.paper.specs.Answers.{steps, apart, below, eraseAddresses, spansTooFar}
 
--- Of k numbers from a on, e apart, each is below the number that would follow.
+-- Of k numbers from a on, e apart, each plus e is at most a + k * e.
 apart-below : (e k a c : ℕ) → 0 < e → a + k * e ≤ c → All (λ x. x + e ≤ c) (apart e k a)
 unfolding apart
 apart-below e zero a c h r = tt
@@ -24,7 +24,7 @@ addresses-span info h =
     rw none (apart-below (info .eraseSize) (steps (info .eraseSize) (info .capacity)) 0
     (steps (info .eraseSize) (info .capacity) * info .eraseSize) h (omega arith))
 
--- No address wraps, nor the number reported after it, unless 19 was given.
+-- Unless 19 is due, neither an address nor the progress reported after it is over 32 bits.
 pub addresses-fit : (info : Info)
     → 0 < info .eraseSize → spansTooFar info ≡ false → All (λ x. x + info .eraseSize ≤ 0xFFFFFFFF) (eraseAddresses info)
 unfolding spansTooFar
@@ -46,7 +46,7 @@ addresses-below info h =
     (eraseAddresses info) (λ x l. omega (arith, rounded-up (info .eraseSize) (info .capacity) h))
     (addresses-span info h)
 
--- Nor is the capacity then over 32 bits.
+-- Nor is the capacity.
 pub capacity-fits : (info : Info) → 0 < info .eraseSize → spansTooFar info ≡ false → info .capacity ≤ 0xFFFFFFFF
 unfolding spansTooFar steps
 capacity-fits info h e =

@@ -1,5 +1,5 @@
--- A flash keeps its order over any replies, erases what it is told to from the front on, and writes at most 17 times at
--- one offset.
+-- A flash keeps its order over any replies: it erases the planned addresses from the first on, and writes at most 17
+-- times at one offset.
 use Prim.Native.Nat.{ℕ, zero, suc, _+_, _-_, _≤_, _<_, min}
 use mathlib.Core.Bool.{Bool, true, false, not, cond}
 use mathlib.Core.List.{List, [], _∷_, _++_, append-assoc, append-nil}
@@ -39,7 +39,7 @@ planned-is past i e = rw e
 front-part : (all xs ys : List ℕ) → xs ++ ys ≡ all → FrontOf all xs
 front-part all xs ys e = sym (take-append-seam xs ys) ∙ ap (take (length xs)) e
 
--- With these Erases left, and nothing written.
+-- The past of a flash with these Erases left and nothing written.
 record Erasing (info : Info) (image left : List ℕ) (past : Past) : Type 0 where
   tells : told past ≡ some (info, image)
   so-far : erased past ++ left ≡ eraseAddresses info
@@ -52,7 +52,7 @@ begun : (payload image : List ℕ) (info : Info) → informed payload ≡ some i
 unfolding told toldIn toldBy erased erasedIn erases eraseIn written wroteIn writesAt writeIn isOk
 begun payload image info e = record { tells = rw e; so-far = refl; same = refl; unwritten = refl; none = λ a. refl }
 
--- The Info, then all Erases.
+-- After the Info, with all Erases left.
 Begun : Past → Info × List ℕ → Type 0
 Begun p r = Erasing (r .0) (r .1) (eraseAddresses (r .0)) p × (sound (r .0) ≡ true)
 
@@ -120,7 +120,7 @@ module _ (n : ℕ) where
         spans = h .spans;
       }
 
-  -- With these Writes left, the first of which may be asked so many times yet.
+  -- The past of a flash with these Writes left, the first of which may still be asked `times` times.
   record Writing (info : Info) (left : List ℕ) (times : ℕ) (past : Past) : Type 0 where
     offset : ℕ
     passed : Passed n (told past) info
@@ -133,7 +133,7 @@ module _ (n : ℕ) where
     here : writesAt offset (asks past) + times ≤ 17
     none : (a : ℕ) → offset < a → writesAt a (asks past) ≡ 0
 
-  -- All Erases stand in front of what is asked from then on.
+  -- After the last Erase, the Erases asked are those planned.
   cleared-front : (past : Past) (info : Info) → Passed n (told past) info → erased past ≡ eraseAddresses info
       → erases (asks past) ≡ erased past
       → FrontOf (planned past) (erases (asks past) ++ [])
@@ -348,14 +348,14 @@ module _ (n : ℕ) where
       always-bind (Allowed n) (λ q _. Flashed n q (knows info)) (Flashed n) q (verify n) (λ _. known info)
       (verify-always info q i) (λ _ _ f. f)))
 
-  -- Everything asked was allowed when it was asked, and so is what is out; a flash that has returned has erased,
+  -- Each request was allowed when it was asked, and so is the one that is out. A flash that has returned has erased,
   -- written and verified all.
   pub flash-in-order : (es : List Event)
       → Kept (Allowed n) (play (flash n) es [] .0)
       × Stands (Allowed n) (Flashed n) (play (flash n) es [] .0) (play (flash n) es [] .1)
   flash-in-order es = play-kept (Allowed n) (Flashed n) (flash n) es [] flash-always tt
 
--- The Erases, those answered and the one that is out, are a front part of those that the Info told of.
+-- The Erases asked, including the one that is out, are the first of those planned.
 none-front : (all xs : List ℕ) → xs ≡ [] → FrontOf all xs
 none-front all xs e = rw e
 
@@ -378,7 +378,7 @@ flash-erases-front n es =
     all-asked (Allowed n) (Flashed n) Fronts refl (λ past q h. h .front) (λ past x h. front-still past x (h .front))
     (play (flash n) es []) (flash-in-order n es)
 
--- At most 17 Writes have one address.
+-- No address has more than 17 Writes.
 pub flash-writes-few : (n : ℕ) (es : List Event) (a : ℕ) → writesAt a (everything (play (flash n) es [])) ≤ 17
 unfolding writesAt
 flash-writes-few n es a =

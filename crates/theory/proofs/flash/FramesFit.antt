@@ -1,4 +1,4 @@
--- The frames of a flash fit the bytes that they are written in.
+-- Each field of a flash's frames fits the bytes that it is written in.
 use Prim.Native.Nat.{ℕ, zero, suc, _+_, _-_, _^_, _≤_, _<_}
 use mathlib.Core.Bool.{true}
 use mathlib.Core.List.{List, [], _∷_, _++_}
@@ -28,7 +28,7 @@ use Rattle.theory.proofs.frames.FramesReadBack.{Fits, bytes-append, byt
 use Rattle.theory.proofs.flash.EraseAddresses.{addresses-fit, capacity-fits}
 use Rattle.theory.proofs.flash.DeviceInfo.{sound-sizes, informed-sound}
 
--- What Info has told keeps the Info rule.
+-- The device information, if it is known, satisfies the Info rule.
 abbrev SoundAny : Option (Info × List ℕ) → Type 0
 SoundAny none = Unit {0}
 SoundAny (some i) = sound (i .0) ≡ true
@@ -58,7 +58,7 @@ told-sound (x ∷ past) = go (Order.told past) (told-sound past)
     go none h = sound-in (x .asked) (x .answer)
     go (some i) h = h
 
--- Info has passed: then the capacity, and each address that is to be erased, is below 2^32.
+-- Once the device information passes, the image's length and each address to erase are below 2^32.
 module _ (n : ℕ) (past : Past) (info : Info) (p : Passed n (Order.told past) info) where
   passed-sound : sound info ≡ true
   passed-sound = subst SoundAny (p .tells) (told-sound past)
@@ -75,7 +75,7 @@ module _ (n : ℕ) (past : Past) (info : Info) (p : Passed n (Order.told past) i
       all-weaken (λ x. x + info .eraseSize ≤ 0xFFFFFFFF) (λ a. a < 256 ^ 4) (eraseAddresses info) (λ x l. omega arith)
       (addresses-fit info passed-size (p .spans))
 
--- The frames of a flash fit their bytes.
+-- The frames of each request.
 bytes-replicate : (k : ℕ) → Bytes (replicate k 0xFF)
 bytes-replicate zero = tt
 bytes-replicate (suc k) = (omega arith, bytes-replicate k)

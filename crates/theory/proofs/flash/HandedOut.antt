@@ -1,4 +1,4 @@
--- What a driven flash hands out is in order: read off its bytes and what happened then.
+-- The requests that a driven flash hands out are in order, as read from their bytes and from the events after them.
 use Prim.Native.Nat.{ℕ, _+_, _≤_}
 use mathlib.Core.Bool.{true, _&&_, cond}
 use mathlib.Core.List.{List, [], _∷_, _++_, append-assoc, append-nil}
@@ -34,14 +34,14 @@ use Rattle.theory.proofs.flash.FlashOrder.{flash-always, flash-in-order
 use Rattle.theory.proofs.frames.FramesReadBack.{read-written}
 use Rattle.theory.proofs.talk.RequestSizes.{payload-size, Modest, room, flash-modest}
 
--- What is said of a request that is a frame.
+-- What `said` gives for a request that is a frame.
 module _ (s : Sent) (f : Frame) (e : read (s .bytes) ≡ whole 0 f) where
   said-is : {A : Type 0} (other : A) (g : Frame → Answered → A)
       → said s other g ≡ onSome (answeredBy (s .then)) other (g f)
   unfolding said
   said-is other g = rw e
 
--- One more at the end.
+-- What is told, erased and written, with one more request at the end.
 told-snoc : (xs : List Sent) (s : Sent) → told (xs ++ (s ∷ [])) ≡ onSome (told xs) (toldIn s) some
 unfolding told
 told-snoc [] s = go (toldIn s)
@@ -66,7 +66,7 @@ unfolding written
 written-snoc [] s = refl
 written-snoc (x ∷ xs) s = omega (arith, written-snoc xs s)
 
--- What was handed out says what was asked and answered.
+-- The requests handed out give the same information, erased addresses and written length as the exchanges.
 record Tallies (past : Past) (before : List Sent) : Type 0 where
   tells : told before ≡ Order.told past
   erases : erased before ≡ Order.erased past
@@ -76,7 +76,7 @@ tallies-none : Tallies [] []
 unfolding told erased written Order.told Order.erased Order.written
 tallies-none = record { tells = refl; erases = refl; writes = refl }
 
--- A request in its turn.
+-- The request is a frame, and is in order after the requests `before`.
 record InTurn (n : ℕ) (before : List Sent) (s : Sent) : Type 0 where
   framed : IsFrame s
   erases : framed .frame .command ≡ command-Erase → Passes n before
@@ -87,7 +87,7 @@ module _ (n : ℕ) (image : List ℕ) (lent : length image ≡ n) (bytes : Bytes
   abbrev frame : Demand → Frame
   frame d = demandFrame d image
 
-  -- A request of a flash, and what it says once something has happened.
+  -- A request of a flash and the event after it.
   module _ (past : Past) (d : Demand) (may : Allowed n past (demand d)) (seed : ℕ) (e : Event) where
     abbrev request : Sent
     request = record { bytes = bytesOf (demand d) seed image; then = some e }
@@ -111,7 +111,7 @@ module _ (n : ℕ) (image : List ℕ) (lent : length image ≡ n) (bytes : Bytes
         ∙ ap (λ (o : Option Answered). onSome o other (g (frame d))) (answered-as ∙ q)
 
     module _ (before : List Sent) (t : Tallies past before) where
-      -- With one more handed out, of which this is said.
+      -- One more request handed out, given what it adds.
       tallies-more : (after : Past)
           → onSome (Order.told past) (toldIn request) some ≡ Order.told after
           → Order.erased past ++ erasedIn request ≡ Order.erased after
@@ -150,7 +150,7 @@ module _ (n : ℕ) (image : List ℕ) (lent : length image ≡ n) (bytes : Bytes
           same none = refl
           same (some i) = refl
 
-      -- It is in its turn.
+      -- The request is in order.
       in-turn : InTurn n before request
       unfolding bytesOf
       in-turn = record {
@@ -198,7 +198,7 @@ module _ (n : ℕ) (image : List ℕ) (lent : length image ≡ n) (bytes : Bytes
           at-written (toWrite _ _ e) w = ap (λ (d : Demand). d .address) e ∙ sym (t .writes)
           at-written (toVerify _ _ e) w = absurd (let z : _≡_ {A = ℕ} 3 2 = cc in omega arith)
 
--- Each one after those before it.
+-- P holds of each request, given those before it.
 abbrev Each : (List Sent → Sent → Type 0) → List Sent → List Sent → Type 0
 Each P before [] = Unit {0}
 Each P before (s ∷ ss) = P before s × Each P (before ++ (s ∷ [])) ss
@@ -217,7 +217,7 @@ module _ (buffer : List ℕ) (most : ℕ) (big : most ≤ length buffer) (n : �
   nothing-handed : (before : List Sent) (past : Past) → Tallies past before → Handed before past []
   nothing-handed before past t = record { each = tt; tallies = subst (Tallies past) (sym (append-nil before)) t }
 
-  -- One request, and what follows on the answer.
+  -- One request, and those that follow its answer.
   module _ (d : Demand) (f : AnswerTo (demand d) → Talk Outcome) (r : Round) (rs : List Round) (lent : Lent r)
       (past : Past) (may : Allowed n past (demand d)) (before : List Sent) (t : Tallies past before) (seed : ℕ)
       (id : Option Id) where
@@ -275,7 +275,7 @@ module _ (buffer : List ℕ) (most : ℕ) (big : most ≤ length buffer) (n : �
       (λ a v k at. handed (f a) (h .1 .1 a) rs (lent .1) (record { asked = demand d; answer = a } ∷ past) (w .1 a)
       (before ++ (_ ∷ [])) v (seedAfter (demand d) seed) id k none at))
 
--- A cut of what was handed out.
+-- A request handed out, with those before it and those after it.
 each-cut : (P : List Sent → Sent → Type 0) (before ss mid later : List Sent) (s : Sent) → Each P before ss
     → ss ≡ mid ++ (s ∷ later) → P (before ++ mid) s
 each-cut P before [] [] later s h e = absurd (let z : _≡_ {A = ℕ} 0 1 = cc in omega arith)
@@ -293,7 +293,7 @@ each-framed : (n : ℕ) (before ss : List Sent) → Each (InTurn n) before ss �
 each-framed n before [] h = tt
 each-framed n before (s ∷ ss) h = (h .0 .framed, each-framed n (before ++ (s ∷ [])) ss (h .1))
 
--- A reading is one frame.
+-- A reading has one frame.
 one-frame : (r : Reading) (f g : Frame) → r ≡ whole 0 f → r ≡ whole 0 g → f ≡ g
 one-frame r f g h k = let same : whole 0 f ≡ whole 0 g = sym h ∙ k in cc
 

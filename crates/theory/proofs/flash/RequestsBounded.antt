@@ -1,4 +1,4 @@
--- Every operation with one answer to a request ends: how many requests it asks at the most, over any replies.
+-- Info, erase, flash and reset end: how many requests each asks at most, over any replies.
 use Prim.Native.Nat.{ℕ, zero, suc, _+_, _-_, _*_, _/_, _≤_, _<_}
 use mathlib.Core.Bool.{Bool, true, false, not, cond}
 use mathlib.Core.List.{List, [], _∷_}
@@ -24,7 +24,7 @@ use Rattle.theory.proofs.flash.FlashOrder.{told-still}
 use Rattle.theory.proofs.flash.DeviceInfo.{sound-sizes, sound-chunk, informed-sound}
 use Rattle.paper.proofs.Chunks.{padded-multiple}
 
--- At most k requests, whatever is answered.
+-- The conversation asks at most k requests, whatever is answered.
 abbrev Within : {A : Type 0} → ℕ → Talk A → Type 0
 Within k (return a) = Unit {0}
 Within k (stop c carries) = Unit {0}
@@ -73,7 +73,7 @@ within-transact k d f h = λ a. go (a .reply) (a .image)
     go (ok payload) image = h payload image
     go (device status) image = tt
 
--- What that says after some events.
+-- What this means after some events.
 within-play : {A : Type 0} (k : ℕ) (m : Talk A) → Within k m → (es : List Event) (past : Past)
     → (length (everything (play m es past)) ≤ k + length past) × (k ≤ length es → Ended (play m es past .1))
 unfolding play
@@ -99,7 +99,7 @@ within-play {A} (suc k) (ask q f) h (e ∷ es) past =
 bounded : {A : Type 0} (k : ℕ) (m : Talk A) (es : List Event) → Within k m → Bounded k es (play m es [])
 bounded k m es h = let w = within-play k m h es [] in record { few = omega (arith, w .0); ends = w .1 }
 
--- What was told first stays so.
+-- Once device information is known, it stays the same.
 told-play : {A : Type 0} (i : Info × List ℕ) (m : Talk A) (es : List Event) (past : Past) → told past ≡ some i
     → told (play m es past .0) ≡ some i
 unfolding play
@@ -118,7 +118,7 @@ told-play {A} i (ask q f) (e ∷ es) past h =
     go (some a) more = more a
 
 module _ {A : Type 0} (g : Info × List ℕ → Talk A) where
-  -- A conversation that begins with the Info, by what it does with each sound information.
+  -- A conversation that begins with the Info, given a bound on the rest for sound device information.
   within-inform : (k : ℕ) → ((info : Info) (image : List ℕ) → sound info ≡ true → Within k (g (info, image)))
       → Within (suc k) (inform >>= g)
   unfolding inform _>>=_
@@ -234,7 +234,7 @@ pub erase-bounded : (es : List Event) → Bounded (most erasesMost (told (play e
 unfolding erase
 erase-bounded es = informed-bounded _ erasesMost (λ i. erase-after (i .0) (erasesMost (i .0)) (λ _. omega arith)) es
 
--- What a flash does with the information, for any bound of its Erases and of its Writes.
+-- The part of a flash after the Info, for any bounds on its Erases and on its Writes.
 flash-after : (n : ℕ) (info : Info) (image : List ℕ) (k l : ℕ) → (spansTooFar info ≡ false → erasesMost info ≤ k)
     → 17 * steps (chunk (info .maxPayload)) (padded n) ≤ l
     → Within (k + (l + 1))
@@ -256,8 +256,8 @@ flash-bounded n es = rw bind-assoc
     (informed-bounded _ (flashMost n)
     (λ i. flash-after n (i .0) (i .1) (erasesMost (i .0)) _ (λ _. omega arith) (omega arith)) es)
 
--- The same without the information: no Erases whose addresses need more than 32 bits are asked, and no chunk is under 4
--- bytes.
+-- Bounds that do not depend on the device information: Erases are refused with 19 if their addresses need more than 32
+-- bits, and a chunk has at least 4 bytes.
 erases-most : (info : Info) → sound info ≡ true → spansTooFar info ≡ false → erasesMost info ≤ 0xFFFFFFFF
 unfolding spansTooFar erasesMost
 erases-most info h s =

@@ -1,4 +1,4 @@
--- On which answer to the Verify a flash succeeds.
+-- A flash succeeds exactly on an answer to the Verify that has the check of the image.
 use Prim.Native.Nat.{ℕ}
 use mathlib.Core.Bool.{Bool, true, false, not}
 use mathlib.Core.List.{[], _∷_}
@@ -13,7 +13,7 @@ use Rattle.paper.specs.Talk.{demand, Answered, Talk, return, ask, _>>=_, _>>_, 
 use Rattle.paper.specs.Flash.{verifyRequest, accepted, transact, refuseIf, verify, known}
 use Rattle.theory.specs.FlashOrder.{Checked}
 
--- What a flash does with the answer.
+-- How a flash handles the answer to the Verify.
 unfoldable pub verdict : Info → Answered → Talk Outcome
 verdict info a =
     accepted (a .reply) (a .image)
@@ -25,8 +25,8 @@ pub verify-asks : (n : ℕ) (info : Info) → verify n >> known info ≡ ask (de
 unfolding verify transact verdict _>>=_
 verify-asks n info = refl
 
--- It succeeds if and only if the answer is Ok and has at least two bytes, the first of which are the check of the image
--- lent with it.
+-- It succeeds if and only if the answer is Ok and has at least two bytes, the first two of which are the check of the
+-- image lent with it.
 pub verify-only : (info : Info) (a : Answered) → verdict info a ≡ return (knows info) → Checked a
 unfolding verdict accepted refuseIf _>>=_
 verify-only info a e = go (a .reply) refl e

@@ -1,4 +1,4 @@
--- The offsets of Writes one after the other, and how many stand at an offset.
+-- The offsets of successive Writes, and how many Writes there are at one offset.
 use Prim.Native.Nat.{ℕ, _+_, _≤_, _<_}
 use mathlib.Core.Bool.{Bool, true, false, cond}
 use mathlib.Core.List.{List, [], _∷_}
@@ -9,7 +9,7 @@ use borrow.Author.Tests.{ltb-true, ltb-false, eqb-true}
 use Rattle.paper.proofs.Addresses.{below-nil, below-cons}
 use Rattle.paper.specs.Answers.{below}
 
--- The first of the offsets that are left.
+-- The offsets left from o on are x and then xs.
 pub record First (c p o x : ℕ) (xs : List ℕ) : Type 0 where
   pub inside : o < p
   pub same : x ≡ o
@@ -37,7 +37,7 @@ last c p o pc e = go (ltb o p) refl
         absurd (omega arith)
     go false h = ltb-false o p h
 
--- One more Write at x.
+-- How many Writes there are at an offset, after one more at x.
 pub at-most : (b : Bool) → cond b 1 0 ≤ 1
 at-most true = omega arith
 at-most false = omega arith

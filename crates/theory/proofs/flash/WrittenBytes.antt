@@ -1,4 +1,4 @@
--- What the Writes of a flash carry: the image padded with FF, from the Write's offset on.
+-- The Writes of a flash carry the image padded with FF, each from its own offset on.
 use Prim.Native.Nat.{ℕ, _-_, _≤_}
 use mathlib.Core.List.{List, [], _++_}
 use mathlib.Core.Path.{_≡_, sym, _∙_, ap}
@@ -45,8 +45,7 @@ piece-length image o k =
       length-replicate {A = ℕ} (k - (length image - o)) 0xFF,
     )
 
--- A Write that a flash asks for: the bytes of the padded image that follow on those written, so many that they fit a
--- frame.
+-- The payload of a Write: the next bytes of the padded image, at most as many as fit a frame.
 pub record Carries (image : List ℕ) (offset size : ℕ) (bytes : List ℕ) : Type 0 where
   pub same : bytes ≡ take size (drop offset (image ++ replicate (padding (length image)) 0xFF))
   pub all : length bytes ≡ size
@@ -62,7 +61,7 @@ write-carries info image offset =
       fits = omega (arith, write-size info (length image) offset, chunk-most (info .maxPayload));
     }
 
--- Every Write of a flash of an image, answered or out, carries the padded image from its address on.
+-- Every Write of a flash, answered or out, carries the padded image from its address on.
 abbrev pub CarriesIn : List ℕ → Ask → Type 0
 CarriesIn image (select p) = Unit {0}
 CarriesIn image (demand d) = d .command ≡ command-Write

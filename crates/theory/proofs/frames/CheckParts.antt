@@ -1,4 +1,4 @@
--- The check: of a sequence in parts, and that it fits two bytes.
+-- The check can be computed in parts, and fits two bytes.
 use Prim.Native.Nat.{ℕ, _*_, _%_, _^_, _<_}
 use mathlib.Core.Bool.{Bool, true, false, cond}
 use mathlib.Core.List.{List, [], _∷_, _++_}

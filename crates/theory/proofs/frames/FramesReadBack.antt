@@ -1,4 +1,4 @@
--- What is written is read back, whatever follows; and what is read whole is what would be written.
+-- A written frame is read back, whatever bytes follow it; and a frame read whole has the bytes that writing it gives.
 use Prim.Native.Nat.{ℕ, zero, suc, _+_, _/_, _^_, _<_, _≤_}
 use mathlib.Core.Bool.{Bool, true, false, cond}
 use mathlib.Core.List.{List, [], _∷_, _++_, append-assoc}
@@ -54,7 +54,7 @@ unfolding number
 number-fits [] h = omega arith
 number-fits (x ∷ xs) h = rw (pow-suc 256 (length xs)) (omega (arith, number-fits xs (h .1), h .0))
 
--- Reading, from what the bytes are.
+-- The frame that is read, from what is known of the bytes.
 read-made : (s : List ℕ) (n : ℕ) → skipped s ≡ 0 → field 8 2 s ≡ n → n ≤ most → 12 + n ≤ length s
     → rightCheck n s ≡ true → read s ≡ whole 0 (fields n s)
 unfolding read readSynced readSized
@@ -122,7 +122,7 @@ module _ (f : Frame) (h : Fits f) (more : List ℕ) where
   read-written = read-made written n written-synced written-sized (h .short)
       (omega (arith, length-append (frameBytes f) more, frame-length f)) written-checked ∙ ap (whole 0) written-fields
 
--- The first A5 is where the bytes skipped end.
+-- The byte after those skipped is A5.
 synced : (s : List ℕ) → skipped s < length s → byte 0 (drop (skipped s) s) ≡ 0xA5
 unfolding skipped
 synced [] h = absurd (omega arith)
@@ -142,13 +142,13 @@ field-fits at k s h room =
     subst (λ (n : ℕ). field at k s < 256 ^ n) (length-take-le k (drop at s) (omega (arith, length-drop at s)))
     (number-fits (take k (drop at s)) (bytes-take k (drop at s) (bytes-drop at s h)))
 
--- A field, written where it was read.
+-- Writing a field that was read gives its bytes again.
 le-field : (at k : ℕ) (s : List ℕ) → Bytes s → at + k ≤ length s → le k (field at k s) ≡ take k (drop at s)
 le-field at k s h room =
     ap (λ (n : ℕ). le n (field at k s)) (sym (length-take-le k (drop at s) (omega (arith, length-drop at s))))
     ∙ le-number (take k (drop at s)) (bytes-take k (drop at s) (bytes-drop at s h))
 
--- The head of a frame in the bytes that it was read from.
+-- Writing the head that was read gives its bytes again.
 head-read : (t : List ℕ) → Bytes t → 10 ≤ length t → byte 0 t ≡ 0xA5
     → 0xA5 ∷ byte 1 t ∷ byte 2 t ∷ byte 3 t ∷ le 4 (field 4 4 t) ++ le 2 (field 8 2 t) ≡ take 10 t
 head-read t h room e =

@@ -1,4 +1,4 @@
--- The bits of an id, a byte at a time.
+-- The bits of an id are those of its first byte, then those of the others.
 use Prim.Native.Nat.{ℕ, suc, _+_, _*_, _/_, _%_, _<_}
 use mathlib.Core.List.{List, [], _∷_, _++_}
 use mathlib.Core.Path.{_≡_, sym, _∙_, ap, ap₂}

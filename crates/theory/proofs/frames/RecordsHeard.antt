@@ -1,4 +1,5 @@
--- What a record of frames says: a reply alone, an echo before anything, and a record of each kind.
+-- What is heard in a record, and which frame in it answers: for a single reply, for an echo before other bytes, and for
+-- an example of each kind.
 use Prim.Native.Nat.{ℕ, zero, suc, _+_, _<_, _≤_}
 use mathlib.Core.Bool.{Bool, true, false, cond}
 use mathlib.Core.List.{List, [], _∷_, _++_, append-nil}
@@ -19,7 +20,7 @@ use Rattle.paper.specs.Answers.{Answer, lost, answered, Reply, device, replyOf,
 use Rattle.paper.proofs.Frames.{frame-length}
 use Rattle.theory.proofs.frames.FramesReadBack.{Fits, read-written}
 
--- More frames than enough change nothing.
+-- Any bound on the number of frames gives the same frames, if it is at least the record's length.
 pub frames-fuel : (m n : ℕ) (s : List ℕ) → length s ≤ m → length s ≤ n → frames m s ≡ frames n s
 unfolding frames
 frames-fuel zero n s h k = go s h
@@ -68,7 +69,7 @@ module _ (f : Frame) (h : Fits f) (more : List ℕ) where
           (ap (λ (o : Option (List Frame)). onSome o none (λ fs. some (f ∷ fs)))
           (frames-fuel n (length more) more (omega (arith, long)) (omega arith))))
 
-  -- The frame counts with those that follow.
+  -- What is heard in a frame and the bytes after it.
   hear-written : hear (frameBytes f ++ more)
       ≡ onSome (frames (length more) more) garble (λ fs. repliesHeard (replies (f ∷ fs)))
   unfolding hear
@@ -108,7 +109,7 @@ module _ (f : Frame) (h : Fits f) where
   hear-other l = hear-reply f h (omega arith)
       ∙ rw (ne-eqb (f .status) 1 (omega arith), ne-eqb (f .status) 2 (omega arith))
 
--- The answer of one reading from a place on, by what the next places answer.
+-- The answer from one reading at a place, given the answers from later places.
 abbrev turn : ℕ → (ℕ → Answer) → Reading → Answer
 turn at next y =
     onReading y lost lost
@@ -131,7 +132,7 @@ unfolding answerFrom read readSynced skipped
 answer-past zero at s h = refl
 answer-past (suc n) at s h = rw (drop-of-length-le s {i = at} h)
 
--- More frames than enough change no answer.
+-- Any bound on the number of frames gives the same answer, if it is at least the length left.
 pub answer-fuel : (m n at : ℕ) (s : List ℕ) → length s ≤ at + m → length s ≤ at + n
     → answerFrom m at s ≡ answerFrom n at s
 unfolding answerFrom
@@ -141,7 +142,7 @@ answer-fuel (suc m) (suc n) at s h k =
     turn-same at (λ p. answerFrom m p s) (λ p. answerFrom n p s)
     (λ p l. answer-fuel m n p s (omega arith) (omega arith)) (read (drop at s))
 
--- The same answer, with its place so much further on.
+-- The same answer, with its place moved by k.
 abbrev pub moved : ℕ → Answer → Answer
 moved k lost = lost
 moved k (answered r at) = answered r (k + at)
@@ -196,7 +197,7 @@ module _ (f : Frame) (h : Fits f) (more : List ℕ) where
   pub answer-echo : f .status ≡ 0 → answer (frameBytes f ++ more) ≡ moved (size f) (answer more)
   answer-echo z = rw (eq-eqb (f .status) 0 z) at answer-written
 
--- A record of each kind, as bytes; the last differs from the second in one bit of its check.
+-- A record of each kind, as bytes. The last is the second with one bit of its check changed.
 pub nothing-heard : hear [] ≡ nothing
 unfolding hear frames replies repliesHeard
 nothing-heard = refl

@@ -1,4 +1,4 @@
--- An id's text reads back, and a text that reads is that id's text but for the letters' case.
+-- An id's text reads back as the id; a text that reads as an id is the id's text, except for the case of letters.
 use Prim.Native.Nat.{ℕ, _+_, _-_, _*_, _/_, _%_, _<_, _≤_}
 use mathlib.Core.Bool.{Bool, true, false, _&&_, cond}
 use mathlib.Core.List.{List, [], _∷_}
@@ -14,7 +14,7 @@ use Rattle.paper.proofs.Hex.{Kind, number, upper, small, other, kind, within, i
 use Rattle.paper.proofs.Hex.{digit-upper, digit-small, hexText-length, unhex-pair, unhex-bad-high, unhex-bad-low}
 use Rattle.paper.proofs.Words.{Bytes}
 
--- A character in lower case, if it is one of A to F; and a text.
+-- A character with A to F in lower case, any other as it is; and the same for a text.
 unfoldable pub lowerCase : ℕ → ℕ
 lowerCase c = cond (leb 65 c && leb c 70) (c + 32) c
 
@@ -73,7 +73,7 @@ pub parse-of-written : (id : List ℕ) → length id ≤ 16 → Bytes id → par
 unfolding parseUid
 parse-of-written id h b = rw (le-leb (length (hexText id)) 32 (omega (arith, hexText-length id))) (unhex-hexText id b)
 
--- What a text that reads is.
+-- What is known of a text that reads as an id.
 record Read (text id : List ℕ) : Type 0 where
   written : hexText id ≡ lower text
   digits : length text ≡ 2 * length id

@@ -1,4 +1,4 @@
--- What a job's step leads to: another job, the end of the operation, or one of eight refusals.
+-- A job's step leads to another job, to the end of the operation, or to one of eight refusals.
 use Prim.Native.Nat.{ℕ, _+_, _-_}
 use mathlib.Core.Bool.{Bool, true, false, _&&_, cond}
 use mathlib.Core.List.{List, [], _∷_}
@@ -20,7 +20,7 @@ use Rattle.theory.specs.OperationMachine.{told}
 use Rattle.theory.specs.ClientMachine.{lentTo}
 use Rattle.theory.proofs.talk.MachineIsTalk.{SoundJob}
 
--- Q holds of each end of a job: with nothing, with device information, with a refusal.
+-- Q holds of each way in which a job can end: with nothing, with device information, with a refusal.
 pub record Ends (Q : Then → Type 0) : Type 0 where
   pub quiet : Q (ends quiet)
   pub knows : (info : Info) → Q (ends (knows info))
@@ -33,7 +33,7 @@ pub record Ends (Q : Then → Type 0) : Type 0 where
   pub short : Q (refuses 18 [])
   pub far : Q (refuses 19 [])
 
--- As it does where it holds of every refusal.
+-- It does if it holds of the first two and of every refusal.
 pub any-end : (Q : Then → Type 0) → Q (ends quiet) → ((info : Info) → Q (ends (knows info)))
     → ((n : ℕ) (carries : List ℕ) → Q (refuses n carries)) → Ends Q
 any-end Q e k r = record {
@@ -49,7 +49,8 @@ any-end Q e k r = record {
   far = r 19 [];
 }
 
--- Device information that keeps the Info rule still does, and the image lent is as long as before.
+-- The job k may follow j: its device information satisfies the Info rule if that of j does, and it needs an image of
+-- the same length.
 abbrev pub After : Job → Job → Type 0
 After j k = (SoundJob j → SoundJob k) × (lentTo k ≡ lentTo j)
 
@@ -113,7 +114,7 @@ module _ (Q : Then → Type 0) (q : Ends Q) where
   declined-leads (verifying n info) f status = q .device status
   declined-leads (resetting bootloader baud) f status = q .device status
 
-  -- What holds of the ends and of the jobs that may follow holds of what follows.
+  -- If Q holds of each end and of each job that may follow, it holds of what follows.
   pub told-leads : (j : Job) → ((k : Job) → After j k → Q (working k)) → (r : Reply) (image : List ℕ)
       → Q (told j r image .then)
   unfolding told

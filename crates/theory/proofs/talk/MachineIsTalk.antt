@@ -1,4 +1,5 @@
--- Each phase stands at a place of its operation's conversation, and each step of the machine is one step of that.
+-- The operations' machine runs document 01's conversations: each phase is a place in one, and each step is one of its
+-- steps.
 use Prim.Native.Nat.{ℕ, suc, _+_, _-_, _/_, _<_, _≤_}
 use mathlib.Core.Bool.{Bool, true, false, _&&_, not, cond}
 use mathlib.Core.List.{List, [], _∷_}
@@ -35,7 +36,7 @@ use Rattle.theory.proofs.talk.TalkRules.{bind-assoc}
 use Rattle.theory.proofs.flash.DeviceInfo.{sound-sizes, sound-chunk}
 use Rattle.theory.proofs.walk.MachineIsWalk as Refine
 
--- The device information of a job keeps the Info rule.
+-- The device information of a job satisfies the Info rule.
 abbrev pub SoundJob : Job → Type 0
 SoundJob (informing why) = Unit {0}
 SoundJob (erasing why info address) = sound info ≡ true
@@ -51,15 +52,15 @@ Sound (leaving bootloader baud) = Unit {0}
 has-chunk : (info : Info) → sound info ≡ true → 0 < chunk (info .maxPayload)
 has-chunk info s = omega (arith, sound-chunk info s)
 
--- The end of an attach that several answered, and of a discovery.
+-- The end of an attach that several devices answered, and the end of a discovery.
 abbrev pub several : Option Id → Talk Outcome
 several uid = onSome uid (stop 8 []) (λ given. stop 10 given)
 
 abbrev pub finding : List Id → Talk Outcome
 finding ids = return (found ids)
 
--- An operation that begins with Info; Verify and the end; the Writes from an offset on, and these; what follows the
--- last Erase; the Erases from an address on, and that.
+-- Parts of the operations that begin with Info, each up to the end: all of it; from the Verify; from the Write at an
+-- offset; after the last Erase; from the Erase at an address.
 unfoldable pub whole : Purpose → Talk Outcome
 whole tell = informOnly
 whole clear = erase
@@ -81,7 +82,7 @@ abbrev pub erasesFrom : Purpose → Info → ℕ → Talk Outcome
 erasesFrom why info address = each (below (info .eraseSize) (info .capacity) address)
     (eraseOne info) >> afterErase why info
 
--- What is left of the conversation in a phase.
+-- The rest of the conversation in a phase.
 unfoldable pub resumeSearch : Search → Talk Outcome
 resumeSearch (probing bytes bits) = selectOnly (take bits (bitsOf bytes))
 resumeSearch parting = deselect
@@ -114,7 +115,7 @@ reporting (some p) m = report (p .0) (p .1) m
 unfoldable pub resumed : Next → Talk Outcome
 resumed next = reporting (next .progress) (thereafter (next .then))
 
--- What is listened to, refused for its length or not.
+-- The step on what is heard, which is refused with 14 if the id is too long.
 listen-sim : (p : Prefix) (f : Heard → Talk Outcome) (next : Heard → Then) → ((h : Heard) → f h ≡ thereafter (next h))
     → listen p >>= f ≡ ask (select p) (λ h. thereafter (unlessLong h (next h)))
 unfolding listen Walk.ask Talk.walking _>>=_ thereafter
@@ -145,7 +146,7 @@ walked-sim (going s) = refl
 walked-sim (ended (done ids)) = refl
 walked-sim (ended (stopped c)) = refl
 
--- The search's Select is the conversation's, and so is what follows on each thing heard.
+-- The search's Select is the conversation's, and both go on alike, whatever is heard.
 pub search-step : (s : Search) → resumeSearch s ≡ ask (select (selected s)) (λ h. thereafter (hears s h))
 unfolding resumeSearch selected hears thereafter selectOnly deselect attach Talk.walking _>>=_
 search-step (probing bytes bits) = listen-sim (take bits (bitsOf bytes)) _ (λ h. ends (Talk.heard h)) (λ h. refl)
@@ -155,14 +156,14 @@ search-step (backing uid) = λ i. ask (select Walk.nobody) (λ h. backed-sim uid
 search-step (walking s) = ap (λ (w : Walk (List Id)). Talk.walking w >>= finding) (Refine.resume-step s)
     ∙ (λ i. ask (select (Machine.request s)) (λ h. walked-sim (Machine.step s h) i))
 
--- A test that refuses.
+-- A test that may refuse.
 refuseIf-sim : (b : Bool) (n : ℕ) (carries : List ℕ) (m : Talk Outcome) (t : Then) → m ≡ thereafter t
     → refuseIf b n carries >> m ≡ thereafter (cond b (refuses n carries) t)
 unfolding refuseIf thereafter _>>=_
 refuseIf-sim true n carries m t e = refl
 refuseIf-sim false n carries m t e = e
 
--- The one answer.
+-- A request with one answer.
 transact-sim : (d : Demand) (f : List ℕ × List ℕ → Talk Outcome) (j : Job)
     → ((payload image : List ℕ) → f (payload, image) ≡ resumed (accepted j payload image))
     → ((status : ℕ) → stop 2 (status ∷ []) ≡ thereafter (declined j status))
@@ -256,7 +257,7 @@ module _ (info : Info) (s : sound info ≡ true) where
       ∙ refuseIf-sim (spansTooFar info) 19 [] _ (working (erasing why info 0))
       (more-erases why 0 (sound-sizes info s .capacity))
 
--- What follows Info.
+-- The rest of the conversation after the Info.
 afterInfo : Purpose → Info → List ℕ → Talk Outcome
 afterInfo tell info image = known info
 afterInfo clear info image = eraseAll info >> known info
@@ -312,7 +313,7 @@ verified-sim info payload image =
     go true = refl
     go false = refl
 
--- A Write, how often it may be repeated yet, and what follows it.
+-- A Write that may still be repeated some times, and what follows it.
 module _ (n : ℕ) (info : Info) (offset : ℕ) (s : sound info ≡ true) where
   counted : Talk Outcome
   counted = report (offset / chunk (info .maxPayload) + 1) (steps (chunk (info .maxPayload)) (padded n))
@@ -342,7 +343,7 @@ module _ (n : ℕ) (info : Info) (offset : ℕ) (s : sound info ≡ true) where
           rw k
       go false more e = refl
 
--- The job's request is the conversation's, and so is what follows on each answer.
+-- The job's request is the conversation's, and both go on alike after each answer.
 pub job-step : (j : Job) → SoundJob j
     → resumeJob j ≡ ask (demand (demanded j)) (λ a. resumed (told j (a .reply) (a .image)))
 unfolding resumeJob demanded accepted declined resumed reporting thereafter inform eraseOne persist verify reset _>>=_
@@ -362,7 +363,7 @@ job-step (verifying n info) s =
 job-step (resetting bootloader baud) s =
     transact-sim (resetRequest bootloader baud) _ (resetting bootloader baud) (λ payload image. refl) (λ status. refl)
 
--- The phase's request is the conversation's, and so is what follows on each answer.
+-- The phase's request is the conversation's, and both go on alike after each answer.
 pub resume-step : (ph : Phase) → Sound ph → resume ph ≡ ask (request ph) (λ a. resumed (step ph a))
 unfolding resume step resumed reporting thereafter reset
 resume-step (selecting s) k = search-step s

@@ -1,4 +1,4 @@
--- How long a conversation's requests are: no operation's request has more than 1,036 bytes.
+-- How long requests are: no request of an operation has more than 1,036 bytes.
 use Prim.Native.Nat.{ℕ, zero, suc, _+_, _-_, _/_, _≤_}
 use mathlib.Core.Bool.{Bool, true, false, not, cond}
 use mathlib.Core.List.{List, [], _∷_, _++_}
@@ -37,7 +37,7 @@ payload-size (piece offset k) image = piece-length image offset k
 demand-size : (d : Demand) (image : List ℕ) → length (payloadOf (d .payload) image) ≡ carried (d .payload)
 demand-size d image = payload-size (d .payload) image
 
--- Whatever the seed and the image lent.
+-- The length of a request depends neither on the seed nor on the image lent.
 pub asked-size : (q : Ask) (seed : ℕ) (image : List ℕ) → length (bytesOf q seed image) ≡ sizeOf q
 unfolding bytesOf sizeOf selectPayload
 asked-size (select p) seed image =
@@ -51,13 +51,13 @@ Returns (stop c carries) = ⊥
 Returns (report a b m) = ⊥
 Returns (ask q f) = ⊥
 
--- A request whose answer is not awaited is the last.
+-- After a request whose answer is not awaited, the conversation returns.
 abbrev pub Lasts : {A : Type 0} → (q : Ask) → (AnswerTo q → Talk A) → Type 0
 Lasts (select p) f = Unit {0}
 Lasts (demand d) f = Unit {0}
 Lasts (leave d) f = Returns (f tt)
 
--- Whatever is answered, each request has at most so many bytes.
+-- Whatever is answered, each request has at most `most` bytes, and one whose answer is not awaited is the last.
 abbrev pub Modest : {A : Type 0} → ℕ → Talk A → Type 0
 Modest most (return a) = Unit {0}
 Modest most (stop c carries) = Unit {0}
@@ -65,7 +65,7 @@ Modest most (report a b m) = Modest most m
 Modest most (ask q f) = (sizeOf q ≤ most) × (Lasts q f × ((a : AnswerTo q) → Modest most (f a)))
 
 module _ (most : ℕ) where
-  -- Of an operation's parts no request is the last.
+  -- The same of a part of an operation, in which every answer is awaited.
   abbrev Going : {A : Type 0} → Talk A → Type 0
   Going (return a) = Unit {0}
   Going (stop c carries) = Unit {0}
@@ -114,6 +114,7 @@ module _ (most : ℕ) where
   going-some none m f h g = h
   going-some (some a) m f h g = g a
 
+-- The longest request: a Write of 1,024 bytes.
 abbrev pub room : ℕ
 room = 1036
 
@@ -165,7 +166,7 @@ prepare-going n =
     (going-refuseIf room (incompatible (r .0) (r .1)) 6 _) (λ _.
     going-bind room (eraseAll (r .0)) _ (erase-all-going (r .0)) (λ _. tt))))
 
--- The Selects of a walk.
+-- Each Select of a walk has at most 129 bits.
 abbrev Brief : {A : Type 0} → Walk A → Type 0
 Brief (Walk.return a) = Unit {0}
 Brief (Walk.stop c) = Unit {0}
@@ -244,7 +245,7 @@ deselect-going : Going room deselect
 unfolding deselect sizeOf nobody
 deselect-going = (omega arith, λ _. tt)
 
--- The operations.
+-- Each operation.
 pub select-modest : (p : Prefix) → length p ≤ 129 → Modest room (selectOnly p)
 unfolding selectOnly
 select-modest p h = going-modest room (selectOnly p) (going-bind room (listen p) _ (listen-going p h) (λ _. tt))

@@ -1,4 +1,4 @@
--- What holds of every way a conversation can go: a rule for each form, and what follows for any events.
+-- Rules to prove what holds of every way a conversation can go: one for each form, and what follows for any events.
 use Prim.Native.Nat.{ℕ}
 use mathlib.Core.Bool.{Bool, true, false}
 use mathlib.Core.List.{List, [], _∷_}
@@ -12,7 +12,7 @@ use Rattle.paper.specs.Flash.{accepted, transact, refuseIf}
 use Rattle.theory.specs.FlashOrder.{Exchange, met, Past, Event, Stand, returned, refused, lost, pending}
 use Rattle.theory.specs.FlashOrder.{readEvent, play, asks, everything, Kept, Stands}
 
--- Whatever is answered: each request is as R says of the past and of it, and a value returned is as Q says.
+-- Whatever is answered, each request satisfies R with the exchanges before it, and a value returned satisfies Q.
 abbrev pub Always : {A : Type 0} → (Past → Ask → Type 0) → (Past → A → Type 0) → Past → Talk A → Type 0
 Always R Q past (return a) = Q past a
 Always R Q past (stop c carries) = Unit {0}
@@ -30,7 +30,7 @@ module _ (R : Past → Ask → Type 0) where
   always-bind Q S past (ask q m) f h g =
       (h .0, λ a. always-bind Q S (record { asked = q; answer = a } ∷ past) (m a) f (h .1 a) g)
 
-  -- A loop, by what holds before the members that are left.
+  -- A loop, with an invariant I on the members that are left and the exchanges so far.
   pub always-each : (I : List ℕ → Past → Type 0) (f : ℕ → Talk (Unit {0}))
       → ((x : ℕ) (xs : List ℕ) (p : Past) → I (x ∷ xs) p → Always R (λ p′ _. I xs p′) p (f x))
       → (xs : List ℕ) (past : Past) → I xs past → Always R (λ p _. I [] p) past (each xs f)
@@ -52,7 +52,7 @@ module _ (R : Past → Ask → Type 0) where
   always-test S past true c v h = tt
   always-test S past false c v h = h refl
 
-  -- Only Ok goes on.
+  -- Only an answer of status Ok goes on.
   pub always-transact : {B : Type 0} (S : Past → B → Type 0) (past : Past) (d : Demand) (f : List ℕ × List ℕ → Talk B)
       → R past (demand d)
       → ((payload image : List ℕ) → Always R S (met d (ok payload) image ∷ past) (f (payload, image)))
@@ -64,7 +64,8 @@ module _ (R : Past → Ask → Type 0) where
       go (ok payload) image = g payload image
       go (device status) image = tt
 
-  -- After any events: all that was asked was as R says then, and so is what is out; a value returned is as Q says.
+  -- After any events, each request satisfied R when it was asked, and so does the one that is out. A value returned
+  -- satisfies Q.
   pub play-kept : {A : Type 0} (Q : Past → A → Type 0) (m : Talk A) (es : List Event) (past : Past) → Always R Q past m
       → Kept R past
       → Kept R (play m es past .0) × Stands R Q (play m es past .0) (play m es past .1)
@@ -85,7 +86,7 @@ module _ (R : Past → Ask → Type 0) where
       go none more = (k, h .0)
       go (some a) more = more a
 
-  -- What follows of all that was asked, the request that is out included.
+  -- A property of all requests asked, including the one that is out.
   pub all-asked : {A : Type 0} (Q : Past → A → Type 0) (P : Past → List Ask → Type 0) → P [] []
       → ((past : Past) (q : Ask) → R past q → P past (q ∷ asks past))
       → ((past : Past) (x : Exchange) → R past (x .asked) → P (x ∷ past) (asks (x ∷ past)))

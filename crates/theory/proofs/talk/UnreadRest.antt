@@ -1,4 +1,4 @@
--- The unread rest: bytes after the answer change nothing of it, so a host may hand them in now or with its next record.
+-- Bytes after an answer do not change it, so a host may hand them in with it or with its next record.
 use Prim.Native.Nat.{ℕ, zero, suc, _+_, _<_, _≤_}
 use mathlib.Core.Bool.{Bool, true, false, cond}
 use mathlib.Core.List.{List, [], _∷_, _++_, append-assoc}
@@ -20,7 +20,7 @@ use Rattle.paper.specs.Client.{Left, waiting, Client, Told, Asked, proceed, ref
 use Rattle.paper.specs.Client.{reading, place, fails, request, record′}
 use Rattle.theory.specs.RestKept.{Round, hostRun}
 
--- A reading of which this is known.
+-- What the reader returns, from what is known of the frame.
 known-read : (s : List ℕ) (k : ℕ) (f : Frame) (right : Bool) → Read s k f right → read s ≡ framed right k f
 unfolding read readSynced readSized
 known-read s k f right h =
@@ -45,7 +45,7 @@ known-read s k f right h =
     go true = ap (whole k) (sym (h .frame))
     go false = ap (badCheck k) (sym (h .frame))
 
--- More bytes at the end.
+-- More bytes at the end of a record.
 module _ (x : List ℕ) where
   part-appends : (at k : ℕ) (t : List ℕ) → at + k ≤ length t → take k (drop at (t ++ x)) ≡ take k (drop at t)
   part-appends at k t h = ap (take k) (drop-append-le at t x (omega arith))
@@ -147,7 +147,7 @@ module _ (x : List ℕ) where
       → rest (s ++ x) end ≡ rest s end ++ x
   rest-appends s r end e = drop-append-le end s x (answer-end s r end e)
 
--- A record handed in to a client, by what is left of its operation.
+-- The answer to a record handed in to a client, by what is left of its operation.
 module _ (c : Client) (image : List ℕ) where
   tells : Left → List ℕ → Told
   tells left bytes =
@@ -163,7 +163,7 @@ module _ (c : Client) (image : List ℕ) where
   tells-same bytes = refl
 
   module _ (d : Demand) (f : Answered → Talk Outcome) (out : c .left ≡ waiting (demand d) f) where
-    -- By the answer alone.
+    -- It depends on the record only through the answer in it.
     record-answered : (bytes : List ℕ) (r : Reply) (end : ℕ) → answer bytes ≡ answered r end
         → record′ c image bytes ≡ cond (otherLength (c .image) image) (refuses c 20 [])
         (proceed c none (f (record { reply = r; image = image })) end)
@@ -190,7 +190,7 @@ module _ (c : Client) (image : List ℕ) where
         go true = omega arith
         go false = omega (arith, proceed-rest none (f (record { reply = r; image = image })) end, answer-end a r end e)
 
--- Of a host's rest and the bytes heard then, only their sequence counts.
+-- A host's kept rest and the bytes heard after it count only as one sequence.
 host-joined : (c : Client) (kept x image buffer heard : List ℕ) (rs : List Round)
     → hostRun c (kept ++ x) (record { image = image; buffer = buffer; heard = heard } ∷ rs)
     ≡ hostRun c kept (record { image = image; buffer = buffer; heard = x ++ heard } ∷ rs)
@@ -214,7 +214,7 @@ module _ (c : Client) (kept image buffer heard x : List ℕ) (d : Demand) (f : A
             (record-rest (request c image buffer .client) image d f out (kept ++ heard) r end e),
       )
 
-  -- Bytes that follow the answer: handed in with it, or with the next record.
+  -- Bytes after the answer may be handed in with it or with the next record.
   pub host-moves : (image₂ buffer₂ heard₂ : List ℕ) (rs : List Round)
       → hostRun c kept (record { image = image; buffer = buffer; heard = heard ++ x }
       ∷ record { image = image₂; buffer = buffer₂; heard = heard₂ } ∷ rs)

@@ -1,4 +1,4 @@
--- Whatever is heard, a discovery under p bits ends after at most 132 + 260 * (128 - p) Selects.
+-- A discovery under a prefix of p bits ends after at most 132 + 260 * (128 - p) Selects, whatever is heard.
 use Prim.Native.Nat.{ℕ, zero, suc, _+_, _-_, _*_, _≤_, _<_}
 use mathlib.Core.Bool.{Bool, true, false, not, cond, true≢false}
 use mathlib.Core.List.{List, [], _∷_, _++_}
@@ -14,6 +14,7 @@ use Rattle.paper.specs.Walk.{walk, sort, nobody, discover, Wire, Ended, done, s
 use Rattle.theory.proofs.walk.WalkRules.{Always, always-run, always-weaken, always-bind, always-ask}
 use Rattle.theory.proofs.walk.WalkRuns.{down, walk-judge, walk-nothing}
 
+-- At most m Selects were sent, however the conversation ended.
 unfoldable pub Within : {A : Type 0} → ℕ → Ended A → ℕ → Type 0
 Within m e c = c ≤ m
 
@@ -31,8 +32,9 @@ confirm-bound pre id k = go (matches pre id)
     go true = rest (drop (length pre) (bitsOf id))
     go false = omega arith
 
--- A branch with n levels below it, entered with a ids kept and left with c Selects sent: it has kept at least one more,
--- at 4 n for each; or it has stopped the discovery.
+-- A branch with n levels below it, entered with a ids kept; at its end c Selects have been sent, counted against k. If
+-- it is done, it has kept at least one more id, and has taken at most 4 n Selects for each new one. If it has stopped
+-- the discovery, c is at most k + 259 n - 4 n a.
 Spent : ℕ → ℕ → ℕ → Ended (List Id) → ℕ → Type 0
 Spent n a k (done ids) c = (a < length ids) × (length ids ≤ 64) × (c + 4 * (n * a) ≤ k + 4 * (n * length ids))
 Spent n a k (stopped r) c = c + 4 * (n * a) ≤ k + 259 * n
@@ -72,6 +74,7 @@ judge-bound n k pre ids garble below le e d =
     always-weaken (Spent n (length ids) k) (Spent n (length ids) (k + 2)) k below (d k)
     (later n (length ids) k (k + 2) (omega arith))
 
+-- The bound for a walk of any prefix that can grow by n bits and is not silent.
 abbrev Walks : ℕ → Type 0
 Walks n = (k : ℕ) (pre : Prefix) (ids : List Id) (h : Heard) → length ids ≤ 64 → isNothing h ≡ false
     → Always (Spent n (length ids) (k + 2)) k (walk n pre ids h)
@@ -87,7 +90,7 @@ module _ (n k : ℕ) (pre : Prefix) (ids : List Id) (le : length ids ≤ 64) (ih
       more (done js) c s = (s .0, s .1, omega arith)
       more (stopped r) c s = omega arith
 
-  -- The zero child has left the ids js, and the one child is heard.
+  -- After the zero child the ids js are kept, and the one child is not silent.
   loud : (js : List Id) (c : ℕ) → Spent n (length ids) (suc k + 2) (done js) c → (o : Heard) → isNothing o ≡ false
       → Always (Spent (suc n) (length ids) k) (suc c) (walk n (pre ▹ true) js o)
   unfolding Spent

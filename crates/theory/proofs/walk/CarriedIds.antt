@@ -1,5 +1,5 @@
--- A heard id consists of bytes of its record, of few; what holds of every id heard holds of every id that the walk
--- carries.
+-- What holds of every id heard holds of every id that the walk carries. An id heard consists of bytes of its record, at
+-- most 1,024 of them.
 use Prim.Native.Nat.{ℕ, zero, suc, _≤_}
 use mathlib.Core.Bool.{Bool, true, false, _&&_, cond}
 use mathlib.Core.List.{List, [], _∷_, _++_}
@@ -29,7 +29,7 @@ Telling P (one id) = P id
 Telling P unaddressed = Unit {0}
 Telling P garble = Unit {0}
 
--- What holds of the payload of each frame read whole, in records of which Q holds, holds of the id that is heard.
+-- Q holds of the record. If P holds of the payload of every whole frame in such records, it holds of the id heard.
 module _ (P : Id → Type 0) (Q : List ℕ → Type 0) (rest : (k : ℕ) (s : List ℕ) → Q s → Q (drop k s))
     (payload : (s : List ℕ) (k : ℕ) (f : Frame) → Q s → read s ≡ whole k f → P (f .payload)) where
   abbrev Laden : List Frame → Type 0
@@ -99,12 +99,12 @@ payload-bytes s k f h e = rw (read-known s k f true e .frame)
 pub heard-bytes : (s : List ℕ) → Bytes s → Telling Bytes (hear s)
 heard-bytes = heard-laden Bytes Bytes bytes-drop payload-bytes
 
--- Whatever the record is: no frame carries more than 1,024 bytes.
+-- In any record: no frame carries more than 1,024 bytes.
 pub heard-small : (s : List ℕ) → Telling (λ x. length x ≤ most) (hear s)
 heard-small s = heard-laden (λ x. length x ≤ most) (λ r. Unit {0}) (λ k r h. tt)
     (λ r k f h e. read-known r k f true e .small) s tt
 
--- The ids of a state.
+-- P holds of the ids of a phase, of a state, and of what follows a step.
 abbrev pub OfPhase : (Id → Type 0) → Phase → Type 0
 OfPhase P asked = Unit {0}
 OfPhase P (mine id) = P id

@@ -1,4 +1,5 @@
--- Acceptance condition 3, of the machine.
+-- Acceptance condition 3 for the walk machine: it ends within the limit, and on an honest wire finds exactly the ids
+-- that match.
 use Prim.Native.Nat.{ℕ, _+_, _-_, _*_, _≤_}
 use mathlib.Core.List.{List}
 use mathlib.Core.Path.{_≡_, sym, _∙_, ap}
@@ -16,14 +17,14 @@ use Rattle.theory.proofs.walk.OneLength.{discover-exact}
 use Rattle.theory.proofs.walk.MachineIsWalk.{machine-discovers}
 use Rattle.theory.proofs.walk.SelectsSent.{Alike}
 
--- Whatever is heard: the machine has ended within the limit, as the discovery ends and after as many Selects.
+-- Whatever is heard, the machine ends within the limit, as the discovery does and after the same number of Selects.
 pub ends : (wire : Wire) (pre : Prefix)
     → (drive (limit pre) wire 0 (start pre) ≡ (ended ((run wire 0 (discover pre)) .0), (run wire 0 (discover pre)) .1))
     × ((run wire 0 (discover pre)) .1 ≤ limit pre)
 ends wire pre = (machine-discovers wire pre, discover-bound wire pre)
 
--- On an honest wire: exactly the ids that match, sorted, after exactly the Selects counted with each id's own length,
--- and those are few.
+-- On an honest wire it finds exactly the ids that match, sorted, after exactly the Selects counted with each id's own
+-- length. For n ids of at most L bytes the count is at most 2 + n * (8 L - p + 2).
 pub finds-apart : (wire : Wire) (S : List Id) (L : ℕ) (pre : Prefix) → Alike wire (honest S) pre → length pre ≤ 128
     → Apart (matching pre S)
     → All (λ x. length x ≤ L) (matching pre S)
@@ -46,7 +47,8 @@ finds wire S L pre h le pods = (
   selects-most S L pre pods,
 )
 
--- Whatever is heard: what the machine lists begins with the prefix, is in order, and holds no id that begins another.
+-- Whatever is heard, the ids that the machine lists begin with the prefix and are sorted, and none is a prefix of
+-- another.
 pub lists : (wire : Wire) (pre : Prefix) (ids : List Id) (c : ℕ)
     → drive (limit pre) wire 0 (start pre) ≡ (ended (done ids), c) → Listed pre ids
 lists wire pre ids c e =

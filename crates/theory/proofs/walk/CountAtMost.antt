@@ -1,4 +1,4 @@
--- The count is at most 2 + n * (8 L - p + 2) for n ids of at most L bytes.
+-- For n ids of at most L bytes under a prefix of p bits, the count of Selects is at most 2 + n * (8 L - p + 2).
 use Prim.Native.Nat.{ℕ, zero, suc, _+_, _-_, _*_, _≤_}
 use mathlib.Core.Bool.{Bool, true, false, cond}
 use mathlib.Core.List.{List, [], _∷_}
@@ -41,7 +41,7 @@ fork-arith : (f s₀ s₁ c₀ c₁ m : ℕ) → f ≤ 2 → 2 ≤ c₀ + c₁ �
 fork-arith f s₀ s₁ c₀ c₁ m h g a b = omega arith
 
 module _ (S : List Id) (L : ℕ) where
-  -- The ids under a prefix have at most L bytes.
+  -- The ids that match a prefix have at most L bytes.
   abbrev Within : Prefix → Type 0
   Within q = All (λ x. length x ≤ L) (matching q S)
 

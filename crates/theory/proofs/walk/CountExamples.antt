@@ -1,4 +1,4 @@
--- The examples of condition 3, by computation and by the paper's count; and two of ids that begin one another.
+-- The examples of condition 3, by running them and by document 01's count; and two where one id is a prefix of another.
 use Prim.Native.Nat.{ℕ, _≤_, _<_}
 use mathlib.Core.List.{List, [], _∷_}
 use mathlib.Core.Path.{_≡_, refl, sym, _∙_, ap}
@@ -10,7 +10,7 @@ use Rattle.paper.specs.Walk.{_>>=_, long, ask, isNothing, sameId, isOne, confir
 use Rattle.paper.specs.Walk.{insert, sort, discover, done, stopped, run}
 use Rattle.theory.proofs.walk.OneLength.{discover-exact}
 
--- The ids on an honest wire, how long they are, and the prefix; the ids found and the Selects.
+-- An example: the ids on an honest wire, their length, and the prefix; then the ids found and the Selects taken.
 pub record Row : Type 0 where
   pub ids : List Id
   pub bytes : ℕ
@@ -63,7 +63,7 @@ unfolding rows discover run honest heardOf matching sort insert before walk judg
     isNothing ask long _>>=_ bitsOf counting bit begins sameId
 runs = (refl, (refl, (refl, (refl, (refl, tt)))))
 
--- No computation could sum over all prefixes: the count is what was run.
+-- The count sums over all prefixes, too many to compute. It follows from the run.
 abbrev Counts : Row → Type 0
 Counts r = selects (r .ids) (r .bytes) (r .under) ≡ r .takes
 
@@ -115,13 +115,13 @@ counts = (
   ),
 )
 
--- 00 begins 00ff: where both match, the zero child is silent, and from there on nothing ends the descent.
+-- 00 is a prefix of 00ff. Below 00 every zero child is silent, so every one child counts as garble, down to 128 bits.
 pub begun-stops : run (honest ((0x00 ∷ []) ∷ (0x00 ∷ 0xff ∷ []) ∷ [])) 0 (discover []) ≡ (stopped 12, 129)
 unfolding discover run honest heardOf matching sort insert before walk judge keep confirm confirmRest isOne isNothing
     ask long _>>=_ bitsOf counting bit begins sameId
 begun-stops = refl
 
--- 00 begins 0000: only 00 is lost.
+-- 00 is a prefix of 0000: 00 is not found, but 0000 is.
 pub begun-lost : run (honest ((0x00 ∷ []) ∷ (0x00 ∷ 0x00 ∷ []) ∷ [])) 0 (discover [])
     ≡ (done ((0x00 ∷ 0x00 ∷ []) ∷ []), 22)
 unfolding discover run honest heardOf matching sort insert before walk judge keep confirm confirmRest isOne isNothing

@@ -1,4 +1,4 @@
--- The sums of document 01's count.
+-- The sums in document 01's count of Selects: when prefixes add nothing, and whether an id adds 2.
 use Prim.Native.Nat.{ℕ, zero, suc, _+_, _-_, _≤_, _<_}
 use mathlib.Core.Bool.{Bool, true, false, _||_, or-true}
 use mathlib.Core.List.{List}

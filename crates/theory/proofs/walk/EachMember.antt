@@ -1,4 +1,4 @@
--- What holds of each member of a list.
+-- Rules for a property that holds of each member of a list.
 use Prim.Native.Nat.{ℕ, zero, suc}
 use mathlib.Core.List.{List, [], _∷_, _++_}
 use lib.ListN.{take}

@@ -1,5 +1,4 @@
--- On an honest wire a discovery finds exactly the ids that match, sorted, after exactly the Selects that are counted
--- from them.
+-- On an honest wire a discovery finds exactly the ids that match, sorted, after exactly the Selects counted from them.
 use Prim.Native.Nat.{ℕ, zero, suc, _+_, _-_, _*_, _≤_, _<_}
 use mathlib.Core.Bool.{Bool, true, false, not, cond}
 use mathlib.Core.List.{List, [], _∷_, _++_}
@@ -26,7 +25,7 @@ use Rattle.theory.proofs.walk.WalkRuns.{down, walk-judge, walk-nothing,
 use Rattle.theory.proofs.walk.SelectsSent.{Alike, discover-alike}
 use Rattle.theory.proofs.walk.SortedIds.{insertAll, sort-snoc, sort-insertAll}
 
--- Several ids match every shorter prefix of at least p bits.
+-- Several ids match the first j bits of q, for each j of at least p and below the length of q.
 abbrev Deep : List Id → ℕ → Prefix → Type 0
 Deep ids p q = (j : ℕ) → p ≤ j → j < length q → 1 < count ids (take j q)
 
@@ -40,10 +39,11 @@ deep-child S p q b d c j h l =
         let n : j ≡ length q = omega (arith, ltb-false j (length q) e, length-append q (b ∷ [])) in
         rw (n, take-length q) c
 
+-- The Selects that the count gives for the walk of q, after q itself was selected.
 abbrev spent : List Id → ℕ → ℕ → Prefix → ℕ
 spent S p n q = sumOver (ownAlone S p) (matching q S) + sumUnder (suc n) q (forked S)
 
--- What the walk of a prefix comes to, from ids kept and k Selects sent.
+-- The result of the walk of q, with some ids kept and k Selects sent before it.
 record Found (S : List Id) (p n : ℕ) (q : Prefix) (ids : List Id) (k : ℕ) : Type 0 where
   kept : List Id
   ran : run (honest S) k (walk n q ids (heardOf (matching q S))) ≡ (done kept, k + spent S p n q)
@@ -59,7 +59,7 @@ heard-many [] h = absurd (omega arith)
 heard-many (x ∷ []) h = absurd (omega arith)
 heard-many (x ∷ y ∷ zs) h = refl
 
--- 1 if some id matches the zero child, whose silence would spare a Select.
+-- 1 if some id matches the zero child. If none does, its silence saves a Select.
 abbrev extra : ℕ → ℕ
 extra n = cond (ltb 0 n) 1 0
 
@@ -232,7 +232,7 @@ discover-honest S pre le apart =
     total : suc (1 + spent S (length pre) (128 - length pre) pre) ≡ ownSelects S pre
     total = let n : 129 - length pre ≡ suc (128 - length pre) = omega arith in rw n (omega arith)
 
--- On every wire that lets the Selects sent be heard as an honest one does, whatever it is made of.
+-- The same on every wire that agrees with an honest wire on the Selects sent.
 pub discover-apart : (wire : Wire) (S : List Id) (pre : Prefix) → Alike wire (honest S) pre → length pre ≤ 128
     → Apart (matching pre S)
     → run wire 0 (discover pre) ≡ (done (sort (matching pre S)), ownSelects S pre)

@@ -1,4 +1,4 @@
--- The order of ids is total.
+-- The order of ids is a total order.
 use Prim.Native.Nat.{ℕ, _<_}
 use mathlib.Core.Bool.{Bool, true, false, true≢false, false≢true}
 use mathlib.Core.List.{[], _∷_}

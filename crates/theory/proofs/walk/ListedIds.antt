@@ -1,5 +1,5 @@
--- Whatever is heard, the ids that a discovery ends with begin with its prefix, none begins another, and they stand in
--- order.
+-- Whatever is heard, the ids that a discovery lists begin with its prefix and are sorted, and none is a prefix of
+-- another.
 use Prim.Native.Nat.{ℕ, zero, suc, _-_, _≤_, _<_}
 use mathlib.Core.Bool.{Bool, true, false, not, cond, false≢true, true≢false}
 use mathlib.Core.List.{List, [], _∷_, _++_, append-assoc, append-nil}
@@ -19,7 +19,7 @@ use Rattle.theory.proofs.walk.PrefixMatches.{begins-refl, begins-front,
 use Rattle.theory.proofs.walk.WalkRuns.{down, walk-judge}
 use Rattle.theory.proofs.walk.SortedIds.{sort-all, sort-length, sort-sorted, sort-separate}
 
--- The ids js are the ids kept before and new ones under q.
+-- The ids js are the ids kept before, and new ones that match q.
 record Grown (q : Prefix) (ids js : List Id) : Type 0 where
   new : List Id
   grown : js ≡ ids ++ new
@@ -58,7 +58,7 @@ separate-append : (xs ys : List Id) → Separate xs → Separate ys → All (λ 
 separate-append [] ys h g u = g
 separate-append (x ∷ xs) ys h g u = (all-append (Unlike x) xs ys (h .0) (u .0), separate-append xs ys (h .1) g (u .1))
 
--- What is kept under the zero child, then under the one child, is kept under the prefix.
+-- Ids kept under the zero child and then under the one child are kept under the prefix.
 both-grown : (q : Prefix) (ids js ks : List Id) → Grown (q ▹ false) ids js → Grown (q ▹ true) js ks → Grown q ids ks
 both-grown q ids js ks z o = record {
   new = z .new ++ o .new;
@@ -144,7 +144,7 @@ walk-grows (suc n) q ids h k le e =
             (ih (q ▹ false) ids z (suc c) le l)
             (λ js d g. second js g (isNothing z) d) (λ r d s. tt)
 
--- What a discovery lists.
+-- What holds of the ids that a discovery lists.
 pub record Listed (pre : Prefix) (ids : List Id) : Type 0 where
   pub apart : Apart ids
   pub sorted : Sorted ids
@@ -175,7 +175,7 @@ discover-lists pre = always-ask (Lists pre) 0 pre _ heard tt
         (walk-grows (128 - length pre) pre [] h 1 (omega arith) l)
         (λ js c g x. grown-listed pre js g) (λ r c s. tt)
 
--- On every wire.
+-- It holds on every wire.
 pub kept-listed : (wire : Wire) (pre : Prefix) (ids : List Id) → (run wire 0 (discover pre)) .0 ≡ done ids
     → Listed pre ids
 kept-listed wire pre ids e = subst (λ r. Lists pre r ((run wire 0 (discover pre)) .1)) e

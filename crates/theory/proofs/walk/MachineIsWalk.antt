@@ -1,4 +1,4 @@
--- The machine does what the conversation says: on every wire the same end after the same Selects.
+-- The walk machine runs document 01's discovery: on every wire it ends the same way after the same Selects.
 use Prim.Native.Nat.{ℕ, zero, suc, _+_, _-_, _≤_}
 use mathlib.Core.Bool.{Bool, true, false, _&&_, not, cond}
 use mathlib.Core.List.{List, [], _∷_, _++_}
@@ -32,23 +32,25 @@ module _ (pre : Prefix) where
   farewell : List Id → Walk (List Id)
   farewell ids = select nobody (λ _. return (sort ids))
 
-  -- What is left of the conversation when the branch at the marks has ended with ids kept.
+  -- The rest of the conversation after the branch at these marks has ended with these ids kept.
   unwind : Marks → List Id → Walk (List Id)
   unwind [] = farewell
   unwind (false ∷ marks) = λ ids.
       (ask (path pre marks ▹ true) >>= λ o. walk (left (true ∷ marks)) (path pre marks ▹ true) ids o) >>= unwind marks
   unwind (true ∷ marks) = unwind marks
 
-  -- An id that both children have been asked for.
+  -- The rest of a branch after both children were selected to confirm an id: keep the id, or go on below.
   settle : Marks → List Id → Id → Bool → Walk (List Id)
   settle marks ids id held = cond held (keep ids id) (down (left marks) (path pre marks) ids)
 
+  -- The rest of the conversation from the Select of the path.
   listen : Marks → List Id → Walk (List Id)
   listen [] ids = (ask pre >>= λ h. walk (left []) pre ids h) >>= farewell
   listen (false ∷ marks) ids = down (suc (left (false ∷ marks))) (path pre marks) ids >>= unwind marks
   listen (true ∷ marks) ids = (ask (path pre marks ▹ true) >>= λ o. walk (left (true ∷ marks))
       (path pre marks ▹ true) ids o) >>= unwind marks
 
+  -- The rest of the conversation from the Select of a phase.
   resumes : Marks → List Id → Phase → Walk (List Id)
   resumes marks ids asked = listen marks ids
   resumes marks ids (mine id) = ((do
@@ -63,7 +65,7 @@ module _ (pre : Prefix) where
 pub resume : State → Walk (List Id)
 resume s = resumes (s .pre) (s .marks) (s .ids) (s .phase)
 
--- A machine's place in the conversation.
+-- The rest of the conversation after a step of the machine.
 unfoldable pub resumed : Next → Walk (List Id)
 resumed (going s) = resume s
 resumed (ended (done ids)) = return ids
@@ -139,7 +141,7 @@ module _ (pre : Prefix) where
   unfolding judge _>>=_
   unaddressed-sim marks ids = rw (walk-judge (left pre marks) (path pre marks) ids unaddressed)
 
-  -- What the path holds, where it is no zero child.
+  -- The step on what is heard for the path, if that is not a zero child.
   hears-sim : (marks : Marks) (ids : List Id) → silent pre marks ids ≡ leave pre marks ids → (h : Heard)
       → walk (left pre marks) (path pre marks) ids h >>= unwind pre marks ≡ resumed (hears pre marks ids h)
   unfolding hears resumed
@@ -157,7 +159,7 @@ module _ (pre : Prefix) where
   unfolding unwind
   loud marks m = rw (level marks) (bind-assoc m _ _)
 
-  -- What a zero child holds.
+  -- The step on what is heard for a zero child.
   zero-sim : (marks : Marks) (ids : List Id) (z : Heard)
       → (walk (left pre (false ∷ marks)) (path pre marks ▹ false) ids z >>= λ ids₁. cond (isNothing z) (return garble)
       (ask (path pre marks ▹ true)) >>= λ o.
@@ -173,7 +175,7 @@ module _ (pre : Prefix) where
   zero-sim marks ids garble = loud marks (walk (left pre (false ∷ marks)) (path pre marks ▹ false) ids garble)
       ∙ garble-sim (false ∷ marks) ids
 
--- An answer, refused for its length or not.
+-- The step on what is heard, which is refused with 14 if the id is too long.
 ask-sim : (p : Prefix) (f : Heard → Walk (List Id)) (next : Heard → Next) → ((h : Heard) → f h ≡ resumed (next h))
     → ask p >>= f ≡ select p (λ h. resumed (cond (long h) (ended (stopped 14)) (next h)))
 unfolding ask _>>=_ resumed
@@ -215,7 +217,7 @@ module _ (pre : Prefix) where
       (λ h. settle-sim pre marks ids id (good && isNothing h))
   resumes-sim marks ids leaving = refl
 
--- The machine's Select is the conversation's, and so is what follows on each thing heard.
+-- The machine sends the conversation's Select, and both go on alike, whatever is heard.
 pub resume-step : (s : State) → resume s ≡ select (request s) (λ h. resumed (step s h))
 unfolding resume
 resume-step s = resumes-sim (s .pre) (s .marks) (s .ids) (s .phase)
@@ -230,13 +232,13 @@ run-later wire k (return a) = omega arith
 run-later wire k (stop c) = omega arith
 run-later wire k (select p f) = omega (arith, run-later wire (suc k) (f (wire k p)))
 
--- A Select of the machine's, as the conversation has it.
+-- One Select of the machine is one Select of the conversation.
 drive-select : (wire : Wire) (k : ℕ) (s : State)
     → run wire k (resumed (going s)) ≡ run wire (suc k) (resumed (step s (wire k (request s))))
 unfolding resumed run
 drive-select wire k s = ap (run wire k) (resume-step s)
 
--- With enough Selects the machine ends as the conversation does, after as many.
+-- With enough Selects the machine ends as the conversation does, after the same number of them.
 drive-run : (n : ℕ) (wire : Wire) (k : ℕ) (next : Next) → (run wire k (resumed next)) .1 ≤ k + n
     → drive n wire k next ≡ (ended ((run wire k (resumed next)) .0), (run wire k (resumed next)) .1)
 unfolding drive run resumed
@@ -254,7 +256,7 @@ drive-run (suc n) wire k (going s) h =
     drive-run n wire (suc k) (step s (wire k (request s))) (omega arith)
     ∙ ap (λ r. (ended (r .0), r .1)) (sym (drive-select wire k s))
 
--- On every wire the machine ends as the discovery does, after the same Selects, which are within the limit.
+-- On every wire the machine ends within the limit, as the discovery does and after the same number of Selects.
 pub machine-discovers : (wire : Wire) (pre : Prefix)
     → drive (limit pre) wire 0 (start pre) ≡ (ended ((run wire 0 (discover pre)) .0), (run wire 0 (discover pre)) .1)
 machine-discovers wire pre = rw (resume-start pre)

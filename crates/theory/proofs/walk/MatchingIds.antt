@@ -1,4 +1,4 @@
--- The ids that match a prefix, and how they part between its children.
+-- The ids that match a prefix, and how they divide between its children.
 use Prim.Native.Nat.{ℕ, suc, _+_, _*_, _≤_, _<_}
 use mathlib.Core.Bool.{Bool, true, false, cond, true≢false}
 use mathlib.Core.List.{List, [], _∷_, _++_}
@@ -34,7 +34,7 @@ matching-matching q r (x ∷ xs) = go (matching-matching q r xs) (matches q x) r
     go ih false e true f = absurd (true≢false (sym (begins-front q r (bitsOf x) f) ∙ e))
     go ih false e false f = ap (matching (q ++ r)) (matching-not q x xs e) ∙ ih ∙ sym (matching-not (q ++ r) x xs f)
 
--- Under a prefix that extends q, only ids under q count.
+-- For a prefix that extends q, only the ids that match q matter.
 pub matching-extends : (q r : Prefix) (xs : List Id) → begins q r ≡ true → matching r (matching q xs) ≡ matching r xs
 matching-extends q r xs e = rw (begins-splits q r e) at (matching-matching q (drop (length q) r) xs)
 
@@ -80,7 +80,7 @@ length-matching q (x ∷ xs) = go (length-matching q xs) (matches q x)
 pub count-child : (ids : List Id) (q : Prefix) (b : Bool) → count ids (q ▹ b) ≤ count ids q
 count-child ids q b = rw (← matching-matching q (b ∷ []) ids) (length-matching (q ▹ b) (matching q ids))
 
--- What the walk knows of the ids under a prefix.
+-- What the walk relies on about the ids that match a prefix.
 pub record Under (q : Prefix) (xs : List Id) : Type 0 where
   pub matched : All (λ x. matches q x ≡ true) xs
   pub separate : Separate xs
@@ -93,7 +93,7 @@ under-child q r ids u = subst (Under (q ++ r)) (matching-matching q r ids) (reco
   short = all-matching (q ++ r) _ (matching q ids) (u .short);
 })
 
--- An id that goes on after the prefix matches one of its children.
+-- An id that matches a prefix and has more bits matches exactly one child of the prefix.
 pub data Side (q : Prefix) (x : Id) : Type 0 where
   zero-side : matches (q ▹ false) x ≡ true → matches (q ▹ true) x ≡ false → Side q x
   one-side : matches (q ▹ false) x ≡ false → matches (q ▹ true) x ≡ true → Side q x
@@ -108,7 +108,7 @@ side q x h m = go (drop (length q) (bitsOf x)) refl
     go (true ∷ rest) e = one-side (begins-child q (bitsOf x) true rest m e false)
         (begins-child q (bitsOf x) true rest m e true)
 
--- A prefix of two ids, where the first does not begin the other, is shorter than the first.
+-- A prefix that matches two ids, the first of which is no prefix of the second, is shorter than the first.
 shorter : (q : Prefix) (x y : Id) → matches q x ≡ true → matches q y ≡ true → matches (bitsOf x) y ≡ false
     → length q < 8 * length x
 shorter q x y m n u = go (ltb (length q) (8 * length x)) refl

@@ -1,4 +1,5 @@
--- Distinct ids of one length: none begins another, and a discovery takes exactly the Selects of the paper's count.
+-- Distinct ids of one length: none is a prefix of another, and a discovery takes exactly document 01's count of
+-- Selects.
 use Prim.Native.Nat.{ℕ, _+_, _-_, _*_, _≤_, _<_}
 use mathlib.Core.Bool.{Bool, true, false}
 use mathlib.Core.List.{List, [], _∷_}

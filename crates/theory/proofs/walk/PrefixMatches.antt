@@ -1,4 +1,4 @@
--- When a prefix matches an id: shorter prefixes, children, and whole ids.
+-- When a prefix matches an id: rules for shorter prefixes, for children, and for whole ids.
 use Prim.Native.Nat.{ℕ, zero, suc, _+_, _/_, _%_, _^_, _≤_, _<_}
 use mathlib.Core.Bool.{Bool, true, false, not, Bool·beq, and-eq-true-iff, and-true, false≢true}
 use mathlib.Core.List.{List, [], _∷_, _++_}
@@ -78,7 +78,7 @@ begins-splits q xs e = ap (λ (r : List Bool). r ++ drop (length q) xs) (sym (be
 pub begins-whole : (q xs : List Bool) → begins q xs ≡ true → length xs ≤ length q → q ≡ xs
 begins-whole q xs e h = sym (begins-take q xs e) ∙ take-all (length q) xs h
 
--- Lists that go on differently after the same bits.
+-- Two lists that differ in the bit after q: the first does not begin the second.
 pub begins-parted : (q xs ys : List Bool) (b : Bool) → begins (q ▹ b) xs ≡ true → begins (q ▹ not b) ys ≡ true
     → begins xs ys ≡ false
 unfolding begins
@@ -113,7 +113,7 @@ module _ (a b : ℕ) (e : counting (bit (a ∷ [])) 0 8 ≡ counting (bit (b ∷
           let n : (b / 2 ^ i % 2 ≡ 1 → ⊥) = eqb-false (b / 2 ^ i % 2) 1 f in
           omega arith
 
-  -- Bytes that are the same without their i lowest bits, and then with the next one.
+  -- The two bytes are equal without their i lowest bits: by induction, from i = 8 down.
   same-above : a < 256 → b < 256 → (k i : ℕ) → k + i ≡ 8 → a / 2 ^ i ≡ b / 2 ^ i
   same-above h g zero i n = let last : i ≡ 8 = omega arith in rw last (div-eq-of-lt h ∙ sym (div-eq-of-lt g))
   same-above h g (suc k) i n = half (a / 2 ^ i) (b / 2 ^ i)

@@ -1,4 +1,4 @@
--- The Selects that a discovery sends before its deselect; on two wires that let these be heard alike it ends alike.
+-- Which Selects a discovery sends before its deselect; on two wires that agree on these it ends the same way.
 use Prim.Native.Nat.{ℕ, zero, suc, _+_, _-_, _≤_, _<_}
 use mathlib.Core.Bool.{Bool, true, false, not, cond}
 use mathlib.Core.List.{List, [], _∷_}
@@ -19,12 +19,12 @@ use Rattle.theory.proofs.walk.PrefixMatches.{begins-refl, begins-more}
 use Rattle.theory.proofs.walk.MachineIsWalk.{run-later}
 use Rattle.theory.proofs.walk.WalkRuns.{down, walk-judge}
 
--- A Select of a prefix that has P; or one that goes on in the same way whatever is heard, as the deselect does.
+-- The prefix selected satisfies P; or what is heard makes no difference, as for the deselect.
 pub data Heeds {A : Type 0} (P : Prefix → Type 0) (q : Prefix) (f : Heard → Walk A) : Type 0 where
   asks : P q → Heeds P q f
   ignores : ((g h : Heard) → f g ≡ f h) → Heeds P q f
 
--- Whatever is heard, each Select of the conversation is such a one.
+-- Whatever is heard, this holds of each Select of the conversation.
 abbrev pub Sends : {A : Type 0} → (Prefix → Type 0) → Walk A → Type 0
 Sends P (return a) = Unit {0}
 Sends P (stop c) = Unit {0}
@@ -51,7 +51,7 @@ module _ (P : Prefix → Type 0) where
   unfolding keep
   sends-keep ids x = either (Sends P) (ltb (length ids) 64) tt tt
 
-  -- A conversation that ends after at most n Selects, on wires that let the prefixes that have P be heard alike.
+  -- Two wires agree on the prefixes that satisfy P: a conversation of at most n Selects runs alike on both.
   alike-run : {A : Type 0} (n : ℕ) (v w : Wire) → ((k : ℕ) (q : Prefix) → k < n → P q → v k q ≡ w k q)
       → (k : ℕ) (m : Walk A) → Sends P m → Always (Within n) k m
       → run v k m ≡ run w k m
@@ -133,7 +133,7 @@ module _ (pre : Prefix) where
       (walk-sends (128 - length pre) pre [] h (omega arith) (begins-refl pre) short)
       (λ ids. (ignores (λ f g. refl), λ g. tt)))
 
--- Two wires that let every Select be heard alike that a discovery under this prefix sends before its deselect.
+-- The two wires agree on every Select that a discovery under this prefix can send before its deselect.
 abbrev pub Alike : Wire → Wire → Prefix → Type 0
 Alike v w pre = (k : ℕ) (q : Prefix) → k < limit pre → begins pre q ≡ true → length q ≤ 128 → v k q ≡ w k q
 

@@ -1,4 +1,4 @@
--- Ids inserted in either order give one list; what holds of ids holds of them sorted; and sorted they stand in order.
+-- Sorting ids: the order of insertion does not matter, members and length are kept, and the result is in order.
 use Prim.Native.Nat.{suc}
 use mathlib.Core.Bool.{Bool, true, false, cond, true≢false}
 use mathlib.Core.List.{List, [], _∷_, _++_}
@@ -19,7 +19,7 @@ insert-past : (x y : Id) (l : List Id) → before x y ≡ false → insert x (y 
 unfolding insert
 insert-past x y l e = rw e
 
--- Both stand before all of l.
+-- Inserting two ids that both come before all of l.
 pair-front : (x y : Id) (l : List Id) → insert x l ≡ x ∷ l → insert y l ≡ y ∷ l
     → insert x (insert y l) ≡ insert y (insert x l)
 pair-front x y l e f = rw (e, f) (go (before x y) refl (before y x) refl)
@@ -55,7 +55,7 @@ insert-comm x y (z ∷ l) = go (insert-comm x y l) (before x z) refl (before y z
         ∙ sym (insert-past y z (insert x l) f)
         ∙ ap (insert y) (sym (insert-past x z l e))
 
--- All of a list put into a sorted one.
+-- All members of a list, inserted into another list.
 unfoldable pub insertAll : List Id → List Id → List Id
 insertAll [] l = l
 insertAll (x ∷ xs) l = insert x (insertAll xs l)

@@ -1,4 +1,4 @@
--- What every state of the machine keeps to, for the arrays that hold it.
+-- Every state that the walk machine reaches fits the code's arrays: 128 levels, 64 ids, 16 bytes for each.
 use Prim.Native.Nat.{ℕ, _*_, _≤_, _<_}
 use mathlib.Core.Bool.{Bool, true, false, _&&_, not, cond}
 use mathlib.Core.List.{List, [], _∷_, _++_}
@@ -20,7 +20,7 @@ use Rattle.theory.proofs.walk.SortedIds.{sort-all, sort-length}
 abbrev pub Short : Id → Type 0
 Short id = length id ≤ 16
 
--- An id that is being confirmed goes on after the path.
+-- An id that is being confirmed has at most 16 bytes, and more bits than the path.
 abbrev pub Held : Prefix → Phase → Type 0
 Held q asked = Unit {0}
 Held q (mine id) = Short id × (length q < 8 * length id)
@@ -138,7 +138,7 @@ pub start-fits : (pre : Prefix) → length pre ≤ 128 → FitsNext (start pre)
 unfolding start
 start-fits pre le = record { depth = le; few = omega arith; short = tt; held = tt }
 
--- A request has at most 129 bits, and 129 only in the deselect.
+-- A request has at most 129 bits.
 pub request-fits : (s : State) → Fits s → length (request s) ≤ 129
 unfolding request nobody
 request-fits s t = go (s .phase) (t .held)

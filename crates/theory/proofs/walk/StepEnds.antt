@@ -1,4 +1,4 @@
--- How a step of the walk can end: with 12, 14, 15 or 23, and done only by the deselect.
+-- How a step of the walk machine can end: stopped with 12, 14, 15 or 23, or, in the deselect only, done.
 use Prim.Native.Nat.{ℕ}
 use mathlib.Core.Bool.{Bool, true, false, _&&_, cond}
 use mathlib.Core.List.{List, [], _∷_, _++_}
@@ -9,13 +9,13 @@ use Rattle.paper.specs.Walk.{isNothing, done, stopped}
 use Rattle.theory.specs.WalkMachine.{Marks, path, Phase, asked, mine, other, leaving, State, Next, going, ended}
 use Rattle.theory.specs.WalkMachine.{to, leave, descend, silent, kept, confirming, hears, tell, tooLong, step}
 
--- It is not done, and where it is stopped its number satisfies P.
+-- The machine is not done, and if it has stopped, its number satisfies P.
 abbrev pub Undone : (ℕ → Type 0) → Next → Type 0
 Undone P (going s) = Unit {0}
 Undone P (ended (done ids)) = ⊥
 Undone P (ended (stopped c)) = P c
 
--- It is not the deselect.
+-- The phase is not the deselect.
 abbrev pub Staying : Phase → Type 0
 Staying asked = Unit {0}
 Staying (mine id) = Unit {0}

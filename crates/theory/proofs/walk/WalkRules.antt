@@ -1,11 +1,11 @@
--- What holds of every way a conversation can go: a rule for each form.
+-- Rules to prove what holds of every way a walk can go: one for each form of conversation.
 use Prim.Native.Nat.{ℕ, suc}
 use mathlib.Core.Bool.{Bool, true, false, cond}
 use mathlib.Core.Path.{_≡_, refl}
 use Rattle.paper.specs.Hearing.{Prefix, Heard}
 use Rattle.paper.specs.Walk.{Walk, return, stop, select, _>>=_, long, ask, Wire, Ended, done, stopped, run}
 
--- Whatever is heard, the conversation that has sent k Selects ends as Q says, of its end and of the Selects by then.
+-- Whatever is heard, the conversation, after k Selects, ends as Q says of its end and of the number of Selects by then.
 abbrev pub Always : {A : Type 0} → (Ended A → ℕ → Type 0) → ℕ → Walk A → Type 0
 Always Q k (return a) = Q (done a) k
 Always Q k (stop c) = Q (stopped c) k

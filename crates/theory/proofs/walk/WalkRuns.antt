@@ -1,4 +1,4 @@
--- How a conversation runs, form by form.
+-- How a walk runs over a wire: equations for each form of conversation.
 use Prim.Native.Nat.{ℕ, zero, suc, _≤_}
 use mathlib.Core.Bool.{Bool, true, false, cond}
 use mathlib.Core.List.{List, [], _∷_}
@@ -11,7 +11,7 @@ use Rattle.paper.specs.Hearing.{Id, Prefix, Heard, nothing, garble}
 use Rattle.paper.specs.Walk.{_▹_, Walk, return, stop, select, _>>=_, long, ask, isNothing, judge, walk, Wire, Ended}
 use Rattle.paper.specs.Walk.{done, stopped, run}
 
--- What a walk does below a prefix of which no id was kept.
+-- How a walk goes on below a prefix under which no id was confirmed.
 unfoldable pub down : ℕ → Prefix → List Id → Walk (List Id)
 down zero pre ids = stop 12
 down (suc n) pre ids = do

@@ -4,8 +4,8 @@ use borrow.Author.Needs.{needs}
 use Rattle.walk_step.proofs.mine.Statement.{statement}
 use Rattle.walk_step.proofs.mine.Tie as tie
 
-long-requires : tie.Need-long-requires
-long-requires c κs = search needs
+is-long-requires : tie.Need-is-long-requires
+is-long-requires c κs = search needs
 
 stopped-requires : tie.Need-stopped-requires
 stopped-requires c κs = search needs
@@ -29,7 +29,7 @@ pub mine-spec : {M : Type 1} → statement M
 mine-spec =
     tie.close
     (tie.spec
-    long-requires
+    is-long-requires
     stopped-requires
     returns
     same-requires

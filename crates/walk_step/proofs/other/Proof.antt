@@ -4,8 +4,8 @@ use borrow.Author.Needs.{needs}
 use Rattle.walk_step.proofs.other.Statement.{statement}
 use Rattle.walk_step.proofs.other.Tie as tie
 
-long-requires : tie.Need-long-requires
-long-requires c κs = search needs
+is-long-requires : tie.Need-is-long-requires
+is-long-requires c κs = search needs
 
 stopped-requires : tie.Need-stopped-requires
 stopped-requires c κs = search needs
@@ -25,4 +25,4 @@ returns-2 c = search (other-else, needs)
 pub other-spec : {M : Type 1} → statement M
 other-spec =
     tie.close
-    (tie.spec long-requires stopped-requires returns holds-requires settled-requires returns-2)
+    (tie.spec is-long-requires stopped-requires returns holds-requires settled-requires returns-2)

@@ -1,4 +1,4 @@
--- An array taken from a slice and put into one, from the facts that the code has.
+-- Lemmas for an array read from a slice and for one written to it, from the facts that hold there.
 use Prim.Native.Nat.{ℕ, _+_, _-_, _≤_}
 use mathlib.Core.List.{List, [], _++_, append-nil}
 use mathlib.Core.Path.{_≡_, _∙_, ap}

@@ -1,4 +1,4 @@
-//! profile [ROUNDS]: discoveries of 64 pods on the port alone, for a profiler.
+//! profile [ROUNDS]: runs discoveries of 64 pods on the port alone, for a profiler.
 
 use bench::{ours, records};
 use differential::run::Operation;

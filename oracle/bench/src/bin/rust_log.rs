@@ -1,4 +1,5 @@
-//! The bench log program over the Rust: the same lines in, the same lines out, for logs that end well. It is here to be timed.
+//! The bench log program over the Rust, to be timed: for logs that end well, and without the count of Selects in the
+//! last line.
 
 use std::io::{Read, Write};
 use std::time::Duration;

@@ -1,13 +1,14 @@
-//! sample FOLDER: runs of the Rust alone, written down: runs.in has the operations and the records that were heard, runs.out what the
-//! Rust sent and how it ended. A Rattle program replays the one and must print the other.
+//! sample FOLDER: stores runs of the Rust alone. runs.in has the operations and the records heard, runs.out what the
+//! Rust sent and how it ended. A Rattle program replays runs.in and must print runs.out.
 //!
-//! runs.in is lines of hexadecimal. A run is a line with its operation, a line for each record (`00` before its bytes, so that no line
-//! is empty), and an empty line.
+//! runs.in consists of lines of hexadecimal. A run is a line with its operation, a line for each record (`00` before
+//! its bytes, so that no line is empty), and an empty line.
 //!
-//! clients.in and clients.out are the same for operations one after another on one client, which the line `fresh` begins. There the link
-//! may fail (the line `01`), an answer may not be awaited, a refusal shows what it carries, and `r` is the rest that an answer
-//! left unread.
-//! texts is what the Rust reads as ids, and how it writes them.
+//! clients.in and clients.out are the same for several operations on one client, which the line `fresh` begins. There
+//! the
+//! link may fail (the line `01`), a reply may not be awaited, a refusal shows what it carries, and `r` is the unread
+//! rest.
+//! texts has texts with the ids that the Rust reads from them, and ids with the texts that it writes.
 
 use std::fmt::Write;
 use std::fs;
@@ -37,7 +38,8 @@ fn code(operation: &Operation) -> Vec<u8> {
     }
 }
 
-/// Each request, what was read of the record after it, and the progress; then the ids and the end, the seed and the attached id.
+/// Each request, how much of its record was read, and the progress; then the ids and the end, the seed and the attached
+/// id.
 fn shown(trace: &Trace, awaited: bool) -> String {
     let (mut out, handed) = (String::new(), &trace.handed);
     for (k, request) in trace.requests.iter().enumerate() {
@@ -75,7 +77,8 @@ fn shown(trace: &Trace, awaited: bool) -> String {
     out
 }
 
-/// Whether a Verify was answered with fewer than two bytes: there the Rust reads bytes of an earlier frame, and the port refuses with 18.
+/// Whether a Verify was answered with fewer than two bytes: there the Rust reads bytes of an earlier frame, and the
+/// port refuses with 18.
 fn short_verify(trace: &Trace) -> bool {
     let verify = trace.requests.last().is_some_and(|r| r[1] == 3);
     let Some(last) = trace.handed.last() else { return false };
@@ -90,7 +93,7 @@ fn asked(operation: &Operation, handed: &[Handed]) -> String {
     lines
 }
 
-/// Operations one after another on a client: each with its wire, and with the request at which the link fails.
+/// Operations one after another on a client: each with its wire, and the request at which the link fails.
 type Operations = Vec<(Operation, Wire, Option<usize>)>;
 
 fn clients(folder: &Path, all: Vec<Operations>) {
@@ -121,8 +124,8 @@ fn clients(folder: &Path, all: Vec<Operations>) {
     fs::write(folder.join("clients.out"), output).unwrap();
 }
 
-/// Texts, and the ids that they are read as, or `-`; ids, and the texts that they are written as. No sign is among the texts: the Rust takes
-/// one, and document 01 does not.
+/// Texts, with the ids that they are read as, or `-`; ids, with the texts that they are written as. No text has a sign:
+/// the Rust accepts one, and document 01 does not.
 fn texts(folder: &Path) {
     let mut lines = String::new();
     for text in ["", "0", "00", "0f", "F0", "aA", "/0", "0:", "@0", "0G", "`0", "0g", "zz", "abc", "0001ff", "00zz", "zz00"]
@@ -139,7 +142,7 @@ fn texts(folder: &Path) {
     fs::write(folder.join("texts"), lines).unwrap();
 }
 
-/// What a record may be that a good answer is in, or nearly.
+/// Records that contain a good reply, or nearly do.
 fn readings(good: &[u8]) -> Vec<Vec<u8>> {
     let echo = reply(good[1], 0, &[]);
     vec![
@@ -159,8 +162,8 @@ fn readings(good: &[u8]) -> Vec<Vec<u8>> {
     ]
 }
 
-/// Runs for what the ones before them do not meet: each way to read a frame; each way to confirm an id; devices that say too little, and
-/// images at their bounds; honest wires of document 01's examples, and under long prefixes.
+/// Runs for cases that the others do not reach: each way to read a frame; each way to confirm an id; device information
+/// that is refused, and images at their limits; the honest wires of document 01's examples, and long prefixes.
 fn further(runs: &mut Vec<(Operation, Wire)>, info: Info) {
     for heard in readings(&reply(5, 1, &[1])) {
         for operation in [Operation::Select(vec![1, 0], 9), Operation::Attach(None), Operation::Attach(Some(vec![1]))] {
@@ -215,7 +218,7 @@ fn further(runs: &mut Vec<(Operation, Wire)>, info: Info) {
     runs.push((Operation::Flash(vec![1; 5]), Wire::Pod(Pod { check: Some(vec![1, 2]), ..Pod::new(info.bytes(), 1) })));
     let check = [&crc16(CRC_INIT, &[1; 5]).to_le_bytes()[..], &[9]].concat();
     runs.push((Operation::Flash(vec![1; 5]), Wire::Pod(Pod { check: Some(check), ..Pod::new(info.bytes(), 1) })));
-    // The check's register is 8000 on the way through this image.
+    // At one point in this image the check's register is 8000.
     runs.push((Operation::Flash(vec![0xFF, 0x7F]), Wire::Pod(Pod::new(info.bytes(), 1))));
     let small = Info { capacity: 4, erase_size: 4, ..info };
     runs.push((Operation::Flash(vec![1]), Wire::Scripted(vec![reply(0, 1, &small.bytes()), reply(1, 1, &[]), reply(2, 7, &[])])));
@@ -224,7 +227,8 @@ fn further(runs: &mut Vec<(Operation, Wire)>, info: Info) {
     }
 }
 
-/// Clients with several operations: an id that is attached, kept and cleared; rests that go on; what each refusal carries; links that fail.
+/// Clients with several operations: an id that is attached, kept and cleared; unread rests that are carried on; what
+/// each refusal carries; links that fail.
 fn several(info: Info) -> Vec<Operations> {
     let said = |records: &[Vec<u8>]| Wire::Scripted(records.to_vec());
     let pod = |info: Info| Wire::Pod(Pod::new(info.bytes(), 1));
@@ -352,5 +356,5 @@ fn main() {
     }
     fs::write(folder.join("runs.in"), input).unwrap();
     fs::write(folder.join("runs.out"), output).unwrap();
-    println!("{stored} runs of the Rust stored; left out {left_out}: a Verify answered with under two bytes, which the port refuses with 18");
+    println!("{stored} runs of the Rust stored; skipped {left_out}: a Verify answered with under two bytes, which the port refuses with 18");
 }

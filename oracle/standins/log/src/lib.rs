@@ -1,4 +1,4 @@
-//! Stands in for `log`: nothing is logged, and the arguments are still checked.
+//! Stands in for `log`: nothing is logged, but the arguments are still type-checked.
 
 #[macro_export]
 macro_rules! debug {

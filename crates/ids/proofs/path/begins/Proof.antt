@@ -1,4 +1,4 @@
--- `ids::path::begins` meets its contract. The loop's invariant: the bits from k on decide.
+-- `ids::path::begins` meets its contract. The loop's invariant: comparing from bit k on gives the same result.
 use mathlib.Core.Path.{_≡_}
 use Prim.Native.Nat.{_≤_, _-_}
 use lib.ListN.{length, take, drop}

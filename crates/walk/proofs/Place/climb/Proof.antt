@@ -1,5 +1,5 @@
--- `walk::Place::climb` meets its contract. The loop's invariant: the climb from here ends where the climb from the
--- start does.
+-- `walk::Place::climb` meets its contract. The loop's invariant: the climb from here ends where the one from the start
+-- does.
 use Rattle.walk.proofs.Ways.{deep, climb-less, climb-on, climb-end}
 use Prim.Native.Nat.{_≤_}
 use lib.ListN.{length}

@@ -1,8 +1,8 @@
--- `hearing::long` meets its contract.
-use Rattle.hearing.specs.Heard.{long}
+-- `hearing::is_long` meets its contract.
+use Rattle.hearing.specs.Heard.{isLong}
 use borrow.Author.Needs.{needs}
-use Rattle.hearing.proofs.long.Statement.{statement}
-use Rattle.hearing.proofs.long.Tie as tie
+use Rattle.hearing.proofs.is_long.Statement.{statement}
+use Rattle.hearing.proofs.is_long.Tie as tie
 
 enum-told : tie.Need-enum-told
 enum-told c = search needs
@@ -20,27 +20,27 @@ enum-told-5 : tie.Need-enum-told-5
 enum-told-5 c = search needs
 
 returns : tie.Need-returns
-unfolding long
+unfolding isLong
 returns c = search needs
 
 returns-2 : tie.Need-returns-2
-unfolding long
+unfolding isLong
 returns-2 c = search needs
 
 returns-3 : tie.Need-returns-3
-unfolding long
+unfolding isLong
 returns-3 c = search needs
 
 returns-4 : tie.Need-returns-4
-unfolding long
+unfolding isLong
 returns-4 c = search needs
 
 returns-5 : tie.Need-returns-5
-unfolding long
+unfolding isLong
 returns-5 c = search needs
 
-pub long-spec : {M : Type 1} → statement M
-long-spec =
+pub is-long-spec : {M : Type 1} → statement M
+is-long-spec =
     tie.close
     (tie.spec
     enum-told
