@@ -74,7 +74,13 @@ starts-late-met =
           s .attach,
           (
             s .attach-to (0xC1 ∷ []),
-            (s .discover seventeen, (s .info, (s .erase, (s .flash image, (s .reset true true, s .set-baud 5 true false))))),
+            (
+              s .discover seventeen,
+              (
+                s .info,
+                (s .erase, (s .flash image, (s .reset true true, s .set-baud 5 true false))),
+              ),
+            ),
           ),
         ),
       ),

@@ -24,7 +24,7 @@ use Rattle.theory.proofs.flash.RequestsBounded as Bound
 use Rattle.theory.proofs.flash.WrittenBytes as Carries
 use Rattle.theory.proofs.flash.WrittenBytes.{CarriesIn}
 use Rattle.theory.proofs.flash.FlashOrder as Order
-use Rattle.theory.proofs.frames.FramesReadBack as Frames
+use Rattle.theory.proofs.frames.FramesReadBack as FramesReadBack
 use Rattle.theory.proofs.frames.FramesReadBack.{Fits}
 use Rattle.client.specs.declared.Client.{Client}
 use Rattle.client.specs.declared.Job.{Job}
@@ -38,11 +38,11 @@ use Rattle.client_record.specs.Record.{record′}
 use Rattle.refinement.specs.ClientDriven.{driven, sends, answerOf, Plays}
 use Rattle.refinement.specs.ClientServed.{opening, resting}
 use Rattle.refinement.proofs.client.UnreadRest as EitherWay
-use Rattle.refinement.proofs.client.Operations as Operations
+use Rattle.refinement.proofs.client.OperationsAreTalk as Operations
 
 -- A frame that was written is read back whole, whatever bytes follow.
 pub frame-read : (f : Frame) → Fits f → (more : List ℕ) → read (frameBytes f ++ more) ≡ whole 0 f
-frame-read f fits more = Frames.read-written f fits more
+frame-read f fits more = FramesReadBack.read-written f fits more
 
 -- Each operation is started on a client with none running and driven over any records and failed links. It then agrees
 -- with document 01's conversation: in the answer with its progress, the place where the unread rest begins, the seed,

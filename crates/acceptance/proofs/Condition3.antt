@@ -18,14 +18,14 @@ use Rattle.client.specs.Clients.{fresh}
 use Rattle.refinement.specs.Calls.{Call, Good, reached, Rests}
 use Rattle.refinement.specs.ClientServed.{Wire, isOnward, discovered, resting, heardBy, Honest, EndsAs, Finds, Lists}
 use Rattle.refinement.specs.ClientServed.{devices}
-use Rattle.refinement.proofs.client.CallsAreTalk as Calls
+use Rattle.refinement.proofs.client.CallsAgree as CallsAgree
 use Rattle.refinement.proofs.wire.DevicesHonest as Devices
-use Rattle.refinement.proofs.wire.Condition3 as Discovers
+use Rattle.refinement.proofs.wire.EndsAndFinds as EndsAndFinds
 
 -- A client with no operation running is fixed by its seed and its attached id, if any, whatever calls came before. So
 -- the theorems below, which begin with `resting seed id`, cover every such client.
 pub idle-rests : (calls : List Call) → All Good calls → reached fresh calls .turn ≡ Idle → Rests (reached fresh calls)
-idle-rests = Calls.idle-rests
+idle-rests = CallsAgree.idle-rests
 
 -- For any buffer that holds every Select, any seed, an attached id or none, and any prefix of at most 16 bytes.
 module _ (buffer : List ℕ) (room : 31 ≤ length buffer) (seed : ℕ) (byte : seed < 256) (id : Option Id)
@@ -35,17 +35,17 @@ module _ (buffer : List ℕ) (room : 31 ≤ length buffer) (seed : ℕ) (byte : 
     -- bits.
     pub ends-within : (isOnward ((discovered buffer wire (resting seed id) given) .0 .says) ≡ false)
         × ((discovered buffer wire (resting seed id) given) .1 ≤ limit (bitsOf given))
-    ends-within = Discovers.ends-within buffer room wire seed byte id brief given short bytes
+    ends-within = EndsAndFinds.ends-within buffer room wire seed byte id brief given short bytes
 
     -- It ends as document 01's discovery does, after the same number of Selects.
     pub ends-as : EndsAs seed id (run (heardBy wire seed) 0 (discover (bitsOf given)))
         (discovered buffer wire (resting seed id) given)
-    ends-as = Discovers.ends-as buffer room wire seed byte id brief given short bytes
+    ends-as = EndsAndFinds.ends-as buffer room wire seed byte id brief given short bytes
 
     -- The ids found are sorted, distinct, at most 64, and each begins with the prefix.
     pub lists : (discovered buffer wire (resting seed id) given) .0 .says ≡ Over Found
         → Lists (bitsOf given) (discovered buffer wire (resting seed id) given)
-    lists = Discovers.lists buffer room wire seed byte id brief given short bytes
+    lists = EndsAndFinds.lists buffer room wire seed byte id brief given short bytes
 
     -- On an honest wire of the ids S: it finds exactly the ids that match, sorted, after exactly the number of Selects
     -- that document 01 counts. That number is at most 2, plus 8L - p + 2 for each id found.
@@ -53,7 +53,7 @@ module _ (buffer : List ℕ) (room : 31 ≤ length buffer) (seed : ℕ) (byte : 
         → Finds seed (sort (matching (bitsOf given) S)) (selects S L (bitsOf given))
         (discovered buffer wire (resting seed id) given)
         × (selects S L (bitsOf given) ≤ 2 + count S (bitsOf given) * (8 * L - length (bitsOf given) + 2))
-    finds = Discovers.finds buffer room wire seed byte id brief given short bytes
+    finds = EndsAndFinds.finds buffer room wire seed byte id brief given short bytes
 
   -- There is an honest wire for any ids whose matching ones are as `Pods` asks, whatever the others are.
   pub finds-devices : (S : List Id) (L : ℕ) → Pods L (matching (bitsOf given) S)

@@ -28,7 +28,7 @@ use Rattle.theory.specs.FlashOrder.{heard}
 use Rattle.theory.proofs.walk.OneLength.{discover-exact}
 use Rattle.ids.specs.Ids.{idFrom}
 use Rattle.log_listing.specs.Listing.{text}
-use Rattle.log_run.specs.Run as Replays
+use Rattle.log_run.specs.Run as Run
 use Rattle.log_feed.specs.FeedMachine.{begun, lastLine}
 use Rattle.log_feed.specs.Pieces.{pieces, concat}
 use Rattle.hearing.specs.Heard.{isLong}
@@ -218,7 +218,7 @@ log = (48 ∷ 49 ∷ 10 ∷ 97 ∷ 53 ∷ 48 ∷ 53 ∷ [])
     ∷ (48 ∷ 10 ∷ 48 ∷ 48 ∷ 48 ∷ 48 ∷ 48 ∷ 48 ∷ 48 ∷ 49 ∷ 48 ∷ 48 ∷ 99 ∷ 49 ∷ 100 ∷ 102 ∷ 97 ∷ 57 ∷ 10 ∷ 10 ∷ 10 ∷ 10
     ∷ []) ∷ []
 
-pub writes-met : text (Replays.answer
+pub writes-met : text (Run.answer
     (lastLine (pieces (record { log = begun; bytes = replicate 4096 0 }) log) .log .replay))
     ≡ 99 ∷ 49 ∷ 10 ∷ 48 ∷ 48 ∷ 48 ∷ 49 ∷ 48 ∷ 48 ∷ 48 ∷ 52 ∷ 10 ∷ []
 unfolding output opened lines longer joined unhex digit prefixIn Log.overRecords discover walk judge keep confirm

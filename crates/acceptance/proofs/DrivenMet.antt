@@ -22,7 +22,7 @@ use Rattle.paper.specs.Talk.{_>>=_, each, walking, quiet, heard, attached, foun
 use Rattle.paper.specs.Walk as Walk
 use Rattle.paper.specs.Walk.{long, judge, walk, sort, nobody}
 use Rattle.paper.proofs.Words.{Bytes}
-use Rattle.theory.specs.ClientDriven as Theory
+use Rattle.theory.specs.ClientDriven as ClientDriven
 use Rattle.theory.specs.ClientDriven.{Round, Sent, goesOn, Lends, sizeOf, seedOver, idOver, restAfter, brought, success}
 use Rattle.theory.specs.FlashOrder as Order
 use Rattle.theory.specs.FlashOrder.{failed, unanswered, readEvent, play, carried}
@@ -238,7 +238,8 @@ first-five = then informing informs ∷ then erasing-0 erased ∷ then erasing-4
     ∷ then writing-0 wrote ∷ []
 
 handed-is : handed ≡ first-five ++ (then writing-4 wrote ∷ then verifying verified ∷ [])
-unfolding Theory.sends goesOn Theory.tells Paper.request Paper.record′ grant handedOut proceed startWith bytesOf
+unfolding ClientDriven.sends goesOn ClientDriven.tells Paper.request Paper.record′ grant handedOut proceed startWith
+    bytesOf
     payloadOf frameBytes frameBody frameHead le answer answerFrom read readSynced readSized rightCheck skipped number
     check crcFrom crcByte crcBit accepted transact _>>=_ refuseIf inform eraseOne eraseAll each sound informed
     spansTooFar steps apart below eraseAddresses infoOf prepare repeated persist writeWithin offsets writeAll verify

@@ -11,7 +11,7 @@ use Rattle.client.specs.Clients.{fresh}
 use Rattle.client.specs.Numbers.{changesNoState}
 use Rattle.refinement.specs.Calls.{Call, paperAnswers}
 use Rattle.host_state.specs.State as State
-use Rattle.host_answer.specs.AnswerBytes as Answer
+use Rattle.host_answer.specs.AnswerBytes as AnswerBytes
 use Rattle.host_buffers.specs.Exports as Export
 use Rattle.host_theory.specs.ExportedCalls.{bufferOf, exported, Lending, Fair, exports, readFrom, Coded, behind}
 use Rattle.host_theory.proofs.CallsChain as Chain
@@ -31,7 +31,7 @@ module _ (more : List ℕ) (xs : List Lending) (ks : All Fair xs) where
 
   -- Every byte after the state and after the answer is unchanged.
   pub exports-behind : map behind (exports (replicate State.size 0 ++ more) xs)
-      ≡ map (λ x. (more, drop Answer.size (x .answer))) xs
+      ≡ map (λ x. (more, drop AnswerBytes.size (x .answer))) xs
   exports-behind = Chain.chain-behind _ fresh more (Chain.zero-holds more) xs ks
 
 -- Refusals that change no state. This holds for any buffers and any state, also for a state that no call could leave.
@@ -42,7 +42,7 @@ module _ (s a : List ℕ) (call : Call) where
   refused-untouched = Refused.untouched s a call
 
   -- If the state or the answer's buffer is too short, no byte of the answer's buffer changes either.
-  pub short-untouched : (State.size ≤ length s → Answer.size ≤ length a → ⊥)
+  pub short-untouched : (State.size ≤ length s → AnswerBytes.size ≤ length a → ⊥)
       → (exported s a call .state ≡ s) × ((exported s a call .buffer ≡ bufferOf call) × (exported s a call .answer ≡ a))
   short-untouched = Refused.unwritten s a call
 

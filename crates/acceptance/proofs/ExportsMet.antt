@@ -25,7 +25,7 @@ use Rattle.client.specs.Numbers.{numberOf, changesNoState}
 use Rattle.client_start.specs.Start as Code
 use Rattle.refinement.specs.Calls.{Call, startAttach, startDiscover, startInfo, request, record′, linkFailed, paperCall}
 use Rattle.refinement.specs.Calls.{Answer, paperAnswers}
-use Rattle.host_answer.specs.AnswerBytes as Answers
+use Rattle.host_answer.specs.AnswerBytes as AnswerBytes
 use Rattle.host_state.specs.State as State
 use Rattle.host_state.specs.State.{loaded}
 use Rattle.host_answer.specs.Numbers.{noteOf, refusalNote, refusing}
@@ -44,7 +44,7 @@ abbrev calls : List Lending
 calls = lending (startAttach (some (0xC1 ∷ []))) ∷ lending startInfo ∷ lending (request [] (replicate 31 0))
     ∷ lending linkFailed ∷ lending (record′ [] (0xA5 ∷ [])) ∷ []
 
-room : Answers.size ≤ length {A = ℕ} (replicate 1200 0)
+room : AnswerBytes.size ≤ length {A = ℕ} (replicate 1200 0)
 room = omega (arith, length-replicate {A = ℕ} 1200 0)
 
 fair : All Fair calls
@@ -85,7 +85,7 @@ pub exports-coded-met : All Coded (exports (replicate State.size 0 ++ (7 ∷ [])
 exports-coded-met = exports-coded (7 ∷ []) calls fair
 
 pub exports-behind-met : map behind (exports (replicate State.size 0 ++ (7 ∷ [])) calls)
-    ≡ map (λ x. (7 ∷ [], drop Answers.size (x .answer))) calls
+    ≡ map (λ x. (7 ∷ [], drop AnswerBytes.size (x .answer))) calls
 exports-behind-met = exports-behind (7 ∷ []) calls fair
 
 -- A state that no call could leave: its byte 1, the flag for an attached id, is 2. A discovery under a prefix of 17

@@ -10,7 +10,7 @@ use Rattle.client_request.specs.Request.{request}
 use Rattle.client_record.specs.Record.{record′}
 use Rattle.host_state.specs.State.{saved}
 use Rattle.host_state.proofs.Instances.{seeking, seeking-fits}
-use Rattle.host_answer.specs.AnswerBytes as Answer
+use Rattle.host_answer.specs.AnswerBytes as AnswerBytes
 use Rattle.host_buffers.specs.Hosts.{toldBy, leaves, tells, starts, asks, requests, showsAttached, views}
 use Rattle.fahireky.proofs.Laws.{tells-saved, starts-saved, requests-saved, views-saved}
 
@@ -20,10 +20,10 @@ abbrev state : List ℕ
 state = saved seeking ++ (0x99 ∷ [])
 
 abbrev answer : List ℕ
-answer = replicate (Answer.size + 1) 0xEE
+answer = replicate (AnswerBytes.size + 1) 0xEE
 
-room : Answer.size ≤ length answer
-room = omega (arith, length-replicate {A = ℕ} (Answer.size + 1) 0xEE)
+room : AnswerBytes.size ≤ length answer
+room = omega (arith, length-replicate {A = ℕ} (AnswerBytes.size + 1) 0xEE)
 
 abbrev replied : List ℕ
 replied = 0xA5 ∷ 0x05 ∷ 0x01 ∷ 0x00 ∷ 0x00 ∷ 0x00 ∷ 0x00 ∷ 0x00 ∷ 0x02 ∷ 0x00 ∷ 0xC1 ∷ 0x07 ∷ 0xF8 ∷ 0x10 ∷ []

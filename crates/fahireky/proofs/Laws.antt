@@ -16,12 +16,12 @@ use Rattle.client_request.specs.Request.{request}
 use Rattle.host_state.specs.State as State
 use Rattle.host_state.specs.State.{saved, loaded, Fits}
 use Rattle.host_state.proofs.Laws.{saved-length, loaded-saved}
-use Rattle.host_answer.specs.AnswerBytes as Answer
+use Rattle.host_answer.specs.AnswerBytes as AnswerBytes
 use Rattle.host_buffers.specs.Codes.{restFrom}
 use Rattle.host_buffers.specs.Hosts.{toldBy, leaves, tells, starts, asks, requests, showsAttached, views}
 use Rattle.host_buffers.proofs.Ways.{lent-enough}
 
-module _ (c : Client) (h : Fits c) (more a : List ℕ) (room : Answer.size ≤ length a) where
+module _ (c : Client) (h : Fits c) (more a : List ℕ) (room : AnswerBytes.size ≤ length a) where
   whole : State.size ≤ length (saved c ++ more)
   whole = omega (arith, length-append (saved c) more, saved-length c h)
 

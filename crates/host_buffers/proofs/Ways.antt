@@ -35,7 +35,7 @@ use Rattle.host_answer.specs.Numbers.{noteOf}
 use Rattle.host_buffers.specs.Codes.{coded}
 use Rattle.host_state.specs.State as State
 use Rattle.host_state.specs.State.{savedTable, savedWalk, savedFront, saved, loadedTable, loadedWalk, loaded, withWalk}
-use Rattle.host_answer.specs.AnswerBytes as Answer
+use Rattle.host_answer.specs.AnswerBytes as AnswerBytes
 use Rattle.host_answer.specs.AnswerBytes.{fronted, listed, shown}
 use Rattle.host_answer.proofs.Ways.{put-of}
 use Rattle.host_buffers.specs.Hosts.{codeOf, lent, lacks, toldBy, leaves, shows, saidOf}
@@ -46,14 +46,14 @@ module _ (n m r need : ℕ) where
   unfolding lacks lent
   state-lacks e h q = q ∙ rw (e, lt-ltb n State.size (rw e at h))
 
-  pub answer-lacks : (s : ℕ) → s ≡ State.size → need ≡ Answer.size → s ≤ n → m < need → r ≡ coded 16 need
+  pub answer-lacks : (s : ℕ) → s ≡ State.size → need ≡ AnswerBytes.size → s ≤ n → m < need → r ≡ coded 16 need
       → r ≡ lacks n m
   unfolding lacks lent
-  answer-lacks s es e k h q = q ∙ rw (e, le-ltb n State.size (rw es at k), lt-ltb m Answer.size (rw e at h))
+  answer-lacks s es e k h q = q ∙ rw (e, le-ltb n State.size (rw es at k), lt-ltb m AnswerBytes.size (rw e at h))
 
-  pub lacks-nothing : (s : ℕ) → s ≡ State.size → need ≡ Answer.size → s ≤ n → need ≤ m → 0 ≡ lacks n m
+  pub lacks-nothing : (s : ℕ) → s ≡ State.size → need ≡ AnswerBytes.size → s ≤ n → need ≤ m → 0 ≡ lacks n m
   unfolding lacks lent
-  lacks-nothing s es e k h = rw (le-ltb n State.size (rw es at k), le-ltb m Answer.size (rw e at h))
+  lacks-nothing s es e k h = rw (le-ltb n State.size (rw es at k), le-ltb m AnswerBytes.size (rw e at h))
 
 -- What the code for short buffers says about the two lengths.
 module _ (b d : Bool) (x y k : ℕ) (e : k ≡ cond b x (cond d y 0)) where
@@ -81,37 +81,38 @@ module _ (b d : Bool) (x y k : ℕ) (e : k ≡ cond b x (cond d y 0)) where
           (e ∙ ap (λ (t : Bool). cond t x (cond d y 0)) eb ∙ ap (λ (t : Bool). cond t y 0) ed))
 
 module _ (n m k : ℕ) (e : k ≡ lacks n m) where
-  both-fit : k ≡ 0 → (ltb n State.size ≡ false) × (ltb m Answer.size ≡ false)
+  both-fit : k ≡ 0 → (ltb n State.size ≡ false) × (ltb m AnswerBytes.size ≡ false)
   unfolding lacks lent coded
-  both-fit z = neither (ltb n State.size) (ltb m Answer.size) (coded 16 State.size) (coded 16 Answer.size) k e
+  both-fit z = neither (ltb n State.size) (ltb m AnswerBytes.size) (coded 16 State.size) (coded 16 AnswerBytes.size) k e
       (λ h. omega arith) (λ h. omega arith) z
 
   pub state-room : k ≡ 0 → State.size ≤ n
   state-room z = ltb-false n State.size (both-fit z .0)
 
-  pub answer-room : k ≡ 0 → Answer.size ≤ m
-  answer-room z = ltb-false m Answer.size (both-fit z .1)
+  pub answer-room : k ≡ 0 → AnswerBytes.size ≤ m
+  answer-room z = ltb-false m AnswerBytes.size (both-fit z .1)
 
   module _ {A : Type 0} (short : ℕ → A) (enough : A) where
     pub lent-short : (k ≡ 0 → ⊥) → short k ≡ lent n m short enough
     unfolding lacks lent
-    lent-short h = one-of (ltb n State.size) (ltb m Answer.size) (coded 16 State.size)
-        (coded 16 Answer.size) k e short enough h
+    lent-short h = one-of (ltb n State.size) (ltb m AnswerBytes.size) (coded 16 State.size)
+        (coded 16 AnswerBytes.size) k e short enough h
 
-pub lent-enough : {A : Type 0} (n m : ℕ) (short : ℕ → A) (enough : A) → State.size ≤ n → Answer.size ≤ m
+pub lent-enough : {A : Type 0} (n m : ℕ) (short : ℕ → A) (enough : A) → State.size ≤ n → AnswerBytes.size ≤ m
     → enough ≡ lent n m short enough
 unfolding lent
-lent-enough n m short enough hn hm = rw (le-ltb n State.size hn, le-ltb m Answer.size hm)
+lent-enough n m short enough hn hm = rw (le-ltb n State.size hn, le-ltb m AnswerBytes.size hm)
 
 -- The answer of a call, and its code.
 module _ (says : Says) (n : Note) (r : ℕ) (en : n ≡ noteOf says) (er : r ≡ coded (n .number) (n .length))
-    (a a₁ a₂ : List ℕ) (room : Answer.size ≤ length a) (l₁ : length a₁ ≡ length a) (l₂ : length a₂ ≡ length a₁) where
+    (a a₁ a₂ : List ℕ) (room : AnswerBytes.size ≤ length a) (l₁ : length a₁ ≡ length a)
+    (l₂ : length a₂ ≡ length a₁) where
   code-is : r ≡ codeOf says
   unfolding codeOf
   code-is = rw en at er
 
   answered : (progress : Progress) (x : Id) (rest : ℕ) (t : Table) → a₁ ≡ fronted n progress x rest ++ drop 83 a
-      → a₂ ≡ listed t a₁ → a₂ ≡ shown says progress x t rest ++ drop Answer.size a
+      → a₂ ≡ listed t a₁ → a₂ ≡ shown says progress x t rest ++ drop AnswerBytes.size a
   unfolding listed shown fronted
   answered progress x rest t e₁ e₂ =
       behind (omega arith) (put-of 0 83 (fronted n progress x rest) a a₁ (omega arith) l₁ e₁)
@@ -148,7 +149,7 @@ saved-in f w s s₁ s₂ room e₁ e₂ =
     ∙ sym (append-assoc (savedFront f) (savedWalk w) (drop State.size s))
 
 module _ (n : Note) (r : ℕ) (er : r ≡ coded (n .number) (n .length)) (s a a₁ a₂ : List ℕ)
-    (roomS : State.size ≤ length s) (roomA : Answer.size ≤ length a) (l₁ : length a₁ ≡ length a)
+    (roomS : State.size ≤ length s) (roomA : AnswerBytes.size ≤ length a) (l₁ : length a₁ ≡ length a)
     (l₂ : length a₂ ≡ length a₁)
     (b : Bool) (eb : b ≡ changesNoState (n .number)) where
   module _ (v : Verdict) (en : n ≡ noteOf (v .says)) (e₁ : a₁ ≡ fronted n (v .progress) (v .id) (v .rest) ++ drop 83 a)

@@ -15,14 +15,14 @@ use Rattle.client_start.specs.Start as CodeStart
 use Rattle.client_record.specs.Record as CodeRecord
 use Rattle.host_buffers.specs.Codes.{Coded, writes, readUid, keyCode, restFrom}
 use Rattle.host_state.specs.State as State
-use Rattle.host_answer.specs.AnswerBytes as Answer
+use Rattle.host_answer.specs.AnswerBytes as AnswerBytes
 use Rattle.host_buffers.specs.Hosts.{Exported, Requested, starts, tells, requests, views, hearsOut}
 
 abbrev pub stateSize : ℕ
 stateSize = State.size
 
 abbrev pub answerSize : ℕ
-answerSize = Answer.size
+answerSize = AnswerBytes.size
 
 abbrev pub startSelect : (state prefix : List ℕ) (bits : ℕ) (answer : List ℕ) → Exported
 startSelect s prefix bits a = starts (λ c. CodeStart.startSelect c prefix bits) s a

@@ -26,7 +26,7 @@ use Rattle.host_answer.specs.Numbers.{noteOf}
 use Rattle.host_buffers.specs.Codes.{coded, Coded}
 use Rattle.host_state.specs.State as State
 use Rattle.host_state.specs.State.{saved, loaded}
-use Rattle.host_answer.specs.AnswerBytes as Answer
+use Rattle.host_answer.specs.AnswerBytes as AnswerBytes
 use Rattle.host_answer.specs.AnswerBytes.{shown}
 
 unfoldable pub codeOf : Says → ℕ
@@ -35,7 +35,7 @@ codeOf says = coded (noteOf says .number) (noteOf says .length)
 -- A state of n bytes and an answer's buffer of m: the first that is too short is refused with 16 and the length needed.
 unfoldable pub lent : {A : Type 0} → ℕ → ℕ → (ℕ → A) → A → A
 lent n m short enough = cond (ltb n State.size) (short (coded 16 State.size))
-    (cond (ltb m Answer.size) (short (coded 16 Answer.size)) enough)
+    (cond (ltb m AnswerBytes.size) (short (coded 16 AnswerBytes.size)) enough)
 
 unfoldable pub lacks : ℕ → ℕ → ℕ
 lacks n m = lent n m (λ code. code) 0
@@ -63,7 +63,7 @@ unfoldable pub leaves : Told → List ℕ → List ℕ → Exported
 leaves t s a = record {
   code = codeOf (t .says);
   state = cond (changesNoState (noteOf (t .says) .number)) s (saved (t .client) ++ drop State.size s);
-  answer = shown (t .says) (t .progress) (t .id) (t .found) (t .rest) ++ drop Answer.size a;
+  answer = shown (t .says) (t .progress) (t .id) (t .found) (t .rest) ++ drop AnswerBytes.size a;
 }
 
 unfoldable pub tells : (Client → Told) → List ℕ → List ℕ → Exported
@@ -86,7 +86,7 @@ requests image s b a =
 
 -- Only an answer, with an id.
 unfoldable pub shows : Says → Id → List ℕ → Coded
-shows says x a = record { code = codeOf says; bytes = shown says None x noTable 0 ++ drop Answer.size a }
+shows says x a = record { code = codeOf says; bytes = shown says None x noTable 0 ++ drop AnswerBytes.size a }
 
 unfoldable pub showsAttached : Attached → List ℕ → Coded
 showsAttached x a = shows (Over (Outcome.Attached (x .any))) (x .id) a

@@ -18,7 +18,7 @@ use Rattle.host_state.specs.State as State
 use Rattle.host_state.specs.State.{saved, loaded, Fits}
 use Rattle.host_state.proofs.Laws.{saved-length, loaded-saved, loaded-fits, fresh-is-zero, fresh-fits, no-id-fits}
 use Rattle.host_state.proofs.Laws.{no-table-fits}
-use Rattle.host_answer.specs.AnswerBytes as Answers
+use Rattle.host_answer.specs.AnswerBytes as AnswerBytes
 use Rattle.host_answer.specs.Numbers.{noteOf}
 use Rattle.host_buffers.specs.Hosts.{Requested, toldBy, leaves, handed, showsAttached, views}
 use Rattle.host_buffers.proofs.Ways.{lent-enough}
@@ -81,7 +81,7 @@ made-call c (record′ image bytes) = (refl, refl)
 made-call c linkFailed = (refl, refl)
 
 -- One exported call, on buffers that are long enough.
-pub exported-held : (s a : List ℕ) → State.size ≤ length s → Answers.size ≤ length a → (call : Call)
+pub exported-held : (s a : List ℕ) → State.size ≤ length s → AnswerBytes.size ≤ length a → (call : Call)
     → exported s a call ≡ held s a (made (loaded s) call)
 exported-held s a whole room call =
     exported-lent s a call ∙ sym (lent-enough (length s) (length a) (unheld s a call)
@@ -167,7 +167,7 @@ module _ (more : List ℕ) where
   )
 
   behind-held : (xs : List Lending) (s : List ℕ) (c : Client) → Holds s c more → All Fair xs
-      → map behind (heldBy s c xs) ≡ map (λ x. (more, drop Answers.size (x .answer))) xs
+      → map behind (heldBy s c xs) ≡ map (λ x. (more, drop AnswerBytes.size (x .answer))) xs
   unfolding heldBy
   behind-held [] s c h ks = refl
   behind-held (x ∷ xs) s c h ks =
@@ -176,7 +176,7 @@ module _ (more : List ℕ) where
       (behind-held xs (held s (x .answer) (made c (x .call)) .state) (made c (x .call) .told .client) k (ks .1))
 
 -- The attached id in such a state.
-pub views-held : (s : List ℕ) (c : Client) (more a : List ℕ) → Holds s c more → Answers.size ≤ length a
+pub views-held : (s : List ℕ) (c : Client) (more a : List ℕ) → Holds s c more → AnswerBytes.size ≤ length a
     → views s a ≡ showsAttached (attached c) a
 unfolding views
 views-held s c more a h room =
@@ -210,7 +210,7 @@ module _ (s : List ℕ) (c : Client) (more : List ℕ) (h : Holds s c more) (xs 
   chain-codes = subst (All Coded) (sym chain) (codes-held more xs s c h ks)
 
   -- The bytes after the state and after the answer are as they were.
-  pub chain-behind : map behind (exports s xs) ≡ map (λ x. (more, drop Answers.size (x .answer))) xs
+  pub chain-behind : map behind (exports s xs) ≡ map (λ x. (more, drop AnswerBytes.size (x .answer))) xs
   chain-behind = ap (map behind) chain ∙ behind-held more xs s c h ks
 
 pub fair-good : (xs : List Lending) → All Fair xs → All Good (map (λ x. x .call) xs)

@@ -33,7 +33,7 @@ use Rattle.client.specs.Numbers.{numberOf, changesNoState}
 use Rattle.host_state.specs.State as State
 use Rattle.host_state.specs.State.{loaded}
 use Rattle.host_answer.specs.Numbers.{noteOf, going, ending, refusing, outcomeNote, refusalNote}
-use Rattle.host_answer.specs.AnswerBytes as Answers
+use Rattle.host_answer.specs.AnswerBytes as AnswerBytes
 use Rattle.host_buffers.specs.Codes.{coded, Coded, writtenCode, writes, readAs, readUid, putUid}
 use Rattle.host_buffers.proofs.codes.Laws.{code-number}
 use Rattle.host_buffers.specs.Hosts.{codeOf, lent, Requested, toldBy, leaves, tells, starts, handed, asks, requests}
@@ -142,7 +142,7 @@ lent-map : {A B : Type 0} (f : A → B) (n m : ℕ) (short : ℕ → A) (enough 
     → f (lent n m short enough) ≡ lent n m (λ code. f (short code)) (f enough)
 unfolding lent
 lent-map {A} f n m short enough =
-    go (ltb n State.size) (ltb m Answers.size) (short (coded 16 State.size)) (short (coded 16 Answers.size))
+    go (ltb n State.size) (ltb m AnswerBytes.size) (short (coded 16 State.size)) (short (coded 16 AnswerBytes.size))
   where
     go : (b d : Bool) (x y : A) → f (cond b x (cond d y enough)) ≡ cond b (f x) (cond d (f y) (f enough))
     go true d x y = refl
@@ -203,21 +203,21 @@ module _ (s a : List ℕ) where
   untouched call =
       rw (exported-lent call)
       (either (Untouched call) (ltb (length s) State.size) (λ h. (refl, refl))
-      (either (Untouched call) (ltb (length a) Answers.size) (λ h. (refl, refl)) (held-untouched call)))
+      (either (Untouched call) (ltb (length a) AnswerBytes.size) (λ h. (refl, refl)) (held-untouched call)))
 
   -- With a state or an answer's buffer that is too short, no byte of the answer's buffer changes either.
   abbrev Unwritten : Call → Requested → Type 0
   Unwritten call e = (e .state ≡ s) × ((e .buffer ≡ bufferOf call) × (e .answer ≡ a))
 
-  pub unwritten : (call : Call) → (State.size ≤ length s → Answers.size ≤ length a → ⊥)
+  pub unwritten : (call : Call) → (State.size ≤ length s → AnswerBytes.size ≤ length a → ⊥)
       → Unwritten call (exported s a call)
   unfolding lent
   unwritten call n =
       rw (exported-lent call)
       (by-test (Unwritten call) (ltb (length s) State.size) (λ h. (refl, (refl, refl)))
       (λ h.
-      by-test (Unwritten call) (ltb (length a) Answers.size) (λ k. (refl, (refl, refl)))
-      (λ k. absurd (n (ltb-false (length s) State.size h) (ltb-false (length a) Answers.size k)))))
+      by-test (Unwritten call) (ltb (length a) AnswerBytes.size) (λ k. (refl, (refl, refl)))
+      (λ k. absurd (n (ltb-false (length s) State.size h) (ltb-false (length a) AnswerBytes.size k)))))
 
 -- Where an id's text or a text's id is refused, its output buffer is as it was.
 pub text-untouched : (id text : List ℕ) → (Export.uidHex id text .code % 256 ≡ 0 → ⊥)

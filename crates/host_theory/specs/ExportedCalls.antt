@@ -23,7 +23,7 @@ use Rattle.host_state.specs.State.{loaded, loadedId, loadedTable}
 use Rattle.host_answer.specs.declared.numbers.Note.{Note}
 use Rattle.host_answer.specs.declared.numbers.Gain.{Gain}
 use Rattle.host_answer.specs.Numbers.{saysIn, progressIn}
-use Rattle.host_answer.specs.AnswerBytes as Answers
+use Rattle.host_answer.specs.AnswerBytes as AnswerBytes
 use Rattle.host_buffers.specs.Codes.{coded}
 use Rattle.host_buffers.specs.Hosts.{Exported, Requested, toldBy, leaves, handed}
 use Rattle.host_buffers.specs.Exports as Export
@@ -88,7 +88,7 @@ pub record Lending : Type 0 where
 pub record Fair (x : Lending) : Type 0 where
   pub bytes : Good (x .call)
   pub lengths : Lent (x .call)
-  pub room : Answers.size ≤ length (x .answer)
+  pub room : AnswerBytes.size ≤ length (x .answer)
 
 -- One call after the other: each gets the state that the one before left.
 unfoldable pub exports : List ℕ → List Lending → List Requested
@@ -187,4 +187,4 @@ Coded e = e .code ≡ coded (byte 0 (e .answer)) (field 16 8 (e .answer))
 
 -- The bytes after the state and after the answer.
 abbrev pub behind : Requested → List ℕ × List ℕ
-behind e = (drop State.size (e .state), drop Answers.size (e .answer))
+behind e = (drop State.size (e .state), drop AnswerBytes.size (e .answer))

@@ -14,7 +14,8 @@ use Rattle.image.proofs.info_bytes.Laws.{info-back, info-fits}
 use Rattle.client.specs.declared.Reset.{Reset}
 use Rattle.host_turn.specs.declared.Flat.{Flat}
 use Rattle.host_turn.specs.Turns.{noReset, selecting, FlatFits}
-use Rattle.host_turn_bytes.specs.TurnBytes.{flag, flagged, tags, savedReset, work, savedFlat, loadedReset, loadedFlat}
+use Rattle.host_turn_bytes.specs.TurnBytes.{flag, flagged, tags, savedReset, work, savedFlat, loadedReset}
+use Rattle.host_turn_bytes.specs.TurnBytes.{loadedFlat}
 use Rattle.host_turn_bytes.proofs.Ways.{reset-length, work-length}
 
 pub flag-back : (b : Bool) → flagged (flag b) ≡ b

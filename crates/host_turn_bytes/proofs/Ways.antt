@@ -11,7 +11,8 @@ use Rattle.image.specs.InfoBytes.{savedInfo, loadedInfo}
 use Rattle.image.proofs.info_bytes.Ways.{info-length}
 use Rattle.client.specs.declared.Reset.{Reset}
 use Rattle.host_turn.specs.declared.Flat.{Flat}
-use Rattle.host_turn_bytes.specs.TurnBytes.{flag, flagged, tags, savedReset, work, savedFlat, loadedReset, loadedFlat}
+use Rattle.host_turn_bytes.specs.TurnBytes.{flag, flagged, tags, savedReset, work, savedFlat, loadedReset}
+use Rattle.host_turn_bytes.specs.TurnBytes.{loadedFlat}
 
 pub reset-length : (z : Reset) → length (savedReset z) ≡ 3
 unfolding savedReset

@@ -7,14 +7,14 @@ use Rattle.log_lines.specs.declared.Reader.{Reader}
 use Rattle.log_lines.specs.declared.Fed.{Fed}
 use Rattle.log_lines.specs.Reading.{feed}
 use Rattle.log_run.specs.declared.Replay.{Replay}
-use Rattle.log_run.specs.Run as Replays
+use Rattle.log_run.specs.Run as Run
 use Rattle.log_run.specs.Run.{answer, isEnded}
 use Rattle.log_listing.specs.declared.Answer.{Answer}
 use Rattle.log_feed.specs.declared.events.Log.{Log}
 use Rattle.log_feed.specs.Events.{idle, logOf, met}
 use Rattle.log_feed.specs.FeedMachine.{joins, inside, more, begun, Logged, reached, stretch, piece, lastLine}
 
-pub began : (w : Log) (r : Reader) (v : Replay) → r ≡ idle → v ≡ Replays.begun → w ≡ logOf r v → w ≡ begun
+pub began : (w : Log) (r : Reader) (v : Replay) → r ≡ idle → v ≡ Run.begun → w ≡ logOf r v → w ≡ begun
 unfolding begun
 began w r v er ev ew = ew ∙ rw (er, ev)
 

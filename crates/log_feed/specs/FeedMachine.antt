@@ -7,7 +7,7 @@ use Rattle.log_lines.specs.declared.Event.{Event}
 use Rattle.log_lines.specs.Reading.{Stepped, step, Read, feed, onEvent, onPlace}
 use Rattle.log_run.specs.declared.Stage.{Stage}
 use Rattle.log_run.specs.declared.Replay.{Replay}
-use Rattle.log_run.specs.Run as Replays
+use Rattle.log_run.specs.Run as Run
 use Rattle.log_run.specs.Run.{onStage, isEnded}
 use Rattle.log_feed.specs.declared.events.Log.{Log}
 use Rattle.log_feed.specs.Events.{idle, logOf, met}
@@ -63,7 +63,7 @@ stretch w buf i xs =
     (reached (w .replay) (feed (joins (w .replay .stage)) i (w .reader) buf xs))
 
 unfoldable pub begun : Log
-begun = logOf idle Replays.begun
+begun = logOf idle Run.begun
 
 -- "A line ends in LF; a last one that isn't empty may lack it."
 unfoldable pub lastLine : Logged → Logged

@@ -6,7 +6,7 @@ use native.Mathlib.Omega.{arith}
 use Rattle.paper.specs.Hearing.{Prefix, Heard, nothing, hear}
 use Rattle.paper.specs.Log.{Records, missing, spoilt, next, overRecords}
 use Rattle.paper.specs.Walk.{Walk, return, stop, select, Wire, run, discover}
-use Rattle.theory.proofs.walk.Bound.{discover-bound}
+use Rattle.theory.proofs.walk.SelectsBounded.{discover-bound}
 use Rattle.theory.proofs.walk.MachineIsWalk.{run-later}
 
 -- What is heard in record j, counted from 0; nothing after the last.

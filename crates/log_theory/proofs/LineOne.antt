@@ -27,7 +27,7 @@ use Rattle.log_feed.specs.Events.{lined, emptied, logOf, idle}
 use Rattle.log_theory.specs.WholeTalk.{talk}
 use Rattle.log_theory.proofs.LinesLeft.{behind, odd, second, odd-is, unread, odd-unread}
 use Rattle.log_theory.proofs.ByteSteps.{reader, at, with′}
-use Rattle.log_theory.proofs.ByteSteps as Bytes
+use Rattle.log_theory.proofs.ByteSteps as ByteSteps
 use Rattle.log_theory.proofs.ReadToEnd.{ran, ran-byte, ran-ended, end-start, end-even, end-odd, settled}
 use Rattle.log_theory.proofs.ReadToEnd.{goes-settled}
 use Rattle.log_theory.proofs.RecordsRead.{lines-lf, lines-other, stored, resumed, rest}
@@ -206,7 +206,7 @@ module _ (v : Replay) (before : v .stage ≡ First) where
     both-refuse : (p : Place) (ls : List (List ℕ)) → turn p b ≡ Turn.Bad → lines (b ∷ bs) ≡ ls
         → opening cap v p acc ls ≡ stops v 22
         → ran (at (reader p n o) v buf) (b ∷ bs) ≡ opening cap v p acc (lines (b ∷ bs))
-    both-refuse p ls e el q = ran-byte _ _ b bs (Bytes.refused v going p n o buf b e)
+    both-refuse p ls e el q = ran-byte _ _ b bs (ByteSteps.refused v going p n o buf b e)
         ∙ ran-ended (stops v 22) buf bs refl ∙ paper p ls (stops v 22) el q
 
     opened : ran (at idle (opens v (take n buf)) buf) bs ≡ talk (opens v acc) (joined cap [] (lines bs))
@@ -218,14 +218,15 @@ module _ (v : Replay) (before : v .stage ≡ First) where
         → ran (at (reader p n o) v buf) (b ∷ bs) ≡ opening cap v p acc (lines (b ∷ bs))
     one-lf Start lf =
         ran-byte _ (at idle (opens v (take n buf)) buf) b bs
-        (Bytes.empty v going Start n o buf b (Bytes.lf-start b lf)
+        (ByteSteps.empty v going Start n o buf b (ByteSteps.lf-start b lf)
         ∙ ap (λ (w : Log). with′ w buf) (emptied-is n o buf))
         ∙ opened ∙ paper Start ([] ∷ lines bs) _ (lines-lf b bs lf) (lf-start cap v acc (lines bs))
     one-lf Even lf =
         ran-byte _ (at idle (opens v (take n buf)) buf) b bs
-        (Bytes.line v going Even n o buf b (Bytes.lf-even b lf) ∙ ap (λ (w : Log). with′ w buf) (lined-is n o buf))
+        (ByteSteps.line v going Even n o buf b (ByteSteps.lf-even b lf)
+        ∙ ap (λ (w : Log). with′ w buf) (lined-is n o buf))
         ∙ opened ∙ paper Even ([] ∷ lines bs) _ (lines-lf b bs lf) (lf-even cap v acc (lines bs))
-    one-lf (Odd h) lf = both-refuse (Odd h) ([] ∷ lines bs) (Bytes.lf-odd b lf h) (lines-lf b bs lf)
+    one-lf (Odd h) lf = both-refuse (Odd h) ([] ∷ lines bs) (ByteSteps.lf-odd b lf h) (lines-lf b bs lf)
         (lf-odd cap v acc h (lines bs))
 
     module _ (other : eqb b 10 ≡ false) where
@@ -234,7 +235,7 @@ module _ (v : Replay) (before : v .stage ≡ First) where
       digit-odd h d true ef =
           let k : n < length buf = ltb-true n (length buf) ef in
           let x = h % 16 * 16 + digit b in
-          ran-byte _ _ b bs (Bytes.fits v going (Odd h) n o buf b x (Bytes.digit-odd b other h d) k)
+          ran-byte _ _ b bs (ByteSteps.fits v going (Odd h) n o buf b x (ByteSteps.digit-odd b other h d) k)
           ∙ ih Even (n + 1) o (set buf n x) (acc ++ (x ∷ [])) (omega (arith, length-set buf n x))
           (held-fits acc buf n x o k held .0)
           ∙ ap (λ (c : ℕ). opening c v Even (acc ++ (x ∷ [])) (lines bs)) (length-set buf n x)
@@ -242,20 +243,21 @@ module _ (v : Replay) (before : v .stage ≡ First) where
       digit-odd h d false ef =
           let k : length buf ≤ n = ltb-false n (length buf) ef in
           let x = h % 16 * 16 + digit b in
-          ran-byte _ _ b bs (Bytes.over v going (Odd h) n o buf b x (Bytes.digit-odd b other h d) k)
+          ran-byte _ _ b bs (ByteSteps.over v going (Odd h) n o buf b x (ByteSteps.digit-odd b other h d) k)
           ∙ ih Even n true buf (acc ++ (x ∷ [])) wide (held-over acc buf n x o wide k held)
           ∙ paper (Odd h) (longer b (lines bs)) _ (lines-other b bs other) (whole cap v acc b d h (lines bs))
 
       one-other : (p : Place) (d : Bool) → ltb (digit b) 16 ≡ d
           → ran (at (reader p n o) v buf) (b ∷ bs) ≡ opening cap v p acc (lines (b ∷ bs))
-      one-other p false d = both-refuse p (longer b (lines bs)) (Bytes.no-digit b other p d) (lines-other b bs other)
+      one-other p false d = both-refuse p (longer b (lines bs)) (ByteSteps.no-digit b other p d)
+          (lines-other b bs other)
           (refused cap v acc b d p (lines bs))
       one-other Start true d =
-          ran-byte _ _ b bs (Bytes.half v going Start n o buf b (digit b) (Bytes.digit-start b other d))
+          ran-byte _ _ b bs (ByteSteps.half v going Start n o buf b (digit b) (ByteSteps.digit-start b other d))
           ∙ ih (Odd (digit b)) n o buf acc wide held
           ∙ paper Start (longer b (lines bs)) _ (lines-other b bs other) (half-start cap v acc b d (lines bs))
       one-other Even true d =
-          ran-byte _ _ b bs (Bytes.half v going Even n o buf b (digit b) (Bytes.digit-even b other d))
+          ran-byte _ _ b bs (ByteSteps.half v going Even n o buf b (digit b) (ByteSteps.digit-even b other d))
           ∙ ih (Odd (digit b)) n o buf acc wide held
           ∙ paper Even (longer b (lines bs)) _ (lines-other b bs other) (half-even cap v acc b d (lines bs))
       one-other (Odd h) true d = digit-odd h d (ltb n (length buf)) refl

@@ -32,17 +32,17 @@ use Rattle.client.specs.Clients as Code
 use Rattle.client.specs.Numbers as Numbers
 use Rattle.client.specs.Numbers.{numberOf}
 use Rattle.client_start.specs.Start.{startDiscover}
-use Rattle.refinement.specs.WalkRecord.{tableOf}
-use Rattle.refinement.specs.ClientRecord.{clientOf, refusedAs, startedAs}
+use Rattle.refinement.specs.CodeWalk.{tableOf}
+use Rattle.refinement.specs.CodeClient.{clientOf, refusedAs, startedAs}
 use Rattle.refinement.specs.ClientServed.{endTable}
-use Rattle.refinement.proofs.client.CallsAreTalk.{new-client}
+use Rattle.refinement.proofs.client.CallsAgree.{new-client}
 use Rattle.refinement.proofs.client.AnswersRead.{ids-back}
-use Rattle.refinement.proofs.client.Starts.{discover-started}
+use Rattle.refinement.proofs.client.StartAnswers.{discover-started}
 use Rattle.refinement.proofs.walk.TableRows.{table-count}
 use Rattle.log_listing.specs.declared.Answer.{Answer}
 use Rattle.log_listing.specs.Listing.{used, inRow, firstIds, text}
 use Rattle.log_run.specs.declared.Replay.{Replay}
-use Rattle.log_run.specs.Run as Replays
+use Rattle.log_run.specs.Run as Run
 use Rattle.log_run.specs.Run.{begun, stops, goes, opens, answer}
 use Rattle.log_feed.specs.FeedMachine as Bench
 use Rattle.log_feed.specs.Pieces.{pieces, concat}
@@ -102,12 +102,12 @@ closed-text v e k small c =
     count = omega (arith, c .selects)
 
 -- A run that ends with a number before any Select.
-refused-text : (v : Replay) (n : ℕ) (rs : Records) → v ≡ Replays.ended (v .client) 0 noTable n
+refused-text : (v : Replay) (n : ℕ) (rs : Records) → v ≡ Run.ended (v .client) 0 noTable n
     → text (answer (talk v rs)) ≡ shown (stopped n) 0
 unfolding answer
 refused-text v n rs e =
     ap (λ (w : Replay). text (answer (talk w rs))) e
-    ∙ ap (λ (w : Replay). text (answer w)) (talk-ended rs (Replays.ended (v .client) 0 noTable n) refl)
+    ∙ ap (λ (w : Replay). text (answer w)) (talk-ended rs (Run.ended (v .client) 0 noTable n) refl)
     ∙ stopped-text n 0
 
 -- The discovery under a prefix.
@@ -146,15 +146,15 @@ module _ (given : Id) (bytes : All (λ b. b < 256) given) (rs : Records) where
   unfolding goes Machine.settle Machine.fresh refusedAs numberOf Walking.start
   begins true e =
       ap (λ (t : Started). text (answer (talk (from t) rs))) (started ∙ ap startedAs (short-starts e))
-      ∙ closed-text (talk (Replays.asked (clientOf first) 0) rs) ((overRecords (discover (bitsOf given)) rs 0) .0)
+      ∙ closed-text (talk (Run.asked (clientOf first) 0) rs) ((overRecords (discover (bitsOf given)) rs 0) .0)
       ((overRecords (discover (bitsOf given)) rs 0) .1)
       (few-selects (bitsOf given) rs)
       (rw (resume-start (bitsOf given))
-      (talks rs (Replays.asked (clientOf first) 0) (going (starting (bitsOf given))) 0
+      (talks rs (Run.asked (clientOf first) 0) (going (starting (bitsOf given))) 0
       (asked-stands 0 none (starting (bitsOf given)) (first-fits e) 0 0 refl)))
   begins false e =
       ap (λ (t : Started). text (answer (talk (from t) rs))) (started ∙ ap startedAs (long-starts e))
-      ∙ refused-text (Replays.ended (clientOf Machine.fresh) 0 noTable 13) 13 rs refl
+      ∙ refused-text (Run.ended (clientOf Machine.fresh) 0 noTable 13) 13 rs refl
 
 -- Line one, and the lines after it.
 abbrev paperLine : Option Id → List (List ℕ) → Ended (List Id) × ℕ

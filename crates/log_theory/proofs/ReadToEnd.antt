@@ -29,7 +29,7 @@ use Rattle.log_feed.specs.FeedMachine.{Logged, byte, piece, inside, lastLine}
 use Rattle.log_feed.proofs.Cut.{still}
 use Rattle.log_theory.specs.WholeTalk.{talk}
 use Rattle.log_theory.proofs.ByteSteps.{reader, at}
-use Rattle.log_theory.proofs.ByteSteps as Bytes
+use Rattle.log_theory.proofs.ByteSteps as ByteSteps
 
 -- The run after xs and the end of the input.
 unfoldable pub ran : Logged → List ℕ → Replay
@@ -54,11 +54,12 @@ talk-ended (next bytes rs) v e = rw e (talk-ended rs v e)
 module _ (v : Replay) (run : isEnded (v .stage) ≡ false) (n : ℕ) (o : Bool) (buf : List ℕ) where
   pub end-even : ran (at (reader Even n o) v buf) [] ≡ lined v (reader Start n o) buf .replay
   unfolding ran lastLine piece
-  end-even = ap (λ (s : Logged). s .log .replay) (Bytes.line v run Even n o buf 10 (Bytes.lf-even 10 refl))
+  end-even = ap (λ (s : Logged). s .log .replay) (ByteSteps.line v run Even n o buf 10 (ByteSteps.lf-even 10 refl))
 
   pub end-odd : (h : ℕ) → ran (at (reader (Odd h) n o) v buf) [] ≡ stops v 22
   unfolding ran lastLine piece
-  end-odd h = ap (λ (s : Logged). s .log .replay) (Bytes.refused v run (Odd h) n o buf 10 (Bytes.lf-odd 10 refl h))
+  end-odd h = ap (λ (s : Logged). s .log .replay)
+      (ByteSteps.refused v run (Odd h) n o buf 10 (ByteSteps.lf-odd 10 refl h))
 
 pub end-start : (v : Replay) (n : ℕ) (o : Bool) (buf : List ℕ) → ran (at (reader Start n o) v buf) [] ≡ v
 unfolding ran lastLine piece
@@ -104,18 +105,20 @@ module _ (v : Replay) (run : v .stage ≡ Running) where
       (p : Place) (n : ℕ) (buf : List ℕ) where
     spoil : (x : Turn) → turn p b ≡ x → (f : Bool) → ltb n (length buf) ≡ f
         → ran (at (reader p n true) v buf) (b ∷ bs) ≡ stops v 22
-    spoil (Half h) e f ef = ran-byte _ _ b bs (Bytes.half v going p n true buf b h e) ∙ ih (Odd h) n buf refl
-    spoil (Whole x) e true ef = ran-byte _ _ b bs (Bytes.fits v going p n true buf b x e (ltb-true n (length buf) ef))
+    spoil (Half h) e f ef = ran-byte _ _ b bs (ByteSteps.half v going p n true buf b h e) ∙ ih (Odd h) n buf refl
+    spoil (Whole x) e true ef = ran-byte _ _ b bs
+        (ByteSteps.fits v going p n true buf b x e (ltb-true n (length buf) ef))
         ∙ ih Even (n + 1) (set buf n x) refl
     spoil (Whole x) e false ef = ran-byte _ _ b bs
-        (Bytes.over v going p n true buf b x e (ltb-false n (length buf) ef)) ∙ ih Even n buf refl
+        (ByteSteps.over v going p n true buf b x e (ltb-false n (length buf) ef)) ∙ ih Even n buf refl
     spoil Turn.Line e f ef = ran-byte _ (at idle (stops v 22) buf) b bs
-        (Bytes.line v going p n true buf b e ∙ ap (λ (w : Log). record { log = w; bytes = buf }) (over-line n buf))
+        (ByteSteps.line v going p n true buf b e ∙ ap (λ (w : Log). record { log = w; bytes = buf }) (over-line n buf))
         ∙ ran-ended (stops v 22) buf bs refl
     spoil Turn.Empty e f ef = ran-byte _ (at idle (stops v 22) buf) b bs
-        (Bytes.empty v going p n true buf b e ∙ ap (λ (w : Log). record { log = w; bytes = buf }) (over-empty n buf))
+        (ByteSteps.empty v going p n true buf b e
+        ∙ ap (λ (w : Log). record { log = w; bytes = buf }) (over-empty n buf))
         ∙ ran-ended (stops v 22) buf bs refl
-    spoil Turn.Bad e f ef = ran-byte _ _ b bs (Bytes.refused v going p n true buf b e)
+    spoil Turn.Bad e f ef = ran-byte _ _ b bs (ByteSteps.refused v going p n true buf b e)
         ∙ ran-ended (stops v 22) buf bs refl
 
   pub spoils : (xs : List ℕ) (p : Place) (n : ℕ) (buf : List ℕ) → inside p ≡ true

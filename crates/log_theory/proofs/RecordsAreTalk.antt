@@ -16,7 +16,7 @@ use Rattle.paper.specs.Walk as Walk
 use Rattle.paper.specs.Walk.{Ended, done, stopped}
 use Rattle.theory.specs.WalkMachine as Walking
 use Rattle.theory.specs.WalkMachine.{State, Next, going, ended}
-use Rattle.theory.specs.OperationMachine as Phases
+use Rattle.theory.specs.OperationMachine as OperationMachine
 use Rattle.theory.specs.OperationMachine.{walking, selecting}
 use Rattle.theory.specs.ClientMachine as Machine
 use Rattle.theory.specs.ClientMachine.{waiting, ready}
@@ -37,8 +37,8 @@ use Rattle.client.specs.declared.Told.{Told}
 use Rattle.client.specs.Numbers.{numberOf, endOf, saysOf}
 use Rattle.client_request.specs.Request.{Asking, request}
 use Rattle.client_record.specs.Record.{record′}
-use Rattle.refinement.specs.WalkRecord.{tableOf}
-use Rattle.refinement.specs.ClientRecord.{clientOf, refusedAs, shownSays, toldAs}
+use Rattle.refinement.specs.CodeWalk.{tableOf}
+use Rattle.refinement.specs.CodeClient.{clientOf, refusedAs, shownSays, toldAs}
 use Rattle.refinement.specs.ClientServed.{endTable}
 use Rattle.refinement.proofs.client.AnswersRead.{Stops, step-stops}
 use Rattle.refinement.proofs.client.RequestBytes.{request-asked}
@@ -46,7 +46,7 @@ use Rattle.refinement.proofs.wire.ServedIsMachine.{select-length, refused-table
 use Rattle.refinement.proofs.client.RecordAnswers.{record-told}
 use Rattle.log_run.specs.declared.Stage.the-variants.{Running}
 use Rattle.log_run.specs.declared.Replay.{Replay}
-use Rattle.log_run.specs.Run as Replays
+use Rattle.log_run.specs.Run as Run
 use Rattle.log_run.specs.Run.{running, handed, room, asked, goes, takes, answer}
 use Rattle.log_theory.specs.WholeTalk.{talk}
 use Rattle.log_theory.proofs.ReadToEnd.{talk-ended}
@@ -77,7 +77,7 @@ pub data Stands : Replay → Next → ℕ → Type 0 where
             noTable;
       }) (going s) k
   over′ : (c : Client) (e : Ended (List Id)) (j k : ℕ) → j ≡ k % 65536 → FitsNext (ended e)
-      → Stands (Replays.ended c j (endTable e) (numbered e)) (ended e) k
+      → Stands (Run.ended c j (endTable e) (numbered e)) (ended e) k
 
 counted : (j k : ℕ) → j ≡ k % 65536 → (j + 1) % 65536 ≡ suc k % 65536
 counted j k e = omega arith
@@ -89,13 +89,13 @@ module _ (seed : ℕ) (id : Option Id) (s : State)
   c = record { seed = seed; id = id; turn = ready (selecting (walking s)) }
 
   abbrev q : Prefix
-  q = Phases.selected (walking s)
+  q = OperationMachine.selected (walking s)
 
   abbrev next-seed : ℕ
   next-seed = seedAfter (select q) seed
 
   small : length (bytesOf (select q) next-seed []) ≤ 31
-  unfolding Phases.selected
+  unfolding OperationMachine.selected
   small = select-length q next-seed [] (StatesFit.request-fits s (f .turn))
 
   wide : length room ≡ 64
@@ -130,7 +130,7 @@ module _ (seed : ℕ) (id : Option Id) (s : State)
 
 -- A refusal ends the run with its number.
 number-ends : (says : Says) (p : Progress) (x : Code.Id) (t : Table) (n : ℕ) → saysOf says p x t ≡ refused n []
-    → (c : Client) (k : ℕ) → goes says c k t ≡ Replays.ended c k t n
+    → (c : Client) (k : ℕ) → goes says c k t ≡ Run.ended c k t n
 unfolding saysOf goes endOf
 number-ends (Granted m) p x t n e c k = absurd (let z : _≡_ {A = ℕ} 0 1 = cc in omega arith)
 number-ends (Closing m) p x t n e c k = absurd (let z : _≡_ {A = ℕ} 0 1 = cc in omega arith)
@@ -140,8 +140,8 @@ number-ends (Over (Outcome.Heard h)) p x t n e c k = absurd (let z : _≡_ {A = 
 number-ends (Over (Outcome.Attached any)) p x t n e c k = absurd (let z : _≡_ {A = ℕ} 0 1 = cc in omega arith)
 number-ends (Over Outcome.Found) p x t n e c k = absurd (let z : _≡_ {A = ℕ} 0 1 = cc in omega arith)
 number-ends (Over (Outcome.Knows info)) p x t n e c k = absurd (let z : _≡_ {A = ℕ} 0 1 = cc in omega arith)
-number-ends (Over Outcome.Unaddressed) p x t n e c k = ap (Replays.ended c k t) (cc)
-number-ends (Refused r) p x t n e c k = ap (Replays.ended c k t) number
+number-ends (Over Outcome.Unaddressed) p x t n e c k = ap (Run.ended c k t) (cc)
+number-ends (Refused r) p x t n e c k = ap (Run.ended c k t) number
   where
     number : numberOf r ≡ n
     number = cc
@@ -154,14 +154,14 @@ module _ (seed : ℕ) (id : Option Id) (s : State)
   w = record { seed = seed; id = id; turn = waiting (selecting (walking s)) }
 
   abbrev kept : Option Id
-  kept = cleared (select (Phases.selected (walking s))) id
+  kept = cleared (select (OperationMachine.selected (walking s))) id
 
   abbrev settled : Next → Machine.Told
   settled n = Machine.settle (record { seed = seed; id = kept; turn = waiting (selecting (walking s)) }) none
-      (Phases.walked n) (length bytes)
+      (OperationMachine.walked n) (length bytes)
 
   tells : Machine.record′ w [] bytes ≡ settled (Walking.step s (hear bytes))
-  unfolding Machine.record′ Phases.step Phases.hears
+  unfolding Machine.record′ OperationMachine.step OperationMachine.hears
   tells = refl
 
   abbrev onto : Next → Replay
@@ -205,14 +205,14 @@ Talks rs = (v : Replay) (n : Next) (k : ℕ) → Stands v n k
     → Closed (talk v rs) ((Log.overRecords (resumed n) rs k) .0) ((Log.overRecords (resumed n) rs k) .1)
 
 ended-talks : (rs : Records) (x : Client) (e : Ended (List Id)) (j k : ℕ) → j ≡ k % 65536 → FitsNext (ended e)
-    → Closed (talk (Replays.ended x j (endTable e) (numbered e)) rs) ((Log.overRecords (resumed (ended e)) rs k) .0)
+    → Closed (talk (Run.ended x j (endTable e) (numbered e)) rs) ((Log.overRecords (resumed (ended e)) rs k) .0)
     ((Log.overRecords (resumed (ended e)) rs k) .1)
 unfolding Log.overRecords resumed answer
 ended-talks rs x (done ids) j k e f =
-    rw (talk-ended rs (Replays.ended x j (tableOf ids) 0) refl)
+    rw (talk-ended rs (Run.ended x j (tableOf ids) 0) refl)
     (record { code = refl; found = refl; selects = e; fits = f })
 ended-talks rs x (stopped n) j k e f =
-    rw (talk-ended rs (Replays.ended x j noTable n) refl) (record { code = refl; found = refl; selects = e; fits = tt })
+    rw (talk-ended rs (Run.ended x j noTable n) refl) (record { code = refl; found = refl; selects = e; fits = tt })
 
 missing-talks : Talks missing
 unfolding talk Log.overRecords resumed answer

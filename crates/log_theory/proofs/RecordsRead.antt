@@ -27,7 +27,7 @@ use Rattle.log_theory.specs.WholeTalk.{talk}
 use Rattle.log_theory.proofs.LinesLeft.{from, fromEven, fromOdd}
 use Rattle.log_theory.proofs.LinesLeft as Rest
 use Rattle.log_theory.proofs.ByteSteps.{reader, at, with′}
-use Rattle.log_theory.proofs.ByteSteps as Bytes
+use Rattle.log_theory.proofs.ByteSteps as ByteSteps
 use Rattle.log_theory.proofs.ReadToEnd.{ran, ran-byte, ran-ended, talk-ended, end-start, end-even, end-odd}
 use Rattle.log_theory.proofs.ReadToEnd.{settled, goes-settled, spoils}
 
@@ -90,7 +90,7 @@ module _ (b : ℕ) (bs : List ℕ) (ih : Right bs) (n : ℕ) (v : Replay) (buf :
   both-refuse : (p : Place) (ls : List (List ℕ)) → turn p b ≡ Turn.Bad → lines (b ∷ bs) ≡ ls
       → from cap p acc ls ≡ spoilt → ran (at (reader p n false) v buf) (b ∷ bs) ≡ left p n v buf (b ∷ bs)
   both-refuse p ls e el q =
-      ran-byte _ _ b bs (Bytes.refused v (going v run) p n false buf b e)
+      ran-byte _ _ b bs (ByteSteps.refused v (going v run) p n false buf b e)
       ∙ ran-ended (stops v 22) buf bs refl ∙ spoilt-is ∙ paper p ls spoilt el q
 
   emptied-is : emptied v (reader Start n false) buf ≡ logOf idle (takes v acc)
@@ -114,18 +114,19 @@ module _ (b : ℕ) (bs : List ℕ) (ih : Right bs) (n : ℕ) (v : Replay) (buf :
   unfolding from joined
   one-lf Start lf =
       ran-byte _ (at idle (takes v acc) buf) b bs
-      (Bytes.empty v (going v run) Start n false buf b (Bytes.lf-start b lf)
+      (ByteSteps.empty v (going v run) Start n false buf b (ByteSteps.lf-start b lf)
       ∙ ap (λ (w : Log). with′ w buf) emptied-is)
       ∙ resumed bs ih (takes v acc) buf takes-settled
       ∙ taken-is
       ∙ paper Start ([] ∷ lines bs) (next acc (joined cap [] (lines bs))) (lines-lf b bs lf) refl
   one-lf Even lf =
       ran-byte _ (at (reader Start n false) v buf) b bs
-      (Bytes.line v (going v run) Even n false buf b (Bytes.lf-even b lf) ∙ ap (λ (w : Log). with′ w buf) lined-is)
+      (ByteSteps.line v (going v run) Even n false buf b (ByteSteps.lf-even b lf)
+      ∙ ap (λ (w : Log). with′ w buf) lined-is)
       ∙ ih Start n v buf run room
       ∙ paper Even ([] ∷ lines bs) (from cap Start acc (lines bs)) (lines-lf b bs lf)
       (Rest.lf-even cap acc (omega (arith, long)) (lines bs))
-  one-lf (Odd h) lf = both-refuse (Odd h) ([] ∷ lines bs) (Bytes.lf-odd b lf h) (lines-lf b bs lf)
+  one-lf (Odd h) lf = both-refuse (Odd h) ([] ∷ lines bs) (ByteSteps.lf-odd b lf h) (lines-lf b bs lf)
       (Rest.lf-odd cap h acc (lines bs))
 
   module _ (other : eqb b 10 ≡ false) where
@@ -140,7 +141,7 @@ module _ (b : ℕ) (bs : List ℕ) (ih : Right bs) (n : ℕ) (v : Replay) (buf :
     digit-odd h d true ef =
         let k : n < length buf = ltb-true n (length buf) ef in
         let x = h % 16 * 16 + digit b in
-        ran-byte _ _ b bs (Bytes.fits v (going v run) (Odd h) n false buf b x (Bytes.digit-odd b other h d) k)
+        ran-byte _ _ b bs (ByteSteps.fits v (going v run) (Odd h) n false buf b x (ByteSteps.digit-odd b other h d) k)
         ∙ ih Even (n + 1) v (set buf n x) run (omega (arith, length-set buf n x))
         ∙ kept x k
         ∙ paper (Odd h) (longer b (lines bs)) (from cap Even (acc ++ (x ∷ [])) (lines bs)) (lines-other b bs other)
@@ -148,7 +149,7 @@ module _ (b : ℕ) (bs : List ℕ) (ih : Right bs) (n : ℕ) (v : Replay) (buf :
     digit-odd h d false ef =
         let k : length buf ≤ n = ltb-false n (length buf) ef in
         let x = h % 16 * 16 + digit b in
-        ran-byte _ _ b bs (Bytes.over v (going v run) (Odd h) n false buf b x (Bytes.digit-odd b other h d) k)
+        ran-byte _ _ b bs (ByteSteps.over v (going v run) (Odd h) n false buf b x (ByteSteps.digit-odd b other h d) k)
         ∙ spoils v run bs Even n buf refl
         ∙ spoilt-is
         ∙ paper (Odd h) (longer b (lines bs)) spoilt (lines-other b bs other)
@@ -156,15 +157,16 @@ module _ (b : ℕ) (bs : List ℕ) (ih : Right bs) (n : ℕ) (v : Replay) (buf :
 
     one-other : (p : Place) (d : Bool) → ltb (digit b) 16 ≡ d
         → ran (at (reader p n false) v buf) (b ∷ bs) ≡ left p n v buf (b ∷ bs)
-    one-other p false d = both-refuse p (longer b (lines bs)) (Bytes.no-digit b other p d) (lines-other b bs other)
+    one-other p false d = both-refuse p (longer b (lines bs)) (ByteSteps.no-digit b other p d) (lines-other b bs other)
         (Rest.refused b d cap p acc (lines bs))
     one-other Start true d =
-        ran-byte _ _ b bs (Bytes.half v (going v run) Start n false buf b (digit b) (Bytes.digit-start b other d))
+        ran-byte _ _ b bs (ByteSteps.half v (going v run) Start n false buf b (digit b)
+        (ByteSteps.digit-start b other d))
         ∙ ih (Odd (digit b)) n v buf run room
         ∙ paper Start (longer b (lines bs)) (from cap (Odd (digit b)) acc (lines bs)) (lines-other b bs other)
         (Rest.half-start b d cap acc (lines bs))
     one-other Even true d =
-        ran-byte _ _ b bs (Bytes.half v (going v run) Even n false buf b (digit b) (Bytes.digit-even b other d))
+        ran-byte _ _ b bs (ByteSteps.half v (going v run) Even n false buf b (digit b) (ByteSteps.digit-even b other d))
         ∙ ih (Odd (digit b)) n v buf run room
         ∙ paper Even (longer b (lines bs)) (from cap (Odd (digit b)) acc (lines bs)) (lines-other b bs other)
         (Rest.half-even b d cap acc (lines bs))

@@ -7,7 +7,7 @@ use lib.ListN.{length}
 use Rattle.paper.specs.Log.{lines}
 use Rattle.log_lines.specs.declared.Place.the-variants.{Start}
 use Rattle.log_run.specs.declared.Replay.{Replay}
-use Rattle.log_run.specs.Run as Replays
+use Rattle.log_run.specs.Run as Run
 use Rattle.log_run.specs.Run.{answer}
 use Rattle.log_listing.specs.Listing.{text}
 use Rattle.log_feed.specs.FeedMachine.{Logged, byte, piece, begun, lastLine}
@@ -26,7 +26,7 @@ unfolding pieces concat piece
 any-pieces s [] = refl
 any-pieces s (x ∷ xs) = any-pieces (piece s x) xs ∙ sym (joins s x (concat xs))
 
-opening-is : (ls : List (List ℕ)) → opening 4096 Replays.begun Start [] ls ≡ openedBy ls
+opening-is : (ls : List (List ℕ)) → opening 4096 Run.begun Start [] ls ≡ openedBy ls
 unfolding opening openedBy judged
 opening-is [] = refl
 opening-is (l ∷ ls) = refl
@@ -34,11 +34,11 @@ opening-is (l ∷ ls) = refl
 -- The run after the pieces of an input and its end.
 pub whole : (ps : List (List ℕ)) (buf : List ℕ) → length buf ≡ 4096
     → lastLine (pieces (record { log = begun; bytes = buf }) ps) .log .replay ≡ runOf (concat ps)
-unfolding ran runOf begun Replays.begun
+unfolding ran runOf begun Run.begun
 whole ps buf h =
     ap (λ (s : Logged). lastLine s .log .replay) (any-pieces (record { log = begun; bytes = buf }) ps)
-    ∙ from-start Replays.begun refl (concat ps) buf (omega arith)
-    ∙ ap (λ (cap : ℕ). opening cap Replays.begun Start [] (lines (concat ps))) h
+    ∙ from-start Run.begun refl (concat ps) buf (omega arith)
+    ∙ ap (λ (cap : ℕ). opening cap Run.begun Start [] (lines (concat ps))) h
     ∙ opening-is (lines (concat ps))
 
 -- What is written for it.

@@ -14,7 +14,7 @@ use Rattle.theory.specs.ClientMachine as Machine
 use Rattle.theory.specs.ClientMachine.{ready, waiting}
 use Rattle.theory.specs.WalkMachine.{mine, State, ended, request, step}
 use Rattle.theory.specs.OperationMachine.{Job, writing, demanding}
-use Rattle.theory.proofs.walk.StatesFit as Walk
+use Rattle.theory.proofs.walk.StatesFit as StatesFit
 use Rattle.theory.proofs.walk.StatesFit.{Short}
 use Rattle.theory.proofs.client.ClientsFit.{Fits}
 use Rattle.theory.proofs.Instances.{ids, found, under, pods}
@@ -28,15 +28,15 @@ use Rattle.client_start.specs.Start as CodeStart
 use Rattle.client_request.specs.Request as CodeRequest
 use Rattle.client_record.specs.Answer.{tells}
 use Rattle.client_record.specs.Record as CodeRecord
-use Rattle.refinement.specs.ClientRecord.{jobIn, recordOf, clientOf, startedAs, toldAs, askedAs}
+use Rattle.refinement.specs.CodeClient.{jobIn, recordOf, clientOf, startedAs, toldAs, askedAs}
 use Rattle.refinement.specs.WalkDriven.{bitsAsked, driven, begun}
-use Rattle.refinement.specs.WalkRecord.{rowOf, tableOf, walkOf, nextOf}
+use Rattle.refinement.specs.CodeWalk.{rowOf, tableOf, walkOf, nextOf}
 use Rattle.refinement.proofs.walk.AskedBits.{asks-sim}
-use Rattle.refinement.proofs.walk.Condition3 as Condition3
+use Rattle.refinement.proofs.walk.EndsAndFinds as Condition3
 use Rattle.refinement.proofs.client.JobAnswers.{answering, job-told}
 use Rattle.refinement.proofs.client.RequestBytes.{request-asked}
 use Rattle.refinement.proofs.walk.StepIsMachine.{step-sim}
-use Rattle.refinement.proofs.client.Starts.{discover-started}
+use Rattle.refinement.proofs.client.StartAnswers.{discover-started}
 use Rattle.refinement.proofs.walk.TableRows.{row-of-table, unused-bytes, unused-lengths, unused-row}
 use Rattle.refinement.proofs.walk.TableRows.{table-sorted}
 use Rattle.refinement.proofs.client.RecordAnswers.{record-told}
@@ -102,7 +102,7 @@ confirming = record {
   phase = mine (0xC1 ∷ 0x87 ∷ []);
 }
 
-confirming-fits : Walk.Fits confirming
+confirming-fits : StatesFit.Fits confirming
 unfolding bitsOf counting
 confirming-fits = record {
   depth = omega arith;

@@ -1,11 +1,10 @@
 -- The code's client is document 01's: starts, requests and records, any calls, and the client driven over any events.
-pub mod CallsAreTalk
-pub mod Cases
+pub mod CallsAgree
 pub mod DrivenIsTalk
 pub mod UnreadRest
 pub mod JobAnswers
-pub mod Operations
+pub mod OperationsAreTalk
 pub mod AnswersRead
 pub mod RequestBytes
-pub mod Starts
+pub mod StartAnswers
 pub mod RecordAnswers

@@ -2,3 +2,4 @@
 pub mod Starts
 pub mod Records
 pub mod Requests
+pub mod TurnCases

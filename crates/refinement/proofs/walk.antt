@@ -1,8 +1,7 @@
 -- The code's walk is the walk machine: its path, marks, table, requests and step, and acceptance condition 3 for it.
 pub mod AskedBits
-pub mod Condition3
+pub mod EndsAndFinds
 pub mod LevelMarks
 pub mod PathBytes
 pub mod StepIsMachine
-pub mod RecordsSound
 pub mod TableRows

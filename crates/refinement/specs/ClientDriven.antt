@@ -10,7 +10,7 @@ use Rattle.paper.specs.Client as Paper
 use Rattle.paper.specs.Client.{startWith, seedAfter, bytesOf, handing}
 use Rattle.paper.specs.Hearing.{Id}
 use Rattle.paper.specs.Talk.{Ask, Talk, Outcome}
-use Rattle.theory.specs.ClientDriven as Theory
+use Rattle.theory.specs.ClientDriven as ClientDriven
 use Rattle.theory.specs.ClientDriven.{Round, events, Sent, OfLength, sizeOf, seedAt, idAt, Brought, nothingYet, brought}
 use Rattle.theory.specs.ClientDriven.{saidAt}
 use Rattle.theory.specs.FlashOrder.{Past, Event, heard, failed, Stand, returned, refused, lost, pending, play}
@@ -52,8 +52,8 @@ sends buffer [] t = []
 sends buffer (r ∷ rs) t =
     cond (isOnward (t .says))
     (onSays (asking buffer r t .answer .says)
-    (λ k. Theory.sending k (asking buffer r t .bytes) (some (r .event)) ∷ sends buffer rs (telling buffer r t))
-    (λ k. Theory.sending k (asking buffer r t .bytes) none ∷ []) [] [])
+    (λ k. ClientDriven.sending k (asking buffer r t .bytes) (some (r .event)) ∷ sends buffer rs (telling buffer r t))
+    (λ k. ClientDriven.sending k (asking buffer r t .bytes) none ∷ []) [] [])
     []
 
 -- The code's answer, read as document 01's.
@@ -92,4 +92,5 @@ pub record Plays (n : Option ℕ) (seed : ℕ) (id : Option Id) (m : Talk Outcom
     (s : Started) : Type 0 where
   pub stands : StandsAs n seed id (play m (events rounds) []) (brought m (events rounds) nothingYet)
       (driven buffer rounds (opening s))
-  pub sent : sends buffer rounds (opening s) ≡ Theory.sends buffer rounds (startWith n (Theory.resting seed id) true m)
+  pub sent : sends buffer rounds (opening s)
+      ≡ ClientDriven.sends buffer rounds (startWith n (ClientDriven.resting seed id) true m)

@@ -29,8 +29,8 @@ use Rattle.client.specs.Numbers.{idsOf, saysOf}
 use Rattle.client_start.specs.Start.{startDiscover}
 use Rattle.client_request.specs.Request.{Asking, request}
 use Rattle.client_record.specs.Record.{record′}
-use Rattle.refinement.specs.WalkRecord.{tableOf}
-use Rattle.refinement.specs.ClientRecord.{isThere, valueOf}
+use Rattle.refinement.specs.CodeWalk.{tableOf}
+use Rattle.refinement.specs.CodeClient.{isThere, valueOf}
 
 -- The record for a request, by how many Selects were sent before it and by its bytes.
 abbrev pub Wire : Type 0

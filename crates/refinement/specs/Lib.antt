@@ -1,7 +1,7 @@
 pub mod Calls
-pub mod ClientRecord
+pub mod CodeClient
 pub mod WalkDriven
 pub mod ClientDriven
-pub mod WalkRecord
+pub mod CodeWalk
 pub mod Refusals
 pub mod ClientServed

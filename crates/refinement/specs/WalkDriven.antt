@@ -14,7 +14,7 @@ use Rattle.walk.specs.declared.Ask.{Ask}
 use Rattle.select.specs.Selects.{asked}
 use Rattle.walk.specs.Moves.{asks}
 use Rattle.walk_step.specs.Steps.{step, going}
-use Rattle.refinement.specs.WalkRecord.{standingAt}
+use Rattle.refinement.specs.CodeWalk.{standingAt}
 
 -- The bits that a request asks for: the first n of the bits of its 16 bytes and zeros after them.
 abbrev pub bitsAsked : Ask → Prefix

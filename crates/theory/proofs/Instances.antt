@@ -28,25 +28,25 @@ use Rattle.theory.specs.FlashOrder.{Checked}
 use Rattle.theory.specs.RestKept.{Round, hostRun}
 use Rattle.theory.specs.WalkMachine.{mine, State, step, start}
 use Rattle.theory.specs.PrefixFree.{Apart, ownSelects, Sorted}
-use Rattle.theory.specs.OperationMachine as Phases
+use Rattle.theory.specs.OperationMachine as OperationMachine
 use Rattle.theory.specs.OperationMachine.{demanding}
 use Rattle.theory.proofs.frames.CheckParts.{check-fits}
 use Rattle.theory.proofs.walk.FindsExactly.{discover-apart}
-use Rattle.theory.proofs.walk.StatesFit as Walk
+use Rattle.theory.proofs.walk.StatesFit as StatesFit
 use Rattle.theory.proofs.walk.StatesFit.{step-fits, start-fits}
 use Rattle.theory.proofs.flash.VerifySucceeds.{verdict, verify-only, verify-if}
 use Rattle.theory.proofs.frames.FramesReadBack.{Fits, read-written, written-read, fits-read}
 use Rattle.theory.proofs.frames.RecordsHeard.{hear-reply, hear-ok, hear-unsupported, hear-other, hear-echo}
 use Rattle.theory.proofs.frames.RecordsHeard.{frames-fuel, answer-fuel, answer-reply, answer-echo}
 use Rattle.theory.proofs.flash.EraseAddresses.{addresses-fit, capacity-fits, addresses-below}
-use Rattle.theory.proofs.client.ClientsFit as Keeping
+use Rattle.theory.proofs.client.ClientsFit as ClientsFit
 use Rattle.theory.proofs.client.ClientsFit.{turn-sound, record-fits}
 use Rattle.theory.proofs.walk.ListedIds.{Listed, kept-listed, kept-distinct}
 use Rattle.theory.proofs.walk.MatchingIds.{matching-extends}
 use Rattle.theory.proofs.walk.CountAtMost.{own-most, selects-most}
 use Rattle.theory.proofs.walk.OneLength.{discover-exact}
 use Rattle.theory.proofs.walk.IdOrder.{before-total, before-antisym, before-trans}
-use Rattle.theory.proofs.talk.UnreadRest.{host-moves}
+use Rattle.theory.proofs.client.UnreadRest.{host-moves}
 use Rattle.theory.proofs.walk.SelectsSent.{Sends, discover-sends, discover-alike}
 use Rattle.theory.proofs.client.MachineIsClient.{SoundTurn, paperOf, toldOf, record-sim}
 use Rattle.theory.proofs.frames.TextReadsBack.{lowerCase, lower, parse-of-written, written-of-parsed}
@@ -306,12 +306,17 @@ abbrev image : List ℕ
 image = 0x10 ∷ 0x21 ∷ 0x32 ∷ 0x43 ∷ 0x54 ∷ []
 
 abbrev writing : Machine.Client
-writing = record { seed = 255; id = some (0xC1 ∷ 0x07 ∷ []); turn = waiting (demanding (Phases.writing 5 target 4 0)) }
+writing = record {
+  seed = 255;
+  id = some (0xC1 ∷ 0x07 ∷ []);
+  turn = waiting
+      (demanding (OperationMachine.writing 5 target 4 0));
+}
 
 abbrev wrote : List ℕ
 wrote = 0xA5 ∷ 0x02 ∷ 0x01 ∷ 0x00 ∷ 0x00 ∷ 0x00 ∷ 0x00 ∷ 0x00 ∷ 0x00 ∷ 0x00 ∷ 0xC4 ∷ 0x7F ∷ []
 
-writing-fits : Keeping.Fits writing
+writing-fits : ClientsFit.Fits writing
 unfolding sound
 writing-fits = record { seed = omega arith; id = omega arith; turn = refl }
 
@@ -321,7 +326,7 @@ turn-sound-met = turn-sound (writing .turn) (writing-fits .turn)
 pub record-sim-met : Paper.record′ (paperOf writing) image wrote ≡ toldOf (Machine.record′ writing image wrote)
 record-sim-met = record-sim writing turn-sound-met image wrote
 
-pub record-fits-met : Keeping.Fits (Machine.record′ writing image wrote .client)
+pub record-fits-met : ClientsFit.Fits (Machine.record′ writing image wrote .client)
 record-fits-met = record-fits writing writing-fits image wrote
 
 -- A discovery under C1 that has kept C1 07 and is confirming C1 87 by the child that C1 87 is in.
@@ -334,7 +339,7 @@ confirming = record {
   phase = mine (0xC1 ∷ 0x87 ∷ []);
 }
 
-confirming-fits : Walk.Fits confirming
+confirming-fits : StatesFit.Fits confirming
 unfolding bitsOf counting
 confirming-fits = record {
   depth = omega arith;
@@ -343,10 +348,10 @@ confirming-fits = record {
   held = (omega arith, omega arith);
 }
 
-pub step-fits-met : Walk.FitsNext (step confirming (one (0xC1 ∷ 0x87 ∷ [])))
+pub step-fits-met : StatesFit.FitsNext (step confirming (one (0xC1 ∷ 0x87 ∷ [])))
 step-fits-met = step-fits confirming (one (0xC1 ∷ 0x87 ∷ [])) confirming-fits
 
-pub start-fits-met : Walk.FitsNext (start (bitsOf (0xC1 ∷ 0x07 ∷ [])))
+pub start-fits-met : StatesFit.FitsNext (start (bitsOf (0xC1 ∷ 0x07 ∷ [])))
 unfolding bitsOf counting
 start-fits-met = start-fits (bitsOf (0xC1 ∷ 0x07 ∷ [])) (omega arith)
 

@@ -4,3 +4,4 @@ pub mod talk
 pub mod client
 pub mod flash
 pub mod Instances
+pub mod EachMember

@@ -3,3 +3,4 @@ pub mod DrivenIsTalk
 pub mod HeldIds
 pub mod ClientsFit
 pub mod MachineIsClient
+pub mod UnreadRest

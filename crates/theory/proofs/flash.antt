@@ -4,7 +4,7 @@ pub mod WrittenBytes
 pub mod FramesFit
 pub mod FlashOrder
 pub mod VerifySucceeds
-pub mod HandedOut
+pub mod HandedOutInOrder
 pub mod EraseAddresses
-pub mod DeviceInfo
+pub mod InfoRule
 pub mod WriteOffsets

@@ -1,10 +1,9 @@
 -- The walk of a discovery: as a conversation and as a machine, its bound, its count of Selects, the ids that it finds.
 pub mod WalkRules
-pub mod Bound
+pub mod SelectsBounded
 pub mod CarriedIds
-pub mod Condition3
+pub mod EndsAndFinds
 pub mod CountSums
-pub mod EachMember
 pub mod StepEnds
 pub mod FindsExactly
 pub mod CountExamples
@@ -16,6 +15,6 @@ pub mod CountAtMost
 pub mod OneLength
 pub mod IdOrder
 pub mod MachineIsWalk
-pub mod WalkRuns
+pub mod RunEquations
 pub mod SelectsSent
 pub mod SortedIds

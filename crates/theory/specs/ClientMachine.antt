@@ -8,7 +8,7 @@ use lib.ListN.{length, drop}
 use Rattle.paper.specs.Client.{Says, refused, onward, over, idAfter, withinLongest, otherLength, seedAfter, bytesOf}
 use Rattle.paper.specs.Client.{handing, cleared, reading, place}
 use Rattle.paper.specs.Hearing.{Id, bitsOf, longest, onSome}
-use Rattle.theory.specs.OperationMachine as Phases
+use Rattle.theory.specs.OperationMachine as OperationMachine
 use Rattle.theory.specs.OperationMachine.{probing, parting, seeking, walking, Purpose, tell, clear, load, Job}
 use Rattle.theory.specs.OperationMachine.{informing, erasing, writing, verifying, resetting, Phase, selecting}
 use Rattle.theory.specs.OperationMachine.{demanding, leaving, Then, to, ends, refuses, step, starting}
@@ -141,7 +141,7 @@ unfoldable pub grant : Client → List ℕ → ℕ → Phase → List ℕ → As
 grant c bytes seed ph buffer =
     cond (ltb (length buffer) (length bytes)) (withholds c 16 (length bytes ∷ []) buffer)
     (record {
-      says = handing (Phases.request ph) (length bytes);
+      says = handing (OperationMachine.request ph) (length bytes);
       client = record
           { seed = seed; id = c .id; turn = handedOut ph };
       buffer = bytes ++ drop (length bytes) buffer;
@@ -153,8 +153,8 @@ request c image buffer =
     onTurn (c .turn) (withholds c 21 [] buffer)
     (λ ph.
     cond (otherLength (lends ph) image) (withholds c 20 [] buffer)
-    (grant c (bytesOf (Phases.request ph) (seedAfter (Phases.request ph) (c .seed)) image)
-    (seedAfter (Phases.request ph) (c .seed)) ph buffer))
+    (grant c (bytesOf (OperationMachine.request ph) (seedAfter (OperationMachine.request ph) (c .seed)) image)
+    (seedAfter (OperationMachine.request ph) (c .seed)) ph buffer))
     (λ ph. withholds c 21 [] buffer)
 
 abbrev pub fails : Client → ℕ → Told
@@ -165,9 +165,9 @@ record′ c image bytes =
     onTurn (c .turn) (unchanged c 21 []) (λ ph. unchanged c 21 [])
     (λ ph.
     cond (otherLength (lends ph) image) (unchanged c 20 [])
-    (onSome (reading (Phases.request ph) image bytes) (fails c (place (Phases.request ph) bytes))
-    (λ a. settle (record { seed = c .seed; id = cleared (Phases.request ph) (c .id); turn = c .turn })
-    (step ph a .progress) (step ph a .then) (place (Phases.request ph) bytes))))
+    (onSome (reading (OperationMachine.request ph) image bytes) (fails c (place (OperationMachine.request ph) bytes))
+    (λ a. settle (record { seed = c .seed; id = cleared (OperationMachine.request ph) (c .id); turn = c .turn })
+    (step ph a .progress) (step ph a .then) (place (OperationMachine.request ph) bytes))))
 
 unfoldable pub linkFailed : Client → Told
 linkFailed c = onTurn (c .turn) (unchanged c 21 []) (λ ph. unchanged c 21 []) (λ ph. fails c 0)

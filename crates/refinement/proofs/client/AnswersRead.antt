@@ -17,7 +17,7 @@ use Rattle.paper.specs.Walk.{long, done, stopped}
 use Rattle.theory.specs.WalkMachine as Walk
 use Rattle.theory.specs.WalkMachine.{State, asked, mine, other, leaving, going, ended}
 use Rattle.theory.specs.ClientMachine.{Brief}
-use Rattle.theory.specs.OperationMachine as Phases
+use Rattle.theory.specs.OperationMachine as OperationMachine
 use Rattle.theory.specs.OperationMachine.{Search, probing, parting, seeking, backing, walking, Phase, selecting}
 use Rattle.theory.specs.OperationMachine.{demanding, leaving, Then, to, ends, refuses, unlessLong, sought, walked}
 use Rattle.theory.specs.OperationMachine.{hears, step}
@@ -31,8 +31,8 @@ use Rattle.hearing.specs.declared.Hearing.{Hearing}
 use Rattle.walk_table.specs.declared.Entry.{Entry}
 use Rattle.walk_table.specs.Rows.{rows}
 use Rattle.client.specs.Numbers.{numberOf, carriedBy, idsOf, heardFrom, progressOf, endOf, saysOf}
-use Rattle.refinement.specs.WalkRecord.{rowOf, tableOf}
-use Rattle.refinement.specs.ClientRecord.{Shown, progressIn, refusedAs, shownSays}
+use Rattle.refinement.specs.CodeWalk.{rowOf, tableOf}
+use Rattle.refinement.specs.CodeClient.{Shown, progressIn, refusedAs, shownSays}
 use Rattle.refinement.proofs.walk.StepIsMachine.{short-of, told}
 use Rattle.refinement.proofs.walk.TableRows.{table-rows, table-count}
 
@@ -262,7 +262,7 @@ job-ends P = record {
 }
 
 -- Whatever is answered in a phase that fits, what follows reads back.
-pub phase-read : (ph : Phase) → FitsPhase ph → (a : AnswerTo (Phases.request ph))
+pub phase-read : (ph : Phase) → FitsPhase ph → (a : AnswerTo (OperationMachine.request ph))
     → ReadableThen (step ph a .progress) (step ph a .then)
 unfolding step
 phase-read (selecting s) f h = search-read s f h

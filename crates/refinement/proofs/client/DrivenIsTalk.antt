@@ -34,11 +34,11 @@ use Rattle.client.specs.Numbers.{endOf, saysOf}
 use Rattle.client_request.specs.Request.{request}
 use Rattle.client_record.specs.Record.{record′, linkFailed}
 use Rattle.refinement.specs.Calls.{Reply, saidBy, askedOf, startedBy, askedBy, toldBy, attachedTo}
-use Rattle.refinement.specs.ClientRecord.{clientOf}
+use Rattle.refinement.specs.CodeClient.{clientOf}
 use Rattle.refinement.specs.ClientDriven.{tells, asking, telling, driven, sends, answerOf, Asks, Leaves, StandsAs}
 use Rattle.refinement.specs.ClientServed.{onSays, isOnward, opening, resting}
-use Rattle.refinement.proofs.client.CallsAreTalk.{settledBy, handedBy, inPaper, inCode, request-call}
-use Rattle.refinement.proofs.client.CallsAreTalk.{record-call, failed-call, attached-back, seed-of}
+use Rattle.refinement.proofs.client.CallsAgree.{settledBy, handedBy, inPaper, inCode, request-call}
+use Rattle.refinement.proofs.client.CallsAgree.{record-call, failed-call, attached-back, seed-of}
 
 -- The code's client and document 01's are both those of one client of the machine.
 pub record Alike (code : Client) (paper : Paper.Client) : Type 0 where

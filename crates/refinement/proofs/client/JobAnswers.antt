@@ -15,13 +15,13 @@ use Rattle.paper.specs.Client.{idAfter, otherLength, replied, endOf}
 use Rattle.paper.specs.Frame.{check, field, Info}
 use Rattle.paper.specs.Hearing.{Id, onSome}
 use Rattle.paper.specs.Talk.{knows}
-use Rattle.theory.specs.OperationMachine as Phases
+use Rattle.theory.specs.OperationMachine as OperationMachine
 use Rattle.theory.specs.OperationMachine.{Purpose, tell, clear, load, Job, informing, erasing, writing, verifying}
 use Rattle.theory.specs.OperationMachine.{resetting, Phase, selecting, demanding, leaving, Then, ends, refuses, Next}
 use Rattle.theory.specs.OperationMachine.{working}
 use Rattle.theory.specs.ClientMachine as Machine
 use Rattle.theory.specs.ClientMachine.{waiting, lends, lentTo, settle, fails}
-use Rattle.theory.proofs.flash.DeviceInfo.{sound-sizes}
+use Rattle.theory.proofs.flash.InfoRule.{sound-sizes}
 use Rattle.theory.proofs.talk.MachineIsTalk.{SoundJob}
 use Rattle.image.specs.Images.{codeInfo, shownInfo, shownKey}
 use Rattle.image.proofs.Ways.{next-erase, last-erase}
@@ -38,7 +38,7 @@ use Rattle.client_job.specs.declared.Then.the-variants.{On, Over, Refused}
 use Rattle.client_job.specs.declared.Next as CodeNext
 use Rattle.client_job.specs.Job as CodeJob
 use Rattle.client_record.specs.Answer.{goes, onAnswer, tells}
-use Rattle.refinement.specs.ClientRecord.{purposeIn, jobIn, phaseIn, recordOf, refusedAs, progressIn, toldAs}
+use Rattle.refinement.specs.CodeClient.{purposeIn, jobIn, phaseIn, recordOf, refusedAs, progressIn, toldAs}
 
 -- The test on the length of the image lent, and what it shows.
 pub other-sim : (ph : Phase) (image : List ℕ) → otherImage (phaseIn ph) (length image) ≡ otherLength (lends ph) image
@@ -84,13 +84,13 @@ module _ (seed : ℕ) (id : Option Id) (j : Job) (at : ℕ) where
   knows-shown info p = refl
 
   erases-shown : (why : Purpose) (info : Info)
-      → Shows (CodeJob.erases (purposeIn why) (codeInfo info)) (Phases.erases why info)
-  unfolding CodeJob.erases Phases.erases goes over Clients.idle settle refusedAs
+      → Shows (CodeJob.erases (purposeIn why) (codeInfo info)) (OperationMachine.erases why info)
+  unfolding CodeJob.erases OperationMachine.erases goes over Clients.idle settle refusedAs
   erases-shown why info = either (spansTooFar info) _ _ (refuses 19 []) _ (λ p. refl) (job-shown (erasing why info 0))
 
   judged-shown : (n : ℕ) (info : Info) (image : List ℕ)
-      → Shows (CodeJob.judged n (codeInfo info) image) (Phases.judged n info image)
-  unfolding CodeJob.judged Phases.judged goes over Clients.idle settle refusedAs
+      → Shows (CodeJob.judged n (codeInfo info) image) (OperationMachine.judged n info image)
+  unfolding CodeJob.judged OperationMachine.judged goes over Clients.idle settle refusedAs
   judged-shown n info image =
       either (tooLarge info n) _ _ (refuses 3 _) _ (λ p. refl)
       (either (incompatible info image) _ _ (refuses 6 _) _ (keyed (key image)) (erases-shown (load n) info))
@@ -101,34 +101,34 @@ module _ (seed : ℕ) (id : Option Id) (j : Job) (at : ℕ) where
       keyed (some k) p = refl
 
   prepared-shown : (why : Purpose) (info : Info) (image : List ℕ)
-      → Shows (CodeJob.prepared (purposeIn why) (codeInfo info) image) (Phases.prepared why info image)
-  unfolding CodeJob.prepared Phases.prepared
+      → Shows (CodeJob.prepared (purposeIn why) (codeInfo info) image) (OperationMachine.prepared why info image)
+  unfolding CodeJob.prepared OperationMachine.prepared
   prepared-shown tell info image = knows-shown info
   prepared-shown clear info image = erases-shown clear info
   prepared-shown (load n) info image = judged-shown n info image
 
   informed-shown : (why : Purpose) (payload image : List ℕ)
       → Shows (CodeJob.informed (purposeIn why) payload image)
-      (onSome (Paper.informed payload) (refuses 5 []) (λ info. Phases.prepared why info image))
+      (onSome (Paper.informed payload) (refuses 5 []) (λ info. OperationMachine.prepared why info image))
   unfolding CodeJob.informed goes over Clients.idle settle refusedAs
   informed-shown why payload image = go (Paper.informed payload)
     where
       go : (o : Option Info)
           → Shows (CodeJob.onInformed (shownInfo o) (λ info. CodeJob.prepared (purposeIn why) info image)
-          (Refused Refusal.BadInfo)) (onSome o (refuses 5 []) (λ info. Phases.prepared why info image))
+          (Refused Refusal.BadInfo)) (onSome o (refuses 5 []) (λ info. OperationMachine.prepared why info image))
       go none p = refl
       go (some info) p = prepared-shown why info image p
 
   cleared-shown : (why : Purpose) (info : Info)
-      → Shows (CodeJob.cleared (purposeIn why) (codeInfo info)) (Phases.cleared why info)
-  unfolding CodeJob.cleared Phases.cleared CodeJob.writes Phases.writes
+      → Shows (CodeJob.cleared (purposeIn why) (codeInfo info)) (OperationMachine.cleared why info)
+  unfolding CodeJob.cleared OperationMachine.cleared CodeJob.writes OperationMachine.writes
   cleared-shown tell info = knows-shown info
   cleared-shown clear info = knows-shown info
   cleared-shown (load n) info = either (eqb n 0) _ _ _ _ (job-shown (verifying n info)) (job-shown (writing n info 0 0))
 
   verified-shown : (info : Info) (payload image : List ℕ)
-      → Shows (CodeJob.verified (codeInfo info) payload image) (Phases.verified info payload image)
-  unfolding CodeJob.verified Phases.verified goes over Clients.idle settle refusedAs
+      → Shows (CodeJob.verified (codeInfo info) payload image) (OperationMachine.verified info payload image)
+  unfolding CodeJob.verified OperationMachine.verified goes over Clients.idle settle refusedAs
   verified-shown info payload image =
       either (ltb (length payload) 2) _ _ (refuses 18 []) _ (λ p. refl)
       (either (eqb (check image) (field 0 2 payload)) _ _ _ (refuses 4 _) (knows-shown info) (λ p. refl))
@@ -138,8 +138,8 @@ module _ (seed : ℕ) (id : Option Id) (j : Job) (at : ℕ) where
   ShowsNext m n = goes (code seed id j) m at ≡ toldAs (settle (out seed id j) (n .progress) (n .then) at)
 
   erased-shown : (why : Purpose) (info : Info) (address : ℕ) → sound info ≡ true
-      → ShowsNext (CodeJob.erased (purposeIn why) (codeInfo info) address) (Phases.erased why info address)
-  unfolding CodeJob.erased Phases.erased
+      → ShowsNext (CodeJob.erased (purposeIn why) (codeInfo info) address) (OperationMachine.erased why info address)
+  unfolding CodeJob.erased OperationMachine.erased
   erased-shown why info address s = go (ltb (address + info .eraseSize) (info .capacity)) refl
     where
       size : info .eraseSize ≡ 0 → ⊥
@@ -150,7 +150,7 @@ module _ (seed : ℕ) (id : Option Id) (j : Job) (at : ℕ) where
           (record {
             progress = some (eraseProgress info address, info .capacity);
             then = cond b
-                (working (erasing why info (address + info .eraseSize))) (Phases.cleared why info);
+                (working (erasing why info (address + info .eraseSize))) (OperationMachine.cleared why info);
           })
       go true e =
           rw (← next-erase info address size (address + info .eraseSize) refl
@@ -161,33 +161,36 @@ module _ (seed : ℕ) (id : Option Id) (j : Job) (at : ℕ) where
           (cleared-shown why info (some (eraseProgress info address, info .capacity)))
 
   wrote-shown : (info : Info) (offset : ℕ) (image : List ℕ)
-      → ShowsNext (CodeJob.wrote (codeInfo info) offset image) (Phases.wrote (length image) info offset)
-  unfolding CodeJob.wrote Phases.wrote isLast
+      → ShowsNext (CodeJob.wrote (codeInfo info) offset image) (OperationMachine.wrote (length image) info offset)
+  unfolding CodeJob.wrote OperationMachine.wrote isLast
   wrote-shown info offset image =
       either (leb (padded (length image) - offset) (chunk (info .maxPayload))) _ _ _ _
       (job-shown (verifying (length image) info))
       (job-shown (writing (length image) info (offset + chunk (info .maxPayload)) 0))
-      (Phases.wrote (length image) info offset .progress)
+      (OperationMachine.wrote (length image) info offset .progress)
 
 -- An answer of status Ok, and one of another status.
 module _ (seed : ℕ) (id : Option Id) (at : ℕ) where
   accepted-shown : (j : Job) → SoundJob j → (payload image : List ℕ) → otherLength (lentTo j) image ≡ false
-      → ShowsNext seed id j at (CodeJob.accepted (jobIn j) payload image) (Phases.accepted j payload image)
-  unfolding CodeJob.accepted Phases.accepted goes over Clients.idle settle idAfter
+      → ShowsNext seed id j at (CodeJob.accepted (jobIn j) payload image) (OperationMachine.accepted j payload image)
+  unfolding CodeJob.accepted OperationMachine.accepted goes over Clients.idle settle idAfter
   accepted-shown (informing why) s payload image e = informed-shown seed id (informing why) at why payload image none
   accepted-shown (erasing why info address) s payload image e =
       erased-shown seed id (erasing why info address) at why info address s
   accepted-shown (writing n info offset retries) s payload image e =
       wrote-shown seed id (writing n info offset retries) at info offset image
       ∙ ap (λ (m : ℕ). toldAs (settle (out seed id (writing n info offset retries))
-      (Phases.wrote m info offset .progress) (Phases.wrote m info offset .then) at)) (sym (same-length n image e))
+      (OperationMachine.wrote m info offset .progress) (OperationMachine.wrote m info offset .then) at))
+      (sym (same-length n image e))
   accepted-shown (verifying n info) s payload image e =
       verified-shown seed id (verifying n info) at info payload image none
   accepted-shown (resetting bootloader baud) s payload image e = refl
 
   declined-shown : (j : Job) (status : ℕ)
-      → ShowsNext seed id j at (CodeJob.declined (jobIn j) status) (Phases.quietly (Phases.declined j status))
-  unfolding CodeJob.declined Phases.declined CodeJob.repeated Phases.repeated goes over Clients.idle onward settle
+      → ShowsNext seed id j at (CodeJob.declined (jobIn j) status)
+      (OperationMachine.quietly (OperationMachine.declined j status))
+  unfolding CodeJob.declined OperationMachine.declined CodeJob.repeated OperationMachine.repeated goes over
+      Clients.idle onward settle
       refusedAs
   declined-shown (informing why) status = refl
   declined-shown (erasing why info address) status = refl
@@ -197,8 +200,8 @@ module _ (seed : ℕ) (id : Option Id) (at : ℕ) where
           → ShowsNext seed id (writing n info offset retries) at
           (cond a (CodeJob.quietly (cond b (On (Writing n (codeInfo info) offset (suc retries)))
           (Refused Refusal.RetriesSpent))) (CodeJob.refusing (Refusal.Device status)))
-          (Phases.quietly (cond a (cond b (working (writing n info offset (suc retries))) (refuses 17 []))
-          (Phases.declines status)))
+          (OperationMachine.quietly (cond a (cond b (working (writing n info offset (suc retries))) (refuses 17 []))
+          (OperationMachine.declines status)))
       go true true = refl
       go true false = refl
       go false b = refl
@@ -209,13 +212,13 @@ module _ (seed : ℕ) (id : Option Id) (at : ℕ) where
 abbrev pub answering : ℕ → Option Id → Job → List ℕ → List ℕ → Paper.Answer → Machine.Told
 answering seed id j image bytes a =
     onSome (replied a image) (fails (out seed id j) (endOf a (length bytes)))
-    (λ x. settle (out seed id j) (Phases.told j (x .reply) (x .image) .progress)
-    (Phases.told j (x .reply) (x .image) .then) (endOf a (length bytes)))
+    (λ x. settle (out seed id j) (OperationMachine.told j (x .reply) (x .image) .progress)
+    (OperationMachine.told j (x .reply) (x .image) .then) (endOf a (length bytes)))
 
 pub job-told : (seed : ℕ) (id : Option Id) (j : Job) → SoundJob j → (image bytes : List ℕ)
     → otherLength (lentTo j) image ≡ false
     → tells (code seed id j) (jobIn j) image bytes ≡ toldAs (answering seed id j image bytes (answer bytes))
-unfolding tells Phases.told over Clients.idle refusedAs
+unfolding tells OperationMachine.told over Clients.idle refusedAs
 job-told seed id j s image bytes e = go (answer bytes)
   where
     go : (a : Paper.Answer)

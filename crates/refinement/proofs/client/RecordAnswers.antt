@@ -16,7 +16,7 @@ use Rattle.paper.specs.Walk.{long, nobody, sort, done, stopped}
 use Rattle.paper.proofs.Bits.{bits-length}
 use Rattle.theory.specs.WalkMachine as Walk
 use Rattle.theory.specs.WalkMachine.{State, path, asked, mine, other, leaving, going, ended, nextBit}
-use Rattle.theory.specs.OperationMachine as Phases
+use Rattle.theory.specs.OperationMachine as OperationMachine
 use Rattle.theory.specs.OperationMachine.{Search, probing, parting, seeking, backing, walking, Phase, selecting}
 use Rattle.theory.specs.OperationMachine.{demanding, leaving, selected, Then, ends, refuses, sought, walked, hears}
 use Rattle.theory.specs.OperationMachine.{step}
@@ -43,9 +43,9 @@ use Rattle.client.specs.Clients as Clients
 use Rattle.client.specs.Clients.{over, stops, onward}
 use Rattle.client_record.specs.Record as Code
 use Rattle.client_record.specs.Record.{attaches, stopOf}
-use Rattle.refinement.specs.WalkRecord.{endOf, nextOf}
-use Rattle.refinement.specs.ClientRecord.{searchIn, phaseIn, isThere, recordOf, clientOf, Shown, plainly}
-use Rattle.refinement.specs.ClientRecord.{refusedAs, toldAs}
+use Rattle.refinement.specs.CodeWalk.{endOf, nextOf}
+use Rattle.refinement.specs.CodeClient.{searchIn, phaseIn, isThere, recordOf, clientOf, Shown, plainly}
+use Rattle.refinement.specs.CodeClient.{refusedAs, toldAs}
 use Rattle.refinement.proofs.client.JobAnswers.{other-sim, job-told}
 use Rattle.refinement.proofs.walk.StepIsMachine.{step-sim, long-is}
 
@@ -236,12 +236,13 @@ module _ (seed : ℕ) (id : Option Paper.Id) (at : ℕ) where
 -- The machine's answer to a record in a phase, and that the code's is the same.
 module _ (c : Machine.Client) (image bytes : List ℕ) where
   abbrev after : Phase → Machine.Client
-  after ph = record { seed = c .seed; id = cleared (Phases.request ph) (c .id); turn = waiting ph }
+  after ph = record { seed = c .seed; id = cleared (OperationMachine.request ph) (c .id); turn = waiting ph }
 
   abbrev reads : Phase → Machine.Told
   reads ph =
-      onSome (reading (Phases.request ph) image bytes) (fails (turned c (waiting ph)) (place (Phases.request ph) bytes))
-      (λ a. settle (after ph) (step ph a .progress) (step ph a .then) (place (Phases.request ph) bytes))
+      onSome (reading (OperationMachine.request ph) image bytes)
+      (fails (turned c (waiting ph)) (place (OperationMachine.request ph) bytes))
+      (λ a. settle (after ph) (step ph a .progress) (step ph a .then) (place (OperationMachine.request ph) bytes))
 
   phase-told : (ph : Phase) → FitsPhase ph → otherLength (lends ph) image ≡ false
       → Code.answeredTo (clientOf (turned c (waiting ph))) (phaseIn ph) image bytes ≡ toldAs (reads ph)

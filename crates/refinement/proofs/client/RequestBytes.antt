@@ -18,14 +18,14 @@ use Rattle.paper.specs.Talk.{Demand}
 use Rattle.paper.specs.Walk.{nobody}
 use Rattle.paper.proofs.Bits.{bits-length}
 use Rattle.paper.proofs.Packed.{packed-length}
-use Rattle.theory.specs.OperationMachine as Phases
+use Rattle.theory.specs.OperationMachine as OperationMachine
 use Rattle.theory.specs.OperationMachine.{Search, probing, parting, seeking, backing, walking, Job, informing, erasing}
 use Rattle.theory.specs.OperationMachine.{writing, verifying, resetting, Phase, selecting, demanding, leaving, selected}
 use Rattle.theory.specs.OperationMachine.{demanded}
 use Rattle.theory.specs.ClientMachine as Machine
 use Rattle.theory.specs.ClientMachine.{Turn, idle, ready, waiting, turned, lends, lentTo, withholds, handedOut, grant}
 use Rattle.theory.proofs.frames.IdBits.{bits-cons}
-use Rattle.theory.proofs.walk.StatesFit as Walk
+use Rattle.theory.proofs.walk.StatesFit as StatesFit
 use Rattle.theory.proofs.flash.WrittenBytes.{write-carries}
 use Rattle.theory.proofs.client.ClientsFit.{FitsSearch, FitsPhase, FitsTurn, Fits}
 use Rattle.ids.specs.Ids.{noId, idOf, idFrom}
@@ -37,9 +37,9 @@ use Rattle.client.specs.Clients as Clients
 use Rattle.client_demand.specs.Demands.{resetOf, demandOf}
 use Rattle.client_request.specs.Request as Code
 use Rattle.client_request.specs.Request.{asks, withheld, askedFor}
-use Rattle.refinement.specs.WalkRecord.{walkOf, phaseOf}
-use Rattle.refinement.specs.ClientRecord.{searchIn, resetIn, jobIn, phaseIn, recordOf, clientOf, refusedAs}
-use Rattle.refinement.specs.ClientRecord.{shownSays, askedAs}
+use Rattle.refinement.specs.CodeWalk.{walkOf, phaseOf}
+use Rattle.refinement.specs.CodeClient.{searchIn, resetIn, jobIn, phaseIn, recordOf, clientOf, refusedAs}
+use Rattle.refinement.specs.CodeClient.{shownSays, askedAs}
 use Rattle.refinement.proofs.walk.AskedBits.{asks-sim, asks-count, nobody-back}
 use Rattle.refinement.proofs.client.JobAnswers.{other-sim, same-length}
 
@@ -98,7 +98,7 @@ search-bits parting f = omega arith
 search-bits (seeking none) f = omega arith
 search-bits (seeking (some uid)) f = omega (arith, bits-length uid)
 search-bits (backing uid) f = omega arith
-search-bits (walking s) f = Walk.request-fits s f
+search-bits (walking s) f = StatesFit.request-fits s f
 
 pub payload-length : (seed : ℕ) (q : Prefix) → length (selectPayload seed q) ≡ 2 + (length q + 7) / 8
 unfolding selectPayload
@@ -131,7 +131,8 @@ demand-short (verifying n info) image e = omega arith
 demand-short (resetting bootloader baud) image e = omega arith
 
 -- The answer and the client after a request is handed out.
-handing-sim : (ph : Phase) (n : ℕ) → Code.handing (phaseIn ph) n ≡ shownSays (handing (Phases.request ph) n) .says
+handing-sim : (ph : Phase) (n : ℕ)
+    → Code.handing (phaseIn ph) n ≡ shownSays (handing (OperationMachine.request ph) n) .says
 unfolding Code.handing
 handing-sim (selecting s) n = refl
 handing-sim (demanding j) n = refl
@@ -140,7 +141,7 @@ handing-sim (leaving bootloader baud) n = refl
 module _ (c : Machine.Client) where
   handed-sim : (ph : Phase)
       → Code.handed (clientOf (turned c (ready ph))) (phaseIn ph)
-      ≡ clientOf (record { seed = seedAfter (Phases.request ph) (c .seed); id = c .id; turn = handedOut ph })
+      ≡ clientOf (record { seed = seedAfter (OperationMachine.request ph) (c .seed); id = c .id; turn = handedOut ph })
   unfolding Code.handed handedOut Clients.idle
   handed-sim (selecting s) = refl
   handed-sim (demanding j) = refl
@@ -149,12 +150,12 @@ module _ (c : Machine.Client) where
   -- The request handed out, or a buffer too short for it.
   granting-sim : (ph : Phase) (bytes buffer : List ℕ)
       → Code.granting (clientOf (turned c (ready ph))) (phaseIn ph) bytes buffer
-      ≡ askedAs (grant (turned c (ready ph)) bytes (seedAfter (Phases.request ph) (c .seed)) ph buffer)
+      ≡ askedAs (grant (turned c (ready ph)) bytes (seedAfter (OperationMachine.request ph) (c .seed)) ph buffer)
   unfolding Code.granting grant refusedAs
   granting-sim ph bytes buffer = go (ltb (length buffer) (length bytes))
     where
       next : Machine.Client
-      next = record { seed = seedAfter (Phases.request ph) (c .seed); id = c .id; turn = handedOut ph }
+      next = record { seed = seedAfter (OperationMachine.request ph) (c .seed); id = c .id; turn = handedOut ph }
 
       go : (b : Bool)
           → cond b (withheld (clientOf (turned c (ready ph))) (ShortBuffer (length bytes)) buffer)
@@ -168,7 +169,7 @@ module _ (c : Machine.Client) where
           })
           ≡ askedAs (cond b (withholds (turned c (ready ph)) 16 (length bytes ∷ []) buffer)
           (record {
-            says = handing (Phases.request ph) (length bytes);
+            says = handing (OperationMachine.request ph) (length bytes);
             client = next;
             buffer = bytes
                 ++ drop (length bytes) buffer;
@@ -183,7 +184,7 @@ module _ (c : Machine.Client) where
 
 module _ (c : Machine.Client) (image buffer : List ℕ) where
   abbrev bytes : Phase → List ℕ
-  bytes ph = bytesOf (Phases.request ph) (seedAfter (Phases.request ph) (c .seed)) image
+  bytes ph = bytesOf (OperationMachine.request ph) (seedAfter (OperationMachine.request ph) (c .seed)) image
 
   -- The request's bytes are the machine's.
   frame-sim : (ph : Phase) → FitsPhase ph → otherLength (lends ph) image ≡ false
@@ -197,7 +198,7 @@ module _ (c : Machine.Client) (image buffer : List ℕ) where
 
   asked-sim : (ph : Phase) → FitsPhase ph → otherLength (lends ph) image ≡ false
       → askedFor (clientOf (turned c (ready ph))) (phaseIn ph) image buffer
-      ≡ askedAs (grant (turned c (ready ph)) (bytes ph) (seedAfter (Phases.request ph) (c .seed)) ph buffer)
+      ≡ askedAs (grant (turned c (ready ph)) (bytes ph) (seedAfter (OperationMachine.request ph) (c .seed)) ph buffer)
   unfolding askedFor
   asked-sim ph f e =
       ap (λ (l : List ℕ). Code.granting (clientOf (turned c (ready ph))) (phaseIn ph) l buffer) (frame-sim ph f e)
@@ -217,7 +218,8 @@ request-asked c f image buffer = go (c .turn) (f .turn)
             → cond b (withheld (clientOf (turned c (ready ph))) OtherImage buffer)
             (askedFor (clientOf (turned c (ready ph))) (phaseIn ph) image buffer)
             ≡ askedAs (cond b (withholds (turned c (ready ph)) 20 [] buffer)
-            (grant (turned c (ready ph)) (bytes c image buffer ph) (seedAfter (Phases.request ph) (c .seed)) ph buffer))
+            (grant (turned c (ready ph)) (bytes c image buffer ph)
+            (seedAfter (OperationMachine.request ph) (c .seed)) ph buffer))
         lent true e = refl
         lent false e = asked-sim c image buffer ph w e
     go (waiting ph) w = refl

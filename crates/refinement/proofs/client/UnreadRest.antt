@@ -5,7 +5,7 @@ use mathlib.Core.List.{List, _++_}
 use mathlib.Core.Path.{_≡_, refl, sym, _∙_, ap}
 use lib.ListN.{length, drop}
 use Rattle.paper.specs.Answers.{Reply, answered, ok, device, answer}
-use Rattle.theory.proofs.talk.UnreadRest.{answer-appends, rest-appends}
+use Rattle.theory.proofs.client.UnreadRest.{answer-appends, rest-appends}
 use Rattle.client.specs.declared.Client.{Client}
 use Rattle.client.specs.declared.Job.{Job}
 use Rattle.client.specs.declared.Phase.the-variants.{Demand}

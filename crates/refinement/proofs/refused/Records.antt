@@ -49,7 +49,7 @@ use Rattle.client.proofs.Ways.{at-idle, at-ready, at-waiting}
 use Rattle.client_job.specs.declared.Then.{Then}
 use Rattle.client_job.specs.declared.Then.the-variants as Then
 use Rattle.client_job.specs.declared.Next.{Next}
-use Rattle.client_job.specs.Job as Flashing
+use Rattle.client_job.specs.Job as CodeJob
 use Rattle.client_job.specs.Job.{onInformed, onErase, onThen, erases, judged, prepared, informed, writes, erased, wrote}
 use Rattle.client_job.specs.Job.{repeated, verified, accepted, declined}
 use Rattle.client_record.specs.Answer.{goes, onAnswer, tells}
@@ -57,7 +57,7 @@ use Rattle.client_record.specs.Record.{attaches, met, backed, stopOf, walked, p
 use Rattle.client_record.specs.Record.{linkFailed}
 use Rattle.refinement.specs.Refusals.{keeps, parts, leaves}
 use Rattle.lore.proofs.Choice.{either, clash}
-use Rattle.refinement.proofs.client.Cases.{each-turn, isRefused, unrefused, same-refusal}
+use Rattle.refinement.proofs.refused.TurnCases.{each-turn, isRefused, unrefused, same-refusal}
 use Rattle.refinement.proofs.refused.Starts.{leaves-kept, leaves-seed}
 
 -- A refusal that ends the operation, comes after no deselect, and is not 1.
@@ -92,8 +92,8 @@ informed-sober why payload image = go (shownInfo (Paper.informed payload))
     go (Sound info) = prepared-sober why info image
     go BadInfo = (refl, (refl, refl))
 
-cleared-sober : (why : Purpose) (info : Info) → Sober (Flashing.cleared why info)
-unfolding Flashing.cleared writes
+cleared-sober : (why : Purpose) (info : Info) → Sober (CodeJob.cleared why info)
+unfolding CodeJob.cleared writes
 cleared-sober Tell info = tt
 cleared-sober Clear info = tt
 cleared-sober (Load n) info = either Sober (eqb n 0) tt tt

@@ -20,7 +20,7 @@ use Rattle.client.specs.Numbers.{numberOf}
 use Rattle.client.proofs.Ways.{at-idle, at-ready, at-waiting}
 use Rattle.client_request.specs.Request.{frameOf, handing, Asking, withheld, granting, askedFor, request}
 use Rattle.refinement.specs.Refusals.{keeps}
-use Rattle.refinement.proofs.client.Cases.{each-turn, unrefused, same-refusal}
+use Rattle.refinement.proofs.refused.TurnCases.{each-turn, unrefused, same-refusal}
 
 -- A request that is refused leaves the client and the buffer as they were.
 record Asks (c : Client) (buffer : List ℕ) (o : Asking) : Type 0 where

@@ -30,7 +30,7 @@ use Rattle.client.specs.Clients.{begun, idle, cleared, running, refuse}
 use Rattle.client_start.specs.Start.{starts, demands, badPrefix, startSelect, startDeselect, startAttach, startAttachTo}
 use Rattle.client_start.specs.Start.{startDiscover, startInfo, startErase, startFlash, resets, startReset, startSetBaud}
 use Rattle.refinement.specs.Refusals.{keeps, parts, leaves, begins, goodCount, asking, resetPhase}
-use Rattle.refinement.proofs.client.Cases.{unrefused}
+use Rattle.refinement.proofs.refused.TurnCases.{unrefused}
 
 -- The client after a refusal.
 module _ (r : Refusal) (c : Client) where

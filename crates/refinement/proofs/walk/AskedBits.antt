@@ -23,7 +23,7 @@ use Rattle.walk.specs.declared.Walk.{Walk}
 use Rattle.walk.specs.declared.Phase as P
 use Rattle.walk.specs.declared.Phase.the-variants.{Asked, Mine, Other, Leaving}
 use Rattle.walk.specs.Moves as Moves
-use Rattle.refinement.specs.WalkRecord.{phaseOf, candidateOf, standingAt, walkOf}
+use Rattle.refinement.specs.CodeWalk.{phaseOf, candidateOf, standingAt, walkOf}
 use Rattle.refinement.specs.WalkDriven.{bitsAsked}
 
 after : (l : List Bool) (k : ℕ) → getD l k false ≡ bitAfter (drop k l)

@@ -9,7 +9,7 @@ use lib.Seq.{append-snoc, set-append-seam, getD-append-seam}
 use Rattle.paper.specs.Hearing.{Prefix}
 use Rattle.paper.specs.Walk.{_▹_}
 use Rattle.theory.specs.WalkMachine.{Marks, path}
-use Rattle.refinement.specs.WalkRecord.{padded, levels}
+use Rattle.refinement.specs.CodeWalk.{padded, levels}
 
 pub length-levels : (pre : Prefix) (marks : Marks) → length (levels pre marks) ≡ length (path pre marks)
 length-levels pre [] = length-replicate (length pre) 0

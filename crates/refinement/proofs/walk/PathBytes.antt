@@ -15,7 +15,7 @@ use Rattle.paper.proofs.Packed.{binary-bits, binary-below, binary-more, packed-
 use Rattle.paper.proofs.Packed.{packed-none}
 use Rattle.theory.proofs.frames.IdBits.{bits-cons}
 use Rattle.ids.specs.Paths.{cut}
-use Rattle.refinement.specs.WalkRecord.{padded}
+use Rattle.refinement.specs.CodeWalk.{padded}
 
 binary-cut : (q : List Bool) (b : Bool) → binary (q ▹ b) % 2 ^ length q ≡ binary q
 binary-cut q b = ap (λ (n : ℕ). n % 2 ^ length q) (binary-more q b ∙ swap (binary q) (cond b 1 0 * 2 ^ length q))

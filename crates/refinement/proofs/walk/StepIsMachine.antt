@@ -33,8 +33,8 @@ use Rattle.walk_step.specs.declared.End.the-variants.{DuplicateUid, LongId, Tab
 use Rattle.walk_step.specs.Steps.{Done, Next}
 use Rattle.walk.specs.Moves as Moves
 use Rattle.walk_step.specs.Steps as Code
-use Rattle.refinement.specs.WalkRecord.{padded, levels, rowOf, tableOf, candidateOf, phaseOf, standingAt, walkOf}
-use Rattle.refinement.specs.WalkRecord.{nextOf}
+use Rattle.refinement.specs.CodeWalk.{padded, levels, rowOf, tableOf, candidateOf, phaseOf, standingAt, walkOf}
+use Rattle.refinement.specs.CodeWalk.{nextOf}
 use Rattle.refinement.proofs.walk.LevelMarks.{length-levels, pad-set, pad-reset, pad-clear, lastMark, mark-of}
 use Rattle.refinement.proofs.walk.PathBytes.{pack-cut}
 use Rattle.refinement.proofs.walk.TableRows.{table-keep, table-sorted}

@@ -21,7 +21,7 @@ use Rattle.walk_table.specs.declared.Table.{Table}
 use Rattle.walk_table.specs.Rows.{noTable, pasted, row, rows, put, puts, counting, keep, beforeRow, insertRow, sortRows}
 use Rattle.walk_table.specs.Rows.{sorted}
 use Rattle.walk_table.proofs.Rows.{Sized, Whole, entry-eq, put-sized, puts-sized, rows-puts, puts-again}
-use Rattle.refinement.specs.WalkRecord.{rowOf, tableOf}
+use Rattle.refinement.specs.CodeWalk.{rowOf, tableOf}
 
 row-whole : (x : Paper.Id) → Short x → Whole (rowOf x)
 unfolding idFrom

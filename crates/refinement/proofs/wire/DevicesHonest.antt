@@ -14,8 +14,8 @@ use Rattle.paper.specs.Talk.{select}
 use Rattle.paper.proofs.Bits.{bits-length}
 use Rattle.paper.proofs.Packed.{packed-length, packed-read}
 use Rattle.paper.proofs.Words.{Bytes}
-use Rattle.theory.proofs.walk.EachMember.{all-weaken, all-both}
-use Rattle.theory.proofs.frames.FramesReadBack as Frames
+use Rattle.theory.proofs.EachMember.{all-weaken, all-both}
+use Rattle.theory.proofs.frames.FramesReadBack as FramesReadBack
 use Rattle.theory.proofs.frames.RecordsHeard.{nothing-heard, hear-ok}
 use Rattle.theory.proofs.walk.MatchingIds.{matching-extends, all-matching}
 use Rattle.refinement.specs.ClientServed.{heardBy, Honest, bitsIn, spoken, devices}
@@ -41,7 +41,7 @@ unfolding hear frames clean read readSynced skipped
 stray = refl
 
 reply-fits : (x : Id) → length x ≤ 16 → Bytes x
-    → Frames.Fits (record { command = command-Select; status = status-Ok; flags = 0; address = 0; payload = x })
+    → FramesReadBack.Fits (record { command = command-Select; status = status-Ok; flags = 0; address = 0; payload = x })
 reply-fits x h b = record {
   command = omega arith;
   status = omega arith;

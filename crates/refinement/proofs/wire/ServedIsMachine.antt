@@ -19,7 +19,7 @@ use Rattle.paper.specs.Walk.{Ended, done, stopped}
 use Rattle.paper.proofs.Frames.{frame-length}
 use Rattle.theory.specs.WalkMachine as Walk
 use Rattle.theory.specs.WalkMachine.{State, asked, mine, other, leaving, Next, going, ended, drive}
-use Rattle.theory.specs.OperationMachine as Phases
+use Rattle.theory.specs.OperationMachine as OperationMachine
 use Rattle.theory.specs.OperationMachine.{Search, walking, selecting, selected, Then, walked, hears, step}
 use Rattle.theory.specs.ClientMachine as Machine
 use Rattle.theory.specs.ClientMachine.{Brief, Turn, idle, ready, waiting, settle, handedOut, grant}
@@ -36,7 +36,7 @@ use Rattle.client.specs.declared.Says.the-variants.{Over, Refused}
 use Rattle.client.specs.declared.Told.{Told}
 use Rattle.client_request.specs.Request.{Asking, request, nextSeed}
 use Rattle.client_record.specs.Record.{record′}
-use Rattle.refinement.specs.ClientRecord.{clientOf, Shown, beside, plainly, refusedAs, toldAs, askedAs}
+use Rattle.refinement.specs.CodeClient.{clientOf, Shown, beside, plainly, refusedAs, toldAs, askedAs}
 use Rattle.refinement.specs.ClientServed.{Wire, sent, round, isOnward, served, heardBy, endId}
 use Rattle.refinement.proofs.client.RequestBytes.{payload-length, request-asked}
 use Rattle.refinement.proofs.client.RecordAnswers.{keeps, clears, asking-bits, record-told}
@@ -189,9 +189,9 @@ module _ (buffer : List ℕ) (room : 31 ≤ length buffer) (wire : Wire) (b : �
         turn-settles : (n : ℕ) (x : Option Paper.Id) (t : Turn) (next : Then) (at : ℕ)
             → settle (record { seed = n; id = x; turn = t }) none next at
             ≡ settle (record { seed = n; id = x; turn = idle }) none next at
-        turn-settles n x t (Phases.to ph) at = refl
-        turn-settles n x t (Phases.ends o) at = refl
-        turn-settles n x t (Phases.refuses m carries) at = refl
+        turn-settles n x t (OperationMachine.to ph) at = refl
+        turn-settles n x t (OperationMachine.ends o) at = refl
+        turn-settles n x t (OperationMachine.refuses m carries) at = refl
 
   -- The answer and the count of Selects are those where the walk machine stands.
   pub record Stands (code : Told × ℕ) (machine : Next × ℕ) : Type 0 where

@@ -16,7 +16,7 @@ use Rattle.paper.proofs.Bits.{bits-length}
 use Rattle.lore.proofs.Choice.{by-test, either}
 use Rattle.theory.specs.WalkMachine as Machine
 use Rattle.theory.specs.WalkMachine.{going, ended}
-use Rattle.theory.specs.OperationMachine as Phases
+use Rattle.theory.specs.OperationMachine as OperationMachine
 use Rattle.theory.specs.OperationMachine.{Search, probing, parting, seeking, backing, walking, tell, clear, load}
 use Rattle.theory.specs.OperationMachine.{informing, resetting, Phase, selecting, demanding, leaving, Then, to}
 use Rattle.theory.specs.OperationMachine.{ends, refuses, sought, walked, hears, step, starting}
@@ -24,7 +24,7 @@ use Rattle.theory.specs.ClientMachine.{Brief, Turn, idle, ready, waiting
 use Rattle.theory.specs.ClientMachine.{unchanged, fails, start, startSelect, startDeselect, startAttach}
 use Rattle.theory.specs.ClientMachine.{startDiscover, startInfo, startErase, startFlash, resets, startReset}
 use Rattle.theory.specs.ClientMachine.{startSetBaud, Asked, handedOut, grant, request, record′, linkFailed}
-use Rattle.theory.proofs.walk.StatesFit as Walk
+use Rattle.theory.proofs.walk.StatesFit as StatesFit
 use Rattle.theory.proofs.walk.StatesFit.{Short, FitsNext, step-fits}
 use Rattle.theory.proofs.talk.MachineIsTalk.{Sound, SoundJob}
 use Rattle.theory.proofs.talk.JobSteps.{any-end, told-leads}
@@ -35,7 +35,7 @@ FitsSearch (probing bytes bits) = Short bytes × (bits ≤ 8 * length bytes)
 FitsSearch parting = Unit {0}
 FitsSearch (seeking uid) = Brief uid
 FitsSearch (backing uid) = Brief uid
-FitsSearch (walking s) = Walk.Fits s
+FitsSearch (walking s) = StatesFit.Fits s
 
 abbrev pub FitsPhase : Phase → Type 0
 FitsPhase (selecting s) = FitsSearch s
@@ -99,7 +99,7 @@ search-fits (backing none) f h = tt
 search-fits (backing (some given)) f h = tt
 search-fits (walking s) f h = walked-fits (Machine.step s h) (step-fits s h f)
 
-pub phase-fits : (ph : Phase) → FitsPhase ph → (a : AnswerTo (Phases.request ph)) → FitsThen (step ph a .then)
+pub phase-fits : (ph : Phase) → FitsPhase ph → (a : AnswerTo (OperationMachine.request ph)) → FitsThen (step ph a .then)
 unfolding step
 phase-fits (selecting s) f h = search-fits s f h
 phase-fits (demanding j) f a =
@@ -160,7 +160,7 @@ module _ (c : Client) (f : Fits c) where
   startDiscover-fits given = start-fits c f (withinLongest given) (selecting (walking (starting (bitsOf given))))
       (λ e. first (leb-true (length given) 16 e))
     where
-      first : Short given → Walk.Fits (starting (bitsOf given))
+      first : Short given → StatesFit.Fits (starting (bitsOf given))
       first s = record { depth = omega (arith, bits-length given); few = omega arith; short = tt; held = tt }
 
   pub startInfo-fits : Fits (startInfo c .client)
@@ -215,7 +215,7 @@ module _ (c : Client) (f : Fits c) where
       go (ready ph) w =
           either (λ (a : Asked). Fits (a .client)) (otherLength (lends ph) image)
           (record { seed = f .seed; id = f .id; turn = w })
-          (grant-fits ph w _ _ (seed-fits (Phases.request ph)) buffer)
+          (grant-fits ph w _ _ (seed-fits (OperationMachine.request ph)) buffer)
       go (waiting ph) w = record { seed = f .seed; id = f .id; turn = w }
 
   brief-cleared : (q : Ask) → Brief (cleared q (c .id))
@@ -230,22 +230,24 @@ module _ (c : Client) (f : Fits c) where
       go : (t : Turn) → FitsTurn t → Fits (record′ (turned c t) image bytes .client)
       go idle w = record { seed = f .seed; id = f .id; turn = w }
       go (ready ph) w = record { seed = f .seed; id = f .id; turn = w }
-      go (waiting ph) w = lent (otherLength (lends ph) image) (reading (Phases.request ph) image bytes)
+      go (waiting ph) w = lent (otherLength (lends ph) image) (reading (OperationMachine.request ph) image bytes)
         where
           before : Client
           before = turned c (waiting ph)
 
           after : Client
-          after = record { seed = c .seed; id = cleared (Phases.request ph) (c .id); turn = waiting ph }
+          after = record { seed = c .seed; id = cleared (OperationMachine.request ph) (c .id); turn = waiting ph }
 
-          lent : (b : Bool) (o : Option (AnswerTo (Phases.request ph)))
+          lent : (b : Bool) (o : Option (AnswerTo (OperationMachine.request ph)))
               → Fits (cond b (unchanged before 20 [])
-              (onSome o (fails before (place (Phases.request ph) bytes))
-              (λ a. settle after (step ph a .progress) (step ph a .then) (place (Phases.request ph) bytes))) .client)
+              (onSome o (fails before (place (OperationMachine.request ph) bytes))
+              (λ a. settle after (step ph a .progress) (step ph a .then)
+              (place (OperationMachine.request ph) bytes))) .client)
           lent true o = record { seed = f .seed; id = f .id; turn = w }
           lent false none = record { seed = f .seed; id = f .id; turn = tt }
           lent false (some a) = settle-fits after (step ph a .progress) (step ph a .then)
-              (place (Phases.request ph) bytes) (f .seed) (brief-cleared (Phases.request ph)) (phase-fits ph w a)
+              (place (OperationMachine.request ph) bytes) (f .seed) (brief-cleared (OperationMachine.request ph))
+              (phase-fits ph w a)
 
   pub linkFailed-fits : Fits (linkFailed c .client)
   unfolding linkFailed

@@ -12,7 +12,7 @@ use Rattle.paper.specs.Walk.{long, done, stopped}
 use Rattle.lore.proofs.Choice.{either}
 use Rattle.theory.specs.WalkMachine as Machine
 use Rattle.theory.specs.WalkMachine.{going, ended}
-use Rattle.theory.specs.OperationMachine as Phases
+use Rattle.theory.specs.OperationMachine as OperationMachine
 use Rattle.theory.specs.OperationMachine.{Search, probing, parting, seeking, backing, walking, tell, clear, load}
 use Rattle.theory.specs.OperationMachine.{informing, resetting, Phase, selecting, demanding, leaving, Then, to}
 use Rattle.theory.specs.OperationMachine.{ends, refuses, sought, walked, hears, step, starting}
@@ -185,18 +185,20 @@ module _ (P : Id → Type 0) where
         go idle w = record { id = k .id; turn = w }
         go (ready ph) w = record { id = k .id; turn = w }
         go (waiting (selecting s)) w =
-            settle-holds _ none (hears s (hear bytes)) (length bytes) (any-cleared (Phases.request (selecting s)))
+            settle-holds _ none (hears s (hear bytes)) (length bytes)
+            (any-cleared (OperationMachine.request (selecting s)))
             (search-holds s w (hear bytes) h)
         go (waiting (demanding j)) w =
-            lent (otherLength (lends (demanding j)) image) (reading (Phases.request (demanding j)) image bytes)
+            lent (otherLength (lends (demanding j)) image)
+            (reading (OperationMachine.request (demanding j)) image bytes)
           where
             before : Client
             before = turned c (waiting (demanding j))
 
             at : ℕ
-            at = place (Phases.request (demanding j)) bytes
+            at = place (OperationMachine.request (demanding j)) bytes
 
-            lent : (b : Bool) (o : Option (AnswerTo (Phases.request (demanding j))))
+            lent : (b : Bool) (o : Option (AnswerTo (OperationMachine.request (demanding j))))
                 → Holds P (cond b (unchanged before 20 [])
                 (onSome o (fails before at) (λ a. settle before (step (demanding j) a .progress)
                 (step (demanding j) a .then) at)) .client)

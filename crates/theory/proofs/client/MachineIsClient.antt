@@ -17,7 +17,7 @@ use Rattle.paper.specs.Walk.{long, done, stopped}
 use Rattle.lore.proofs.Choice.{either}
 use Rattle.theory.specs.WalkMachine as Machine
 use Rattle.theory.specs.WalkMachine.{going, ended}
-use Rattle.theory.specs.OperationMachine as Phases
+use Rattle.theory.specs.OperationMachine as OperationMachine
 use Rattle.theory.specs.OperationMachine.{Search, probing, parting, seeking, backing, walking, tell, clear, load}
 use Rattle.theory.specs.OperationMachine.{informing, resetting, Phase, selecting, demanding, leaving, Then, to}
 use Rattle.theory.specs.OperationMachine.{ends, refuses, Next, sought, walked, hears, step, starting}
@@ -67,7 +67,8 @@ search-after (backing none) h = tt
 search-after (backing (some given)) h = tt
 search-after (walking s) h = walked-after (Machine.step s h)
 
-step-after : (ph : Phase) → Sound ph → (a : AnswerTo (Phases.request ph)) → Onward (After (lends ph)) (step ph a .then)
+step-after : (ph : Phase) → Sound ph → (a : AnswerTo (OperationMachine.request ph))
+    → Onward (After (lends ph)) (step ph a .then)
 unfolding step
 step-after (selecting s) k h = search-after s h
 step-after (demanding j) k a =
@@ -76,10 +77,10 @@ step-after (demanding j) k a =
 step-after (leaving bootloader baud) k a = tt
 
 -- The device information of the phase that follows satisfies the Info rule, and the image lent has the same length.
-pub step-sound : (ph : Phase) → Sound ph → (a : AnswerTo (Phases.request ph)) → Onward Sound (step ph a .then)
+pub step-sound : (ph : Phase) → Sound ph → (a : AnswerTo (OperationMachine.request ph)) → Onward Sound (step ph a .then)
 step-sound ph k a = onward-weaken (After (lends ph)) Sound (λ q w. w .0) (step ph a .then) (step-after ph k a)
 
-pub step-lends : (ph : Phase) → Sound ph → (a : AnswerTo (Phases.request ph))
+pub step-lends : (ph : Phase) → Sound ph → (a : AnswerTo (OperationMachine.request ph))
     → Onward (λ q. lends q ≡ lends ph) (step ph a .then)
 step-lends ph k a = onward-weaken (After (lends ph)) (λ q. lends q ≡ lends ph) (λ q w. w .1) (step ph a .then)
     (step-after ph k a)
@@ -87,8 +88,8 @@ step-lends ph k a = onward-weaken (After (lends ph)) (λ q. lends q ≡ lends ph
 -- The rest of the conversation in a turn, and the length of the image lent.
 unfoldable pub leftOf : Turn → Left
 leftOf idle = Paper.idle
-leftOf (ready ph) = Paper.ready (Phases.request ph) (λ a. resumed (step ph a))
-leftOf (waiting ph) = Paper.waiting (Phases.request ph) (λ a. resumed (step ph a))
+leftOf (ready ph) = Paper.ready (OperationMachine.request ph) (λ a. resumed (step ph a))
+leftOf (waiting ph) = Paper.waiting (OperationMachine.request ph) (λ a. resumed (step ph a))
 
 abbrev pub lentIn : Turn → Option ℕ
 lentIn idle = none
@@ -127,7 +128,7 @@ settle-sim c lent l progress (to ph) at s e =
         seed = c .seed;
         id = c .id;
         image = sym e i;
-        left = Paper.ready (Phases.request ph)
+        left = Paper.ready (OperationMachine.request ph)
             (λ a. resumed (step ph a));
       };
       rest = at;
@@ -214,7 +215,7 @@ unfolding Paper.startSetBaud startSetBaud
 startSetBaud-sim c baud bootloader inBoot = resets-sim c bootloader (some baud) inBoot
 
 handed-sim : (c : Client) (seed : ℕ) (ph : Phase)
-    → Paper.handedOut (paperOf (turned c (ready ph))) seed (Phases.request ph) (λ a. resumed (step ph a))
+    → Paper.handedOut (paperOf (turned c (ready ph))) seed (OperationMachine.request ph) (λ a. resumed (step ph a))
     ≡ paperOf (record { seed = seed; id = c .id; turn = handedOut ph })
 unfolding Paper.handedOut handedOut paperOf leftOf resumed reporting thereafter step proceed idAfter
 handed-sim c seed (selecting s) = refl
@@ -222,7 +223,8 @@ handed-sim c seed (demanding j) = refl
 handed-sim c seed (leaving bootloader baud) = refl
 
 grant-sim : (c : Client) (ph : Phase) (bytes : List ℕ) (seed : ℕ) (buffer : List ℕ)
-    → Paper.grant (paperOf (turned c (ready ph))) bytes seed (Phases.request ph) (λ a. resumed (step ph a)) buffer
+    → Paper.grant (paperOf (turned c (ready ph))) bytes seed (OperationMachine.request ph)
+    (λ a. resumed (step ph a)) buffer
     ≡ askedOf (grant (turned c (ready ph)) bytes seed ph buffer)
 unfolding Paper.grant grant
 grant-sim c ph bytes seed buffer = go (ltb (length buffer) (length bytes))
@@ -233,22 +235,22 @@ grant-sim c ph bytes seed buffer = go (ltb (length buffer) (length bytes))
     go : (b : Bool)
         → _≡_ {A = Paper.Asked} (cond b (Paper.withholds (paperOf (turned c (ready ph))) 16 (length bytes ∷ []) buffer)
         (record {
-          says = handing (Phases.request ph) (length bytes);
+          says = handing (OperationMachine.request ph) (length bytes);
           client = Paper.handedOut
-              (paperOf (turned c (ready ph))) seed (Phases.request ph) (λ a. resumed (step ph a));
+              (paperOf (turned c (ready ph))) seed (OperationMachine.request ph) (λ a. resumed (step ph a));
           buffer =
               bytes ++ drop (length bytes) buffer;
         }))
         (askedOf (cond b (withholds (turned c (ready ph)) 16 (length bytes ∷ []) buffer)
         (record {
-          says = handing (Phases.request ph) (length bytes);
+          says = handing (OperationMachine.request ph) (length bytes);
           client = out;
           buffer = bytes
               ++ drop (length bytes) buffer;
         })))
     go true = refl
     go false = λ i. record {
-      says = handing (Phases.request ph)
+      says = handing (OperationMachine.request ph)
           (length bytes);
       client = handed-sim c seed ph i;
       buffer = bytes ++ drop (length bytes) buffer;
@@ -264,14 +266,14 @@ request-sim c image buffer = go (c .turn)
     go (ready ph) = lent (otherLength (lends ph) image)
       where
         seed : ℕ
-        seed = seedAfter (Phases.request ph) (c .seed)
+        seed = seedAfter (OperationMachine.request ph) (c .seed)
 
         bytes : List ℕ
-        bytes = bytesOf (Phases.request ph) seed image
+        bytes = bytesOf (OperationMachine.request ph) seed image
 
         lent : (b : Bool)
             → cond b (Paper.withholds (paperOf (turned c (ready ph))) 20 [] buffer)
-            (Paper.grant (paperOf (turned c (ready ph))) bytes seed (Phases.request ph)
+            (Paper.grant (paperOf (turned c (ready ph))) bytes seed (OperationMachine.request ph)
             (λ a. resumed (step ph a)) buffer)
             ≡ askedOf (cond b (withholds (turned c (ready ph)) 20 [] buffer)
             (grant (turned c (ready ph)) bytes seed ph buffer))
@@ -291,15 +293,15 @@ record-sim c s image bytes = go (c .turn) s
     go (waiting ph) s = lent (otherLength (lends ph) image)
       where
         at : ℕ
-        at = place (Phases.request ph) bytes
+        at = place (OperationMachine.request ph) bytes
 
         before : Client
         before = turned c (waiting ph)
 
         after : Client
-        after = record { seed = c .seed; id = cleared (Phases.request ph) (c .id); turn = waiting ph }
+        after = record { seed = c .seed; id = cleared (OperationMachine.request ph) (c .id); turn = waiting ph }
 
-        answers : (o : Option (AnswerTo (Phases.request ph)))
+        answers : (o : Option (AnswerTo (OperationMachine.request ph)))
             → onSome o (Paper.fails (paperOf before) at) (λ a. proceed (paperOf after) none (resumed (step ph a)) at)
             ≡ toldOf (onSome o (fails before at) (λ a. settle after (step ph a .progress) (step ph a .then) at))
         answers none = refl
@@ -308,13 +310,13 @@ record-sim c s image bytes = go (c .turn) s
 
         lent : (b : Bool)
             → cond b (Paper.refuses (paperOf before) 20 [])
-            (onSome (reading (Phases.request ph) image bytes) (Paper.fails (paperOf before) at)
+            (onSome (reading (OperationMachine.request ph) image bytes) (Paper.fails (paperOf before) at)
             (λ a. proceed (paperOf after) none (resumed (step ph a)) at))
             ≡ toldOf (cond b (unchanged before 20 [])
-            (onSome (reading (Phases.request ph) image bytes) (fails before at)
+            (onSome (reading (OperationMachine.request ph) image bytes) (fails before at)
             (λ a. settle after (step ph a .progress) (step ph a .then) at)))
         lent true = refl
-        lent false = answers (reading (Phases.request ph) image bytes)
+        lent false = answers (reading (OperationMachine.request ph) image bytes)
 
 pub linkFailed-sim : (c : Client) → Paper.linkFailed (paperOf c) ≡ toldOf (linkFailed c)
 unfolding Paper.linkFailed linkFailed paperOf leftOf

@@ -7,7 +7,7 @@ use native.Mathlib.Omega.{arith}
 use borrow.Author.Tests.{ltb-false}
 use Rattle.paper.specs.Frame.{Info}
 use Rattle.paper.specs.Count.{All}
-use Rattle.theory.proofs.walk.EachMember.{all-weaken}
+use Rattle.theory.proofs.EachMember.{all-weaken}
 use Rattle.paper.specs.Answers.{steps, apart, below, eraseAddresses, spansTooFar}
 
 -- Of k numbers from a on, e apart, each plus e is at most a + k * e.

@@ -24,7 +24,7 @@ use Rattle.theory.specs.FlashOrder.{writesAt, planned, FrontOf, Passed, 
 use Rattle.theory.specs.FlashOrder.{toVerify, Fronts, Front, Allowed, Kept, Stands, Flashed}
 use Rattle.theory.proofs.talk.TalkRules.{Always, always-bind, always-each, always-refuseIf, always-test}
 use Rattle.theory.proofs.talk.TalkRules.{always-transact, play-kept, all-asked}
-use Rattle.theory.proofs.flash.DeviceInfo.{sound-chunk, informed-sound}
+use Rattle.theory.proofs.flash.InfoRule.{sound-chunk, informed-sound}
 use Rattle.theory.proofs.flash.WriteOffsets.{First, first, last, at-most, counted, uncounted}
 use Rattle.paper.proofs.Chunks.{write-size}
 

@@ -21,12 +21,12 @@ use Rattle.paper.proofs.Words.{Bytes, le-length}
 use Rattle.theory.specs.FlashOrder as Order
 use Rattle.theory.specs.FlashOrder.{Past, asks, toldBy, Passed, InOrder, toInform, toErase, toWrite, toVerify}
 use Rattle.theory.specs.FlashOrder.{Front, Allowed}
-use Rattle.theory.proofs.walk.EachMember.{all-weaken, all-take, all-last}
+use Rattle.theory.proofs.EachMember.{all-weaken, all-take, all-last}
 use Rattle.theory.proofs.flash.WrittenBytes.{piece-length}
 use Rattle.theory.proofs.flash.FlashOrder.{planned-is}
 use Rattle.theory.proofs.frames.FramesReadBack.{Fits, bytes-append, bytes-take, bytes-drop, bytes-le}
 use Rattle.theory.proofs.flash.EraseAddresses.{addresses-fit, capacity-fits}
-use Rattle.theory.proofs.flash.DeviceInfo.{sound-sizes, informed-sound}
+use Rattle.theory.proofs.flash.InfoRule.{sound-sizes, informed-sound}
 
 -- The device information, if it is known, satisfies the Info rule.
 abbrev SoundAny : Option (Info × List ℕ) → Type 0

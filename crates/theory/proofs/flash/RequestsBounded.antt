@@ -21,7 +21,7 @@ use Rattle.theory.specs.FlashOrder.{Exchange, met, Past, Event, Stand, l
 use Rattle.theory.specs.FlashOrder.{toldIn, told, Ended, Bounded, most, erasesMost, flashMost}
 use Rattle.theory.proofs.talk.TalkRules.{bind-assoc}
 use Rattle.theory.proofs.flash.FlashOrder.{told-still}
-use Rattle.theory.proofs.flash.DeviceInfo.{sound-sizes, sound-chunk, informed-sound}
+use Rattle.theory.proofs.flash.InfoRule.{sound-sizes, sound-chunk, informed-sound}
 use Rattle.paper.proofs.Chunks.{padded-multiple}
 
 -- The conversation asks at most k requests, whatever is answered.

@@ -33,8 +33,8 @@ use Rattle.theory.specs.OperationMachine.{to, ends, refuses, Next, unles
 use Rattle.theory.specs.OperationMachine.{working, erases, judged, prepared, writes, cleared, erased, wrote}
 use Rattle.theory.specs.OperationMachine.{repeated, verified, accepted, declined, told, step, starting}
 use Rattle.theory.proofs.talk.TalkRules.{bind-assoc}
-use Rattle.theory.proofs.flash.DeviceInfo.{sound-sizes, sound-chunk}
-use Rattle.theory.proofs.walk.MachineIsWalk as Refine
+use Rattle.theory.proofs.flash.InfoRule.{sound-sizes, sound-chunk}
+use Rattle.theory.proofs.walk.MachineIsWalk as MachineIsWalk
 
 -- The device information of a job satisfies the Info rule.
 abbrev pub SoundJob : Job → Type 0
@@ -88,7 +88,7 @@ resumeSearch (probing bytes bits) = selectOnly (take bits (bitsOf bytes))
 resumeSearch parting = deselect
 resumeSearch (seeking uid) = attach uid
 resumeSearch (backing uid) = deselect >> several uid
-resumeSearch (walking s) = Talk.walking (Refine.resume s) >>= finding
+resumeSearch (walking s) = Talk.walking (MachineIsWalk.resume s) >>= finding
 
 unfoldable pub resumeJob : Job → Talk Outcome
 resumeJob (informing why) = whole why
@@ -140,8 +140,8 @@ unfolding thereafter
 backed-sim none = refl
 backed-sim (some given) = refl
 
-walked-sim : (n : Machine.Next) → Talk.walking (Refine.resumed n) >>= finding ≡ thereafter (walked n)
-unfolding thereafter resume resumeSearch Refine.resumed Talk.walking _>>=_
+walked-sim : (n : Machine.Next) → Talk.walking (MachineIsWalk.resumed n) >>= finding ≡ thereafter (walked n)
+unfolding thereafter resume resumeSearch MachineIsWalk.resumed Talk.walking _>>=_
 walked-sim (going s) = refl
 walked-sim (ended (done ids)) = refl
 walked-sim (ended (stopped c)) = refl
@@ -153,7 +153,7 @@ search-step (probing bytes bits) = listen-sim (take bits (bitsOf bytes)) _ (λ h
 search-step parting = refl
 search-step (seeking uid) = listen-sim (prefixOf uid) (met uid) (sought uid) (sought-sim uid)
 search-step (backing uid) = λ i. ask (select Walk.nobody) (λ h. backed-sim uid i)
-search-step (walking s) = ap (λ (w : Walk (List Id)). Talk.walking w >>= finding) (Refine.resume-step s)
+search-step (walking s) = ap (λ (w : Walk (List Id)). Talk.walking w >>= finding) (MachineIsWalk.resume-step s)
     ∙ (λ i. ask (select (Machine.request s)) (λ h. walked-sim (Machine.step s h) i))
 
 -- A test that may refuse.
@@ -371,5 +371,6 @@ resume-step (demanding j) k = job-step j k
 resume-step (leaving bootloader baud) k = refl
 
 pub resume-discover : (given : Id) → discover given ≡ resume (selecting (walking (starting (bitsOf given))))
-unfolding discover resume resumeSearch Machine.start Refine.resumed
-resume-discover given = ap (λ (w : Walk (List Id)). Talk.walking w >>= finding) (Refine.resume-start (bitsOf given))
+unfolding discover resume resumeSearch Machine.start MachineIsWalk.resumed
+resume-discover given = ap (λ (w : Walk (List Id)). Talk.walking w >>= finding)
+    (MachineIsWalk.resume-start (bitsOf given))

@@ -18,7 +18,7 @@ use Rattle.paper.proofs.Words.{Bytes}
 use Rattle.theory.specs.WalkMachine as Machine
 use Rattle.theory.specs.WalkMachine.{Marks, path, Phase, asked, mine, other, leaving, State, Next, going, ended}
 use Rattle.theory.specs.WalkMachine.{to, leave, descend, silent, kept, confirming, hears, tell, step}
-use Rattle.theory.proofs.walk.EachMember.{all-append}
+use Rattle.theory.proofs.EachMember.{all-append}
 use Rattle.theory.proofs.frames.FramesReadBack.{bytes-take, bytes-drop}
 use Rattle.theory.proofs.walk.SortedIds.{sort-all}
 

@@ -11,7 +11,7 @@ use Rattle.paper.specs.Hearing.{Id, Prefix, bitsOf}
 use Rattle.paper.specs.Walk.{_▹_}
 use Rattle.theory.specs.PrefixFree.{Apart, ownAlone, ownSelects}
 use Rattle.theory.proofs.walk.CountSums.{sum-quiet}
-use Rattle.theory.proofs.walk.EachMember.{all-weaken}
+use Rattle.theory.proofs.EachMember.{all-weaken}
 use Rattle.theory.proofs.walk.MatchingIds.{matching-matching, all-matches, all-matching, Under, under-child}
 use Rattle.theory.proofs.walk.MatchingIds.{two-shorter, two-sides, part-length}
 use Rattle.theory.proofs.walk.OneLength.{pods-apart, selects-own}

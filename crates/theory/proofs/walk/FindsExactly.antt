@@ -21,7 +21,7 @@ use Rattle.theory.proofs.walk.MatchingIds.{matching-yes, matching-not, 
 use Rattle.theory.proofs.walk.MatchingIds.{under-child, Side, two-shorter, two-sides, part-length, part-sum}
 use Rattle.theory.proofs.walk.MatchingIds.{part-insert}
 use Rattle.theory.proofs.walk.PrefixMatches.{beq-refl, beq-not, begins-child, begins-whole, sameId-refl}
-use Rattle.theory.proofs.walk.WalkRuns.{down, walk-judge, walk-nothing, run-then, run-ask}
+use Rattle.theory.proofs.walk.RunEquations.{down, walk-judge, walk-nothing, run-then, run-ask}
 use Rattle.theory.proofs.walk.SelectsSent.{Alike, discover-alike}
 use Rattle.theory.proofs.walk.SortedIds.{insertAll, sort-snoc, sort-insertAll}
 

@@ -14,9 +14,9 @@ use Rattle.paper.specs.Walk.{_▹_, Walk, return, stop, select, _>>=_, long, as
 use Rattle.paper.specs.Walk.{judge, walk, sort, nobody, discover, Wire, Ended, done, stopped, run}
 use Rattle.theory.specs.PrefixFree.{Unlike, Separate, Apart, Sorted}
 use Rattle.theory.proofs.walk.WalkRules.{Always, always-run, always-weaken, always-bind, always-ask}
-use Rattle.theory.proofs.walk.EachMember.{all-weaken, all-append}
+use Rattle.theory.proofs.EachMember.{all-weaken, all-append}
 use Rattle.theory.proofs.walk.PrefixMatches.{begins-refl, begins-front, begins-parted}
-use Rattle.theory.proofs.walk.WalkRuns.{down, walk-judge}
+use Rattle.theory.proofs.walk.RunEquations.{down, walk-judge}
 use Rattle.theory.proofs.walk.SortedIds.{sort-all, sort-length, sort-sorted, sort-separate}
 
 -- The ids js are the ids kept before, and new ones that match q.

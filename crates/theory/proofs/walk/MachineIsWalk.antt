@@ -14,8 +14,8 @@ use Rattle.paper.specs.Walk.{keep, judge, walk, sort, nobody, discover, Wire, d
 use Rattle.theory.specs.WalkMachine.{Marks, path, Phase, asked, mine, other, leaving, State, Next, going, ended}
 use Rattle.theory.specs.WalkMachine.{bitAfter, nextBit, request, to, leave, descend, silent, kept, confirming}
 use Rattle.theory.specs.WalkMachine.{hears, tell, tooLong, step, start, drive}
-use Rattle.theory.proofs.walk.Bound.{discover-bound}
-use Rattle.theory.proofs.walk.WalkRuns.{down, walk-judge, walk-nothing}
+use Rattle.theory.proofs.walk.SelectsBounded.{discover-bound}
+use Rattle.theory.proofs.walk.RunEquations.{down, walk-judge, walk-nothing}
 
 pub bind-assoc : {A B C : Type 0} (m : Walk A) (f : A → Walk B) (g : B → Walk C)
     → m >>= f >>= g ≡ m >>= (λ a. f a >>= g)

@@ -11,7 +11,7 @@ use Rattle.paper.specs.Hearing.{Id, Prefix, bitsOf, matches}
 use Rattle.paper.specs.Walk.{sort, discover, Wire, done, run}
 use Rattle.paper.proofs.Bits.{bits-length}
 use Rattle.theory.specs.PrefixFree.{Unlike, Separate, Apart, ownAlone, ownSelects}
-use Rattle.theory.proofs.walk.EachMember.{all-weaken}
+use Rattle.theory.proofs.EachMember.{all-weaken}
 use Rattle.theory.proofs.walk.FindsExactly.{discover-apart}
 use Rattle.theory.proofs.walk.PrefixMatches.{begins-whole, bitsOf-inj}
 use Rattle.theory.proofs.walk.SelectsSent.{Alike}

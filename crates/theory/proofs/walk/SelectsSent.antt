@@ -14,10 +14,10 @@ use Rattle.paper.specs.Walk.{judge, walk, discover, Wire, run}
 use Rattle.paper.proofs.Bits.{bits-length}
 use Rattle.lore.proofs.Choice.{by-test, either}
 use Rattle.theory.proofs.walk.WalkRules.{Always, always-run}
-use Rattle.theory.proofs.walk.Bound.{Within, discover-within}
+use Rattle.theory.proofs.walk.SelectsBounded.{Within, discover-within}
 use Rattle.theory.proofs.walk.PrefixMatches.{begins-refl, begins-more}
 use Rattle.theory.proofs.walk.MachineIsWalk.{run-later}
-use Rattle.theory.proofs.walk.WalkRuns.{down, walk-judge}
+use Rattle.theory.proofs.walk.RunEquations.{down, walk-judge}
 
 -- The prefix selected satisfies P; or what is heard makes no difference, as for the deselect.
 pub data Heeds {A : Type 0} (P : Prefix → Type 0) (q : Prefix) (f : Heard → Walk A) : Type 0 where

@@ -8,7 +8,7 @@ use Rattle.paper.specs.Count.{All}
 use Rattle.paper.specs.Hearing.{Id, before}
 use Rattle.paper.specs.Walk.{insert, sort}
 use Rattle.theory.specs.PrefixFree.{Unlike, Separate, Sorted}
-use Rattle.theory.proofs.walk.EachMember.{all-weaken}
+use Rattle.theory.proofs.EachMember.{all-weaken}
 use Rattle.theory.proofs.walk.IdOrder.{before-total, before-antisym, before-trans}
 
 insert-here : (x y : Id) (l : List Id) → before x y ≡ true → insert x (y ∷ l) ≡ x ∷ y ∷ l

@@ -14,7 +14,7 @@ use Rattle.paper.proofs.Bits.{bits-length}
 use Rattle.theory.specs.WalkMachine.{Marks, path, Phase, asked, mine, other, leaving, State, Next, going, ended}
 use Rattle.theory.specs.WalkMachine.{nextBit, request, to, leave, descend, silent, kept, confirming, hears, tell}
 use Rattle.theory.specs.WalkMachine.{tooLong, step, start}
-use Rattle.theory.proofs.walk.EachMember.{all-append}
+use Rattle.theory.proofs.EachMember.{all-append}
 use Rattle.theory.proofs.walk.SortedIds.{sort-all, sort-length}
 
 abbrev pub Short : Id → Type 0

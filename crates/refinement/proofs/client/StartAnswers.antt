@@ -23,10 +23,10 @@ use Rattle.client.specs.declared.Search.the-variants.{Walking}
 use Rattle.client.specs.declared.Turn.the-variants.{Ready}
 use Rattle.client.specs.Clients.{begun, running}
 use Rattle.client_start.specs.Start as Code
-use Rattle.refinement.specs.ClientRecord.{resetIn, phaseIn, prefixIn, bitsIn, walkIn, clientOf, refusedAs}
-use Rattle.refinement.specs.ClientRecord.{startedAs}
+use Rattle.refinement.specs.CodeClient.{resetIn, phaseIn, prefixIn, bitsIn, walkIn, clientOf, refusedAs}
+use Rattle.refinement.specs.CodeClient.{startedAs}
 use Rattle.refinement.specs.Refusals.{begins, goodCount, asking, resetPhase}
-use Rattle.refinement.proofs.walk.Condition3.{begin-sim}
+use Rattle.refinement.proofs.walk.EndsAndFinds.{begin-sim}
 use Rattle.refinement.proofs.refused.Starts.{select-begins, deselect-begins, attach-begins, attach-to-begins}
 use Rattle.refinement.proofs.refused.Starts.{discover-begins, info-begins, erase-begins, flash-begins}
 use Rattle.refinement.proofs.refused.Starts.{reset-begins, set-baud-begins}

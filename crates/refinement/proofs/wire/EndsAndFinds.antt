@@ -21,9 +21,9 @@ use Rattle.theory.specs.WalkMachine.{State, Next, going, ended, drive}
 use Rattle.theory.specs.PrefixFree.{Sorted}
 use Rattle.theory.specs.ClientMachine as ClientMachine
 use Rattle.theory.specs.ClientMachine.{Brief, idle, settle}
-use Rattle.theory.proofs.walk.Condition3 as MachineCondition3
+use Rattle.theory.proofs.walk.EndsAndFinds as MachineCondition3
 use Rattle.theory.proofs.walk.StatesFit.{Short, FitsNext, step-fits, start-fits}
-use Rattle.theory.proofs.walk.EachMember.{all-weaken}
+use Rattle.theory.proofs.EachMember.{all-weaken}
 use Rattle.theory.proofs.walk.ListedIds.{kept-listed, kept-distinct}
 use Rattle.theory.proofs.walk.CountAtMost.{selects-most}
 use Rattle.theory.proofs.walk.OneLength.{discover-exact}
@@ -41,7 +41,7 @@ use Rattle.refinement.specs.ClientServed.{Wire, isOnward, opening, disco
 use Rattle.refinement.specs.ClientServed.{endTable, endId, EndsAs, Finds, Lists}
 use Rattle.refinement.proofs.client.AnswersRead.{ids-back, Stops, step-stops, walked-read}
 use Rattle.refinement.proofs.wire.ServedIsMachine.{stood, Stands, serve-walks, ended-onward, refused-table}
-use Rattle.refinement.proofs.client.Starts.{discover-started}
+use Rattle.refinement.proofs.client.StartAnswers.{discover-started}
 
 -- What every step keeps holds wherever the machine gets to.
 drive-keeps : (P : Next → Type 0) → ((s : State) (h : PaperHearing.Heard) → P (going s) → P (Walk.step s h))

@@ -12,7 +12,7 @@ use Rattle.paper.specs.Hearing.{Id, Prefix, bitsOf, matches, Heard, nothing, on
 use Rattle.paper.specs.Walk.{_▹_, Walk, return, stop, select, _>>=_, ask, isNothing, confirmRest, confirm, keep, judge}
 use Rattle.paper.specs.Walk.{walk, sort, nobody, discover, Wire, Ended, done, stopped, run}
 use Rattle.theory.proofs.walk.WalkRules.{Always, always-run, always-weaken, always-bind, always-ask}
-use Rattle.theory.proofs.walk.WalkRuns.{down, walk-judge, walk-nothing}
+use Rattle.theory.proofs.walk.RunEquations.{down, walk-judge, walk-nothing}
 
 -- At most m Selects were sent, however the conversation ended.
 unfoldable pub Within : {A : Type 0} → ℕ → Ended A → ℕ → Type 0

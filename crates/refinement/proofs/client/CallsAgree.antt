@@ -14,7 +14,7 @@ use Rattle.paper.specs.Count.{All}
 use Rattle.paper.specs.Hearing.{Id, bitsOf, onSome}
 use Rattle.paper.specs.Talk.{Ask, select, demand, leave, AnswerTo}
 use Rattle.paper.proofs.Words.{Bytes}
-use Rattle.theory.specs.OperationMachine as Phases
+use Rattle.theory.specs.OperationMachine as OperationMachine
 use Rattle.theory.specs.OperationMachine.{probing, parting, seeking, walking, tell, clear, load, informing, Phase}
 use Rattle.theory.specs.OperationMachine.{selecting, demanding, Then, to, ends, refuses, step, starting}
 use Rattle.theory.specs.ClientMachine as Machine
@@ -44,7 +44,7 @@ use Rattle.client.specs.Clients as CodeClients
 use Rattle.client_request.specs.Request as CodeRequest
 use Rattle.client_record.specs.Record as CodeRecord
 use Rattle.client.specs.Numbers.{numberOf, carriedBy, progressOf, saysOf}
-use Rattle.refinement.specs.ClientRecord.{clientOf, refusedAs, shownSays, startedAs, toldAs, askedAs}
+use Rattle.refinement.specs.CodeClient.{clientOf, refusedAs, shownSays, startedAs, toldAs, askedAs}
 use Rattle.refinement.specs.Calls.{Call, startSelect, startDeselect, startAttach, startDiscover, startInfo}
 use Rattle.refinement.specs.Calls.{startErase, startFlash, startReset, startSetBaud, request, record′, linkFailed}
 use Rattle.refinement.specs.Calls.{Good, Reply, saidBy, askedOf, paperCall, startedBy, askedBy, toldBy, codeCall}
@@ -52,9 +52,10 @@ use Rattle.refinement.specs.Calls.{attachedTo, paperAnswer, codeAnswer, 
 use Rattle.refinement.proofs.client.AnswersRead.{Readable, ReadableThen, io-read, image-read, turn-read}
 use Rattle.refinement.proofs.client.AnswersRead.{onward-read, phase-read}
 use Rattle.refinement.proofs.client.RequestBytes.{request-asked}
-use Rattle.refinement.proofs.client.Starts.{select-started, deselect-started, attach-started, attach-to-started}
-use Rattle.refinement.proofs.client.Starts.{discover-started, info-started, erase-started, flash-started}
-use Rattle.refinement.proofs.client.Starts.{reset-started, baud-started}
+use Rattle.refinement.proofs.client.StartAnswers.{select-started, deselect-started, attach-started}
+use Rattle.refinement.proofs.client.StartAnswers.{attach-to-started}
+use Rattle.refinement.proofs.client.StartAnswers.{discover-started, info-started, erase-started, flash-started}
+use Rattle.refinement.proofs.client.StartAnswers.{reset-started, baud-started}
 use Rattle.refinement.proofs.client.RecordAnswers.{record-told, failed-told}
 
 -- The machine's answer to a call, and its client after it.
@@ -134,12 +135,12 @@ asked-read c image buffer = go (c .turn)
         (ap (λ (s : Says). (
           record { says = s; rest = 0; buffer = bytes ++ drop (length bytes) buffer },
           clientOf
-              (record { seed = seedAfter (Phases.request ph) (c .seed); id = c .id; turn = handedOut ph }),
+              (record { seed = seedAfter (OperationMachine.request ph) (c .seed); id = c .id; turn = handedOut ph }),
         ))
-        (handing-read (Phases.request ph) (length bytes))))
+        (handing-read (OperationMachine.request ph) (length bytes))))
       where
         bytes : List ℕ
-        bytes = bytesOf (Phases.request ph) (seedAfter (Phases.request ph) (c .seed)) image
+        bytes = bytesOf (OperationMachine.request ph) (seedAfter (OperationMachine.request ph) (c .seed)) image
     go (waiting ph) = refl
 
 -- An answer that reads back as the same answer.
@@ -160,16 +161,22 @@ record-read c f image bytes = go (c .turn) (f .turn)
     go : (t : Turn) → FitsTurn t → Readable (Machine.record′ (turned c t) image bytes .says)
     go idle w = turn-read
     go (ready ph) w = turn-read
-    go (waiting ph) w = lent (otherLength (lends ph) image) (reading (Phases.request ph) image bytes)
+    go (waiting ph) w = lent (otherLength (lends ph) image) (reading (OperationMachine.request ph) image bytes)
       where
-        lent : (b : Bool) (o : Option (AnswerTo (Phases.request ph)))
+        lent : (b : Bool) (o : Option (AnswerTo (OperationMachine.request ph)))
             → Readable (cond b (unchanged (turned c (waiting ph)) 20 [])
-            (onSome o (fails (turned c (waiting ph)) (place (Phases.request ph) bytes))
-            (λ a. settle (record { seed = c .seed; id = cleared (Phases.request ph) (c .id); turn = waiting ph })
-            (step ph a .progress) (step ph a .then) (place (Phases.request ph) bytes))) .says)
+            (onSome o (fails (turned c (waiting ph)) (place (OperationMachine.request ph) bytes))
+            (λ a. settle (record {
+              seed = c .seed;
+              id = cleared (OperationMachine.request ph)
+                  (c .id);
+              turn = waiting ph;
+            })
+            (step ph a .progress) (step ph a .then) (place (OperationMachine.request ph) bytes))) .says)
         lent true o = image-read
         lent false none = io-read
-        lent false (some a) = settle-read _ (step ph a .progress) (step ph a .then) (place (Phases.request ph) bytes)
+        lent false (some a) = settle-read _ (step ph a .progress) (step ph a .then)
+            (place (OperationMachine.request ph) bytes)
             (phase-read ph w a)
 
 failed-read : (c : Machine.Client) → Readable (Machine.linkFailed c .says)

@@ -20,13 +20,13 @@ use Rattle.paper.proofs.Bits.{bits-length}
 use Rattle.paper.proofs.Words.{Bytes}
 use Rattle.theory.specs.ClientMachine as Machine
 use Rattle.theory.specs.ClientMachine.{Brief, idle, resets}
-use Rattle.theory.specs.ClientDriven as Theory
+use Rattle.theory.specs.ClientDriven as ClientDriven
 use Rattle.theory.specs.ClientDriven.{Round, Lends}
 use Rattle.theory.specs.HandedOut.{FlashOrder}
 use Rattle.theory.specs.OperationMachine.{probing, parting, seeking, walking, tell, clear, load, informing, Phase}
 use Rattle.theory.specs.OperationMachine.{selecting, demanding, starting}
 use Rattle.theory.proofs.client.DrivenIsTalk.{any-lent, driven-stands}
-use Rattle.theory.proofs.flash.HandedOut.{flash-order}
+use Rattle.theory.proofs.flash.HandedOutInOrder.{flash-order}
 use Rattle.theory.proofs.client.ClientsFit.{Fits, startSelect-fits, startDeselect-fits, startAttach-fits}
 use Rattle.theory.proofs.client.ClientsFit.{startDiscover-fits, startInfo-fits, startErase-fits, startFlash-fits}
 use Rattle.theory.proofs.client.ClientsFit.{startReset-fits, startSetBaud-fits}
@@ -38,14 +38,15 @@ use Rattle.theory.proofs.client.MachineIsClient.{startFlash-sim, startReset-sim
 use Rattle.client.specs.declared.Started.{Started}
 use Rattle.client_start.specs.Start as Code
 use Rattle.refinement.specs.Calls.{saidBy, startedBy}
-use Rattle.refinement.specs.ClientRecord.{startedAs}
+use Rattle.refinement.specs.CodeClient.{startedAs}
 use Rattle.refinement.specs.ClientDriven.{driven, sends, answerOf, Plays}
 use Rattle.refinement.specs.ClientServed.{opening, resting}
-use Rattle.refinement.proofs.client.CallsAreTalk.{settledBy, started-read}
+use Rattle.refinement.proofs.client.CallsAgree.{settledBy, started-read}
 use Rattle.refinement.proofs.client.DrivenIsTalk.{Same, from-machine, started-same, drives, same-stands}
-use Rattle.refinement.proofs.client.Starts.{select-started, deselect-started, attach-started, attach-to-started}
-use Rattle.refinement.proofs.client.Starts.{discover-started, info-started, erase-started, flash-started}
-use Rattle.refinement.proofs.client.Starts.{reset-started, baud-started}
+use Rattle.refinement.proofs.client.StartAnswers.{select-started, deselect-started, attach-started}
+use Rattle.refinement.proofs.client.StartAnswers.{attach-to-started}
+use Rattle.refinement.proofs.client.StartAnswers.{discover-started, info-started, erase-started, flash-started}
+use Rattle.refinement.proofs.client.StartAnswers.{reset-started, baud-started}
 
 module _ (buffer : List ℕ) (big : room ≤ length buffer) (seed : ℕ) (byte : seed < 256) (id : Option Id)
     (brief : Brief id) (rounds : List Round) where
@@ -63,10 +64,10 @@ module _ (buffer : List ℕ) (big : room ≤ length buffer) (seed : ℕ) (byte :
       (ap startedBy c ∙ started-read m good ph) (ap saidBy e))
 
   plays : (n : Option ℕ) (talk : Talk Outcome) → Modest room talk → All (Lends n) rounds → (s : Started)
-      → Same (opening s) (startWith n (Theory.resting seed id) true talk)
+      → Same (opening s) (startWith n (ClientDriven.resting seed id) true talk)
       → Plays n seed id talk buffer rounds s
   plays n talk h lent s same =
-      let d = drives buffer rounds (opening s) (startWith n (Theory.resting seed id) true talk) same in
+      let d = drives buffer rounds (opening s) (startWith n (ClientDriven.resting seed id) true talk) same in
       record {
         stands = same-stands n seed id _ _ _ _ (d .last)
             (driven-stands buffer big n seed id talk h rounds lent);
@@ -82,7 +83,7 @@ module _ (buffer : List ℕ) (big : room ≤ length buffer) (seed : ℕ) (byte :
       (select-modest (take bits (bitsOf bytes))
       (omega (arith, length-take bits (bitsOf bytes), bits-length bytes))) (any-lent rounds) _
       (subst (λ (b : Bool). Same (opening (Code.startSelect (resting seed id) bytes bits))
-      (Paper.start (Theory.resting seed id) b (selectOnly (take bits (bitsOf bytes))))) good
+      (Paper.start (ClientDriven.resting seed id) b (selectOnly (take bits (bitsOf bytes))))) good
       (opens (withinLongest bytes && (leb bits 128 && leb bits (8 * length bytes)))
       (selecting (probing bytes bits)) _ _ (startSelect-fits m fits bytes bits) (select-started m bytes bits)
       (startSelect-sim m bytes bits)))
@@ -110,7 +111,7 @@ module _ (buffer : List ℕ) (big : room ≤ length buffer) (seed : ℕ) (byte :
       plays none (attach (some given)) (attach-modest (some given) (omega (arith, bits-length given)))
       (any-lent rounds) _
       (subst (λ (b : Bool). Same (opening (Code.startAttachTo (resting seed id) given))
-      (Paper.start (Theory.resting seed id) b (attach (some given)))) (le-leb (length given) 16 h)
+      (Paper.start (ClientDriven.resting seed id) b (attach (some given)))) (le-leb (length given) 16 h)
       (opens (withinLongest given) (selecting (seeking (some given))) _ _ (startAttach-fits m fits (some given))
       (attach-to-started m given) (startAttach-sim m (some given))))
 
@@ -120,7 +121,7 @@ module _ (buffer : List ℕ) (big : room ≤ length buffer) (seed : ℕ) (byte :
   discover-driven given h b =
       plays none (discover given) (discover-modest given h) (any-lent rounds) _
       (subst (λ (b : Bool). Same (opening (Code.startDiscover (resting seed id) given))
-      (Paper.start (Theory.resting seed id) b (discover given))) (le-leb (length given) 16 h)
+      (Paper.start (ClientDriven.resting seed id) b (discover given))) (le-leb (length given) 16 h)
       (opens (withinLongest given) (selecting (walking (starting (bitsOf given)))) _ _
       (startDiscover-fits m fits given) (discover-started m given b) (startDiscover-sim m given)))
 
@@ -136,7 +137,7 @@ module _ (buffer : List ℕ) (big : room ≤ length buffer) (seed : ℕ) (byte :
 
   module _ (image : List ℕ) (lent : All (Lends (some (length image))) rounds) where
     flash-same : Same (opening (Code.startFlash (resting seed id) image))
-        (startWith (some (length image)) (Theory.resting seed id) true (flash (length image)))
+        (startWith (some (length image)) (ClientDriven.resting seed id) true (flash (length image)))
     unfolding Machine.startFlash Paper.startFlash paperOf leftOf
     flash-same = opens true (demanding (informing (load (length image)))) _ _ (startFlash-fits m fits image)
         (flash-started m image) (startFlash-sim m image)

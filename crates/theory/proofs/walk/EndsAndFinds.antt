@@ -9,7 +9,7 @@ use Rattle.paper.specs.Hearing.{Id, Prefix}
 use Rattle.paper.specs.Walk.{sort, discover, Wire, done, run}
 use Rattle.theory.specs.WalkMachine.{ended, start, drive}
 use Rattle.theory.specs.PrefixFree.{Apart, ownSelects}
-use Rattle.theory.proofs.walk.Bound.{discover-bound}
+use Rattle.theory.proofs.walk.SelectsBounded.{discover-bound}
 use Rattle.theory.proofs.walk.FindsExactly.{discover-apart}
 use Rattle.theory.proofs.walk.ListedIds.{Listed, kept-listed}
 use Rattle.theory.proofs.walk.CountAtMost.{own-most, selects-most}

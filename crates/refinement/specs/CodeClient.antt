@@ -50,7 +50,7 @@ use Rattle.client.specs.declared.Says.the-variants.{Granted, Closing, Onward, O
 use Rattle.client.specs.declared.Started.{Started}
 use Rattle.client.specs.declared.Told.{Told}
 use Rattle.client_request.specs.Request.{Asking}
-use Rattle.refinement.specs.WalkRecord.{tableOf, phaseOf, walkOf}
+use Rattle.refinement.specs.CodeWalk.{tableOf, phaseOf, walkOf}
 
 -- An id that may be missing: whether it is there, and its value.
 abbrev pub isThere : Option PaperHearing.Id → Bool

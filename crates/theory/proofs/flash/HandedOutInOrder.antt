@@ -28,7 +28,7 @@ use Rattle.theory.specs.HandedOut.{answeredBy, said, toldIn, told, erase
 use Rattle.theory.specs.HandedOut.{Hands, Passes, Cleared, FlashOrder}
 use Rattle.theory.proofs.talk.TalkRules.{Always}
 use Rattle.theory.proofs.client.DrivenIsTalk.{goes, quiet, sends-awaits, driven-stands}
-use Rattle.theory.proofs.walk.EachMember.{all-both}
+use Rattle.theory.proofs.EachMember.{all-both}
 use Rattle.theory.proofs.flash.FramesFit.{in-order-fits}
 use Rattle.theory.proofs.flash.FlashOrder.{flash-always, flash-in-order}
 use Rattle.theory.proofs.frames.FramesReadBack.{read-written}

@@ -13,7 +13,7 @@ use Rattle.theory.specs.WalkMachine.{Next, asked, going, ended, request, step, 
 use Rattle.theory.specs.PrefixFree.{Apart, ownSelects}
 use Rattle.theory.proofs.walk.StatesFit.{FitsNext, step-fits, start-fits}
 use Rattle.theory.proofs.walk.ListedIds.{Listed, kept-listed}
-use Rattle.theory.proofs.walk.Condition3 as Machine
+use Rattle.theory.proofs.walk.EndsAndFinds as Machine
 use Rattle.theory.proofs.walk.SelectsSent.{Alike}
 use Rattle.ids.specs.Ids.{noId, idFrom}
 use Rattle.ids.proofs.Laws.{id-of-from}
@@ -22,7 +22,7 @@ use Rattle.walk.specs.declared.Phase.the-variants.{Asked}
 use Rattle.walk_step.specs.Steps.{Goes, Done, Stopped}
 use Rattle.walk.specs.Moves as Moves
 use Rattle.walk_step.specs.Steps as Steps
-use Rattle.refinement.specs.WalkRecord.{tableOf, endOf, nextOf, walkOf, phaseOf}
+use Rattle.refinement.specs.CodeWalk.{tableOf, endOf, nextOf, walkOf, phaseOf}
 use Rattle.refinement.specs.WalkDriven.{driven, begun, told}
 use Rattle.refinement.proofs.walk.AskedBits.{asks-sim}
 use Rattle.refinement.proofs.walk.PathBytes.{pack-bytes}
