@@ -83,8 +83,26 @@ mod c {
     unsafe extern "C" {
         pub fn fahireky_start_discover(s: *mut u8, sn: usize, p: *const u8, pn: usize, a: *mut u8, an: usize) -> u64;
         pub fn fahireky_start_flash(s: *mut u8, sn: usize, i: *const u8, n: usize, a: *mut u8, an: usize) -> u64;
-        pub fn fahireky_request(s: *mut u8, sn: usize, i: *const u8, n: usize, b: *mut u8, bn: usize, a: *mut u8, an: usize) -> u64;
-        pub fn fahireky_record(s: *mut u8, sn: usize, i: *const u8, n: usize, r: *const u8, rn: usize, a: *mut u8, an: usize) -> u64;
+        pub fn fahireky_request(
+            s: *mut u8,
+            sn: usize,
+            i: *const u8,
+            n: usize,
+            b: *mut u8,
+            bn: usize,
+            a: *mut u8,
+            an: usize,
+        ) -> u64;
+        pub fn fahireky_record(
+            s: *mut u8,
+            sn: usize,
+            i: *const u8,
+            n: usize,
+            r: *const u8,
+            rn: usize,
+            a: *mut u8,
+            an: usize,
+        ) -> u64;
     }
 }
 
@@ -104,7 +122,9 @@ impl Raw {
         self.state.fill(0);
         let (s, a) = (&mut self.state, &mut self.answer);
         // SAFETY: each slice is passed as its pointer and its length.
-        let code = unsafe { c::fahireky_start_discover(s.as_mut_ptr(), s.len(), prefix.as_ptr(), prefix.len(), a.as_mut_ptr(), a.len()) };
+        let code = unsafe {
+            c::fahireky_start_discover(s.as_mut_ptr(), s.len(), prefix.as_ptr(), prefix.len(), a.as_mut_ptr(), a.len())
+        };
         assert_eq!(code, 0);
     }
 
@@ -112,7 +132,9 @@ impl Raw {
         self.state.fill(0);
         let (s, a) = (&mut self.state, &mut self.answer);
         // SAFETY: as above.
-        let code = unsafe { c::fahireky_start_flash(s.as_mut_ptr(), s.len(), image.as_ptr(), image.len(), a.as_mut_ptr(), a.len()) };
+        let code = unsafe {
+            c::fahireky_start_flash(s.as_mut_ptr(), s.len(), image.as_ptr(), image.len(), a.as_mut_ptr(), a.len())
+        };
         assert_eq!(code, 0);
     }
 
@@ -122,10 +144,23 @@ impl Raw {
         let (i, n) = (image.as_ptr(), image.len());
         for (k, record) in records.iter().enumerate() {
             // SAFETY: as above.
-            let code = unsafe { c::fahireky_request(s.as_mut_ptr(), s.len(), i, n, b.as_mut_ptr(), b.len(), a.as_mut_ptr(), a.len()) };
+            let code = unsafe {
+                c::fahireky_request(s.as_mut_ptr(), s.len(), i, n, b.as_mut_ptr(), b.len(), a.as_mut_ptr(), a.len())
+            };
             assert_eq!(code & 0xFF, 0);
             // SAFETY: as above.
-            let code = unsafe { c::fahireky_record(s.as_mut_ptr(), s.len(), i, n, record.as_ptr(), record.len(), a.as_mut_ptr(), a.len()) };
+            let code = unsafe {
+                c::fahireky_record(
+                    s.as_mut_ptr(),
+                    s.len(),
+                    i,
+                    n,
+                    record.as_ptr(),
+                    record.len(),
+                    a.as_mut_ptr(),
+                    a.len(),
+                )
+            };
             if code & 0xFF != 0 || a[1] == 2 {
                 return k + 1;
             }

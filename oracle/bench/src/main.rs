@@ -150,7 +150,10 @@ fn used() -> usize {
     // SAFETY: any bits are a valid u8; the bytes are what earlier stack frames left there.
     let painted = |i: usize| unsafe { room.as_ptr().cast::<u8>().add(i).read_volatile() } == 0xC7;
     // A stack probe writes one word on each page. A block with more changed bytes than that was used.
-    (0..PAINTED).step_by(64).find(|&at| (at..at + 64).filter(|&i| !painted(i)).count() > 16).map_or(0, |at| PAINTED - at)
+    (0..PAINTED)
+        .step_by(64)
+        .find(|&at| (at..at + 64).filter(|&i| !painted(i)).count() > 16)
+        .map_or(0, |at| PAINTED - at)
 }
 
 /// How much stack a call uses, in a thread of its own. The call is hidden from the compiler, so that it is not inlined.
@@ -180,7 +183,11 @@ fn main() {
             discovery(&format!("discovery, {n} pods, ids of {length}"), &[], Wire::Honest(ids));
         }
     }
-    discovery("discovery, garble down to 128 bits", &[], Wire::Scripted([vec![vec![0x55]; 128], vec![vec![]; 129]].concat()));
+    discovery(
+        "discovery, garble down to 128 bits",
+        &[],
+        Wire::Scripted([vec![vec![0x55]; 128], vec![vec![]; 129]].concat()),
+    );
     let adverse = (0..100)
         .map(|seed| Wire::Adverse(Random::new(seed)))
         .map(|wire| (records(&Operation::Discover(vec![0; 14]), &wire).len(), wire))
@@ -190,20 +197,42 @@ fn main() {
     discovery("discovery, adverse, under 14 bytes", &[0; 14], adverse);
     let record = noisy(r);
     let clean: Vec<u8> = (0..100).flat_map(|_| reply(5, 0, &[7; 28])).collect();
-    speed("hear, a noisy record of 4 KiB", record.len(), best(1, [&mut || drop(black_box(reference::inner::hear(&record))), &mut || { let _ = black_box(fahireky::hear(&record)); }]));
-    speed("hear, echoes of 4,000 bytes", clean.len(), best(1, [&mut || drop(black_box(reference::inner::hear(&clean))), &mut || { let _ = black_box(fahireky::hear(&clean)); }]));
+    speed(
+        "hear, a noisy record of 4 KiB",
+        record.len(),
+        best(
+            1,
+            [&mut || drop(black_box(reference::inner::hear(&record))), &mut || {
+                let _ = black_box(fahireky::hear(&record));
+            }],
+        ),
+    );
+    speed(
+        "hear, echoes of 4,000 bytes",
+        clean.len(),
+        best(
+            1,
+            [&mut || drop(black_box(reference::inner::hear(&clean))), &mut || {
+                let _ = black_box(fahireky::hear(&clean));
+            }],
+        ),
+    );
     let bytes = r.bytes(1 << 16);
-    speed("the check, 64 KiB", bytes.len(), best(
-        1,
-        [
-            &mut || {
-                black_box(tinyboot_protocol::crc::crc16(0xFFFF, &bytes));
-            },
-            &mut || {
-                black_box(fahireky::crc16(0xFFFF, &bytes));
-            },
-        ],
-    ));
+    speed(
+        "the check, 64 KiB",
+        bytes.len(),
+        best(
+            1,
+            [
+                &mut || {
+                    black_box(tinyboot_protocol::crc::crc16(0xFFFF, &bytes));
+                },
+                &mut || {
+                    black_box(fahireky::crc16(0xFFFF, &bytes));
+                },
+            ],
+        ),
+    );
     flash("flash of 64 KiB", 1 << 16);
     flash("flash of 1 MiB", 1 << 20);
     bench_log();
@@ -211,7 +240,12 @@ fn main() {
     println!();
     println!("| memory | Rust | calls | crate |");
     println!("|---|---|---|---|");
-    println!("| client at rest, bytes | {} and its heap | {} | {} |", size_of::<reference::Client<bench::Stored>>(), fahireky::STATE, size_of::<Client>());
+    println!(
+        "| client at rest, bytes | {} and its heap | {} | {} |",
+        size_of::<reference::Client<bench::Stored>>(),
+        fahireky::STATE,
+        size_of::<Client>()
+    );
     let wire = Wire::Honest((0..64).map(|_| r.bytes(16)).collect());
     let found = records(&Operation::Discover(vec![]), &wire);
     let image = r.bytes(1 << 16);
@@ -219,7 +253,8 @@ fn main() {
     let told = records(&Operation::Flash(image.clone()), &Wire::Pod(Pod::new(info.bytes(), 1)));
     // The clients and the lent buffers are on the heap, so that only the stack of the calls is counted.
     let mut rust = (Box::new(rust_client(&found)), Box::new(rust_client(&told)));
-    let (mut raw, mut client, mut buffer) = (Box::new(Raw::new()), Box::new(Client::new()), Box::new([0; fahireky::REQUEST]));
+    let (mut raw, mut client, mut buffer) =
+        (Box::new(Raw::new()), Box::new(Client::new()), Box::new([0; fahireky::REQUEST]));
     let a = stack(|| drop(black_box(rust.0.discover(&[]))));
     let b = stack(|| {
         raw.start_discover(&[]);

@@ -118,7 +118,9 @@ impl Judge {
 /// A discovery takes no more Selects than its bound.
 fn within_bound(operation: &Operation, ours: &Trace) -> Result<(), String> {
     match operation {
-        Operation::Discover(prefix) if prefix.len() <= 16 && ours.requests.len() > 132 + 260 * (128 - 8 * prefix.len()) => {
+        Operation::Discover(prefix)
+            if prefix.len() <= 16 && ours.requests.len() > 132 + 260 * (128 - 8 * prefix.len()) =>
+        {
             Err("more Selects than the bound".into())
         }
         _ => Ok(()),
@@ -291,7 +293,14 @@ pub fn stubborn(judge: &mut Judge) {
             let ids = (0..n).map(|i| [vec![0x5A; bytes], vec![i as u8], vec![0; 15 - bytes]].concat()).collect();
             let wire = Wire::Stubborn(ids, Default::default());
             let mut pair = Pair::new();
-            judge.run(&mut pair, "stubborn", if n == 65 { &[15] } else { &[] }, Operation::Discover(vec![0x5A; bytes]), wire, None);
+            judge.run(
+                &mut pair,
+                "stubborn",
+                if n == 65 { &[15] } else { &[] },
+                Operation::Discover(vec![0x5A; bytes]),
+                wire,
+                None,
+            );
         }
     }
 }
@@ -319,9 +328,7 @@ pub fn noisy(judge: &mut Judge, r: &mut Random, runs: usize) {
             }
             f
         };
-        let records = (0..1 + r.below(6))
-            .map(|_| (0..r.below(4)).flat_map(|_| piece(r)).collect())
-            .collect();
+        let records = (0..1 + r.below(6)).map(|_| (0..r.below(4)).flat_map(|_| piece(r)).collect()).collect();
         let operation = match r.below(9) {
             0 => {
                 let n = r.below(17);
@@ -411,7 +418,8 @@ pub fn edges(judge: &mut Judge) {
         let fits = 0xFFFF_FFFF / erase_size as u32 * erase_size as u32;
         for capacity in [Some(fits), fits.checked_add(1)].into_iter().flatten() {
             let info = Info { capacity, erase_size, ..INFO };
-            let operation = if erase_size % 2 == 0 { Operation::Erase } else { Operation::Flash(vec![erase_size as u8]) };
+            let operation =
+                if erase_size % 2 == 0 { Operation::Erase } else { Operation::Flash(vec![erase_size as u8]) };
             let allowed: Allowed = if capacity == fits { &[] } else { &[19] };
             judge.run(&mut Pair::new(), "edges", allowed, operation, Wire::Pod(Pod::new(info.bytes(), 1)), Some(1));
         }
@@ -451,8 +459,8 @@ pub fn far(judge: &mut Judge, r: &mut Random, rounds: usize) {
     }
 }
 
-/// An image that reaches beyond an address and nearly fills its device. The faults come after that address: in the first
-/// round sixteen refusals of each Write, in every fifth round a failing link.
+/// An image that reaches beyond an address and nearly fills its device. The faults come after that address: in the
+/// first round sixteen refusals of each Write, in every fifth round a failing link.
 fn far_image(judge: &mut Judge, r: &mut Random, round: usize, beyond: usize, info: Info) {
     let n = beyond + 2049 + r.below(9000);
     let info = Info { capacity: (n + r.below(3 * info.erase_size as usize)) as u32, ..info };
@@ -473,7 +481,8 @@ fn far_image(judge: &mut Judge, r: &mut Random, round: usize, beyond: usize, inf
 pub fn leaves(judge: &mut Judge, r: &mut Random, rounds: usize) {
     for _ in 0..rounds {
         let n = r.below(60);
-        let mut bytes = if r.one_in(3) { r.bytes(n) } else { reply(r.byte(), r.byte() % 4, &r.bytes(r.clone().below(20))) };
+        let mut bytes =
+            if r.one_in(3) { r.bytes(n) } else { reply(r.byte(), r.byte() % 4, &r.bytes(r.clone().below(20))) };
         if r.one_in(3) {
             bytes.extend(reply(5, r.byte() % 3, &[1]));
         }

@@ -11,7 +11,8 @@ fn main() {
     for bad in judge.bad.iter().take(3) {
         println!("{bad}");
     }
-    let met: Vec<String> = (1..24).filter(|&n| judge.refusals[n] > 0).map(|n| format!("{n}: {}", judge.refusals[n])).collect();
+    let met: Vec<String> =
+        (1..24).filter(|&n| judge.refusals[n] > 0).map(|n| format!("{n}: {}", judge.refusals[n])).collect();
     println!("refusals met: {}", met.join(", "));
     let reach = &judge.reach;
     println!("the longest discovery: {} Selects; the longest list of Erases: {}", reach.selects, reach.erases);
@@ -20,7 +21,10 @@ fn main() {
         let [far, farther] = a.beyond;
         println!("{name}: {far} at addresses beyond 2^16, {farther} beyond 2^24, the largest {}", a.largest);
     }
-    println!("seed {seed}: {} runs of both sides, {} of the port alone, {} leaf calls", judge.both, judge.alone, judge.leaves);
+    println!(
+        "seed {seed}: {} runs of both sides, {} of the port alone, {} leaf calls",
+        judge.both, judge.alone, judge.leaves
+    );
     println!("{} disagreements", judge.bad.len());
     std::process::exit((!judge.bad.is_empty()) as i32);
 }

@@ -98,7 +98,8 @@ pub fn spans_too_far(capacity: u64, erase_size: u64) -> bool {
     erase_size > 0 && capacity.div_ceil(erase_size) * erase_size > 0xFFFF_FFFF
 }
 
-/// "The key exists if the length is at least 6 and leaves 2 on division by 4: the four bytes that begin six before the end."
+/// "The key exists if the length is at least 6 and leaves 2 on division by 4: the four bytes that begin six before the
+/// end."
 fn key(image: &[u8]) -> Option<u64> {
     let at = image.len().checked_sub(6)?;
     (image.len() % 4 == 2).then(|| number(&image[at..at + 4]))
@@ -113,7 +114,9 @@ fn too_far(operation: &Operation, record: &[u8]) -> bool {
     let (compat, max_payload) = (number(&info[12..16]), number(&info[16..18]));
     let passes = match operation {
         Operation::Erase => true,
-        Operation::Flash(image) => image.len() as u64 <= capacity && (compat == 0xFFFF_FFFF || key(image) == Some(compat)),
+        Operation::Flash(image) => {
+            image.len() as u64 <= capacity && (compat == 0xFFFF_FFFF || key(image) == Some(compat))
+        }
         _ => false,
     };
     passes && capacity > 0 && max_payload >= 4 && spans_too_far(capacity, erase_size)
@@ -147,7 +150,13 @@ pub fn due(operation: &Operation, rust: &Trace, ours: &Trace) -> Option<(usize, 
     let by_record = ours.steps().enumerate().find_map(|(k, (request, handed))| {
         let record = &handed.record;
         // How many times in a row the same Write was refused.
-        times = if request[1] != 2 || !refused(record) { 0 } else if request == before { times + 1 } else { 1 };
+        times = if request[1] != 2 || !refused(record) {
+            0
+        } else if request == before {
+            times + 1
+        } else {
+            1
+        };
         before = request;
         let number = match request[1] {
             0 => too_far(operation, record).then_some(19),

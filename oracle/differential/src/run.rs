@@ -190,7 +190,14 @@ pub struct Rust {
 
 impl Rust {
     pub fn new() -> Rust {
-        let port = Port { wire: Wire::Scripted(vec![]), fails_at: None, requests: vec![], heard: vec![], read: 0, handed: vec![] };
+        let port = Port {
+            wire: Wire::Scripted(vec![]),
+            fails_at: None,
+            requests: vec![],
+            heard: vec![],
+            read: 0,
+            handed: vec![],
+        };
         let bus = Bus(Rc::new(RefCell::new(port)));
         Rust { client: reference::Client::new(bus.clone(), Duration::ZERO), bus }
     }
@@ -345,7 +352,14 @@ impl Ours {
         Ok((self.buffer[..len].to_vec(), awaited))
     }
 
-    pub fn run(&mut self, operation: &Operation, mut wire: Wire, fails_at: Option<usize>, kept: &[u8], strays: bool) -> Trace {
+    pub fn run(
+        &mut self,
+        operation: &Operation,
+        mut wire: Wire,
+        fails_at: Option<usize>,
+        kept: &[u8],
+        strays: bool,
+    ) -> Trace {
         let image: &[u8] = if let Operation::Flash(image) = operation { image } else { &[] };
         let before = self.state();
         let (mut requests, mut handed, mut rest) = (Vec::new(), Vec::new(), kept.to_vec());

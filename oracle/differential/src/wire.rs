@@ -102,7 +102,9 @@ fn asked(request: &[u8]) -> (usize, &[u8]) {
 
 fn begins((count, bits): (usize, &[u8]), id: &[u8]) -> bool {
     let (whole, spare) = (count / 8, count % 8);
-    count <= 8 * id.len() && bits[..whole] == id[..whole] && (spare == 0 || (bits[whole] ^ id[whole]) << (8 - spare) == 0)
+    count <= 8 * id.len()
+        && bits[..whole] == id[..whole]
+        && (spare == 0 || (bits[whole] ^ id[whole]) << (8 - spare) == 0)
 }
 
 #[derive(Clone)]
@@ -139,7 +141,16 @@ pub struct Pod {
 
 impl Pod {
     pub fn new(info: Vec<u8>, seed: u64) -> Pod {
-        Pod { info, faults: Random::new(seed), from: (0, 0), every: 0, refuses: 0, seen: 0, flash: Vec::new(), check: None }
+        Pod {
+            info,
+            faults: Random::new(seed),
+            from: (0, 0),
+            every: 0,
+            refuses: 0,
+            seen: 0,
+            flash: Vec::new(),
+            check: None,
+        }
     }
 
     /// Whether faults have begun at this request.

@@ -58,7 +58,10 @@ fn the_65th_id() {
 
 #[test]
 fn a_select_of_129_bits() {
-    assert_eq!(Rust::new().run(&Operation::Select(vec![0; 17], 129), Wire::Scripted(vec![]), None, &[]).end, End::Heard(0, vec![]));
+    assert_eq!(
+        Rust::new().run(&Operation::Select(vec![0; 17], 129), Wire::Scripted(vec![]), None, &[]).end,
+        End::Heard(0, vec![])
+    );
     assert_eq!(Client::new().start_select(&[0; 17], 129), Err(Refusal::BadPrefix));
 }
 

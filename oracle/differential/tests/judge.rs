@@ -71,11 +71,8 @@ fn a_refusal_is_excused_only_where_it_may_occur() {
 #[test]
 fn a_refusal_leaves_the_attached_id_and_the_seed_of_its_select() {
     let operation = Operation::Select(vec![], 0);
-    let changes: [fn(&mut Trace); 3] = [
-        |t| t.after.attached = Some(vec![0; 16]),
-        |t| t.after.seed += 1,
-        |t| t.after.seed -= 1,
-    ];
+    let changes: [fn(&mut Trace); 3] =
+        [|t| t.after.attached = Some(vec![0; 16]), |t| t.after.seed += 1, |t| t.after.seed -= 1];
     for change in changes {
         let (rust, mut ours) = both(&operation, Wire::Scripted(vec![reply(5, 1, &[0; 17])]), None);
         assert_eq!(same(&operation, &rust, &ours, &[14]), Ok(()));

@@ -158,7 +158,13 @@ fn a_capacity_over_the_edge_and_not_at_it() {
             due(flash(), sound(info), Some(fails_at), 19);
         }
     }
-    for info in [of(0xFFFF_FFFF, 1), of(0xFFFF_FFFF, 0xFFFF), of(0xFFFF_FFFE, 2), of(0xFFFF_0001, 0xFFFF), of(0xFFFF_FFF7, 0xFFFD)] {
+    for info in [
+        of(0xFFFF_FFFF, 1),
+        of(0xFFFF_FFFF, 0xFFFF),
+        of(0xFFFF_FFFE, 2),
+        of(0xFFFF_0001, 0xFFFF),
+        of(0xFFFF_FFF7, 0xFFFD),
+    ] {
         not_due(Operation::Erase, sound(info), Some(1), 19, |_| 0);
         not_due(flash(), sound(info), Some(2), 19, |_| 0);
     }

@@ -4,8 +4,8 @@ use borrow.Author.Needs.{needs}
 use Rattle.host_turn_bytes.proofs.load_flat.Statement.{statement}
 use Rattle.host_turn_bytes.proofs.load_flat.Tie as tie
 
-add-load-info : tie.Need-add-load-info
-add-load-info c = search needs
+add-load : tie.Need-add-load
+add-load c = search needs
 
 load-requires : tie.Need-load-requires
 load-requires c κs = search needs
@@ -92,7 +92,7 @@ pub load-flat-spec : {M : Type 1} → statement M
 load-flat-spec =
     tie.close
     (tie.spec
-    add-load-info
+    add-load
     load-requires
     add-load-reset
     load-reset-requires

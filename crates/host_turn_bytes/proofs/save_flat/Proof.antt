@@ -13,8 +13,8 @@ add-put64 c = search needs
 put64-requires : tie.Need-put64-requires
 put64-requires c κs = search needs
 
-add-save-info : tie.Need-add-save-info
-add-save-info c = search needs
+add-save : tie.Need-add-save
+add-save c = search needs
 
 save-requires : tie.Need-save-requires
 save-requires c κs = search needs
@@ -38,7 +38,7 @@ save-flat-spec =
     save-tags-requires
     add-put64
     put64-requires
-    add-save-info
+    add-save
     save-requires
     add-save-work
     save-work-requires

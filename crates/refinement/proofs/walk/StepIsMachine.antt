@@ -24,7 +24,7 @@ use Rattle.ids.proofs.Pack.{pack-one}
 use Rattle.ids.specs.Paths.{cut}
 use Rattle.hearing.specs.declared.Heard.the-variants.{One, TooLong}
 use Rattle.hearing.specs.declared.Hearing.{Hearing}
-use Rattle.hearing.specs.Heard.{heardAs, oneHeard, shownHeard}
+use Rattle.hearing.specs.Heard.{isLong, heardAs, oneHeard, shownHeard}
 use Rattle.walk_table.specs.declared.Table.{Table}
 use Rattle.walk_table.specs.Rows.{keep}
 use Rattle.walk.specs.declared.Walk.{Walk}
@@ -263,12 +263,12 @@ module _ (pre : Prefix) (marks : Marks) (ids : List Paper.Id) (d : length (path 
       ending : Table → Next
       ending t = record { goes = Done; walk = Moves.finding Moves.noWalk t }
 
-pub long-is : (h : Paper.Heard) → Code.long (shownHeard h .heard) ≡ long h
-unfolding Code.long long oneHeard
+pub long-is : (h : Paper.Heard) → isLong (shownHeard h .heard) ≡ long h
+unfolding isLong long oneHeard
 long-is nothing = refl
 long-is (one x) = go (ltb 16 (length x))
   where
-    go : (b : Bool) → Code.long (cond b (heardAs TooLong) (record { heard = One; id = idFrom x }) .heard) ≡ b
+    go : (b : Bool) → isLong (cond b (heardAs TooLong) (record { heard = One; id = idFrom x }) .heard) ≡ b
     go true = refl
     go false = refl
 long-is unaddressed = refl

@@ -128,10 +128,11 @@ fn clients(folder: &Path, all: Vec<Operations>) {
 /// the Rust accepts one, and document 01 does not.
 fn texts(folder: &Path) {
     let mut lines = String::new();
-    for text in ["", "0", "00", "0f", "F0", "aA", "/0", "0:", "@0", "0G", "`0", "0g", "zz", "abc", "0001ff", "00zz", "zz00"]
-        .map(String::from)
-        .into_iter()
-        .chain([15, 16, 17].map(|n| "5a".repeat(n)))
+    for text in
+        ["", "0", "00", "0f", "F0", "aA", "/0", "0:", "@0", "0G", "`0", "0g", "zz", "abc", "0001ff", "00zz", "zz00"]
+            .map(String::from)
+            .into_iter()
+            .chain([15, 16, 17].map(|n| "5a".repeat(n)))
     {
         let read = reference::parse_uid(&text).map_or("-".into(), |id| format!("+{}", hex(&id)));
         writeln!(lines, "read {} {read}", hex(text.as_bytes())).unwrap();
@@ -205,7 +206,9 @@ fn further(runs: &mut Vec<(Operation, Wire)>, info: Info) {
         runs.push((Operation::Discover(prefix), Wire::Honest(ids)));
     }
     let of_size = |erase_size| Info { erase_size, ..info }.bytes();
-    for payload in [info.bytes()[..17].to_vec(), [info.bytes(), vec![9]].concat(), of_size(0), of_size(1), (1..19).collect()] {
+    for payload in
+        [info.bytes()[..17].to_vec(), [info.bytes(), vec![9]].concat(), of_size(0), of_size(1), (1..19).collect()]
+    {
         runs.push((Operation::Info, Wire::Pod(Pod::new(payload, 1))));
     }
     for (n, max_payload) in [(2, 1025), (1030, 65535), (1024, 1024), (1021, 1023)] {
@@ -221,7 +224,10 @@ fn further(runs: &mut Vec<(Operation, Wire)>, info: Info) {
     // At one point in this image the check's register is 8000.
     runs.push((Operation::Flash(vec![0xFF, 0x7F]), Wire::Pod(Pod::new(info.bytes(), 1))));
     let small = Info { capacity: 4, erase_size: 4, ..info };
-    runs.push((Operation::Flash(vec![1]), Wire::Scripted(vec![reply(0, 1, &small.bytes()), reply(1, 1, &[]), reply(2, 7, &[])])));
+    runs.push((
+        Operation::Flash(vec![1]),
+        Wire::Scripted(vec![reply(0, 1, &small.bytes()), reply(1, 1, &[]), reply(2, 7, &[])]),
+    ));
     for info in [small, Info { capacity: 0xFFFF_FFFF, erase_size: 0xFFFF, ..info }] {
         runs.push((Operation::Erase, Wire::Scripted(vec![reply(0, 1, &info.bytes()), reply(1, 3, &[])])));
     }
@@ -263,7 +269,11 @@ fn several(info: Info) -> Vec<Operations> {
             (Operation::Flash(image.clone()), pod(Info { compat: 0x0403_0201, ..info }), None),
             (Operation::Flash(image.clone()), pod(Info { compat: 0x0403_0202, ..info }), None),
             (Operation::Flash(vec![1; 5]), pod(Info { compat: 0x0403_0202, ..info }), None),
-            (Operation::Flash(image.clone()), Wire::Pod(Pod { check: Some(vec![1, 2, 3]), ..Pod::new(info.bytes(), 1) }), None),
+            (
+                Operation::Flash(image.clone()),
+                Wire::Pod(Pod { check: Some(vec![1, 2, 3]), ..Pod::new(info.bytes(), 1) }),
+                None,
+            ),
             (Operation::Flash(image.clone()), Wire::Pod(Pod { refuses: 16, ..Pod::new(info.bytes(), 1) }), None),
             (Operation::Info, pod(Info { max_payload: 3, ..info }), None),
             (Operation::Info, said(&[[good[..].to_vec(), damaged(good.clone())].concat()]), None),
@@ -288,7 +298,15 @@ fn main() {
         (Operation::SetBaud(0, true, true), Wire::Scripted(vec![damaged(reply(4, 0, &[]))])),
         (Operation::SetBaud(255, false, true), Wire::Scripted(vec![reply(4, 1, &[])])),
     ];
-    for heard in [vec![], reply(5, 1, &[1]), reply(5, 1, &[]), reply(5, 2, &[]), reply(5, 7, &[]), vec![0], damaged(reply(5, 1, &[1]))] {
+    for heard in [
+        vec![],
+        reply(5, 1, &[1]),
+        reply(5, 1, &[]),
+        reply(5, 2, &[]),
+        reply(5, 7, &[]),
+        vec![0],
+        damaged(reply(5, 1, &[1])),
+    ] {
         for operation in [
             Operation::Select(vec![0b1010_0101, 3], 11),
             Operation::Attach(None),
@@ -356,5 +374,8 @@ fn main() {
     }
     fs::write(folder.join("runs.in"), input).unwrap();
     fs::write(folder.join("runs.out"), output).unwrap();
-    println!("{stored} runs of the Rust stored; skipped {left_out}: a Verify answered with under two bytes, which the port refuses with 18");
+    println!(
+        "{stored} runs of the Rust stored; skipped {left_out}: a Verify answered with under two bytes, \
+         which the port refuses with 18"
+    );
 }

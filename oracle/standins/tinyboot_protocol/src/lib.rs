@@ -1,4 +1,5 @@
-//! Stands in for `tinyboot_protocol`: document 01's bench frame, its check, and the numbers of commands, statuses and flags.
+//! Stands in for `tinyboot_protocol`: document 01's bench frame, its check, and the numbers of commands, statuses
+//! and flags.
 #![allow(non_upper_case_globals)]
 
 /// An unset compatibility key.
@@ -63,13 +64,7 @@ pub mod crc {
 
     pub fn crc16(start: u16, bytes: &[u8]) -> u16 {
         bytes.iter().fold(start, |c, &b| {
-            (0..8).fold(c ^ ((b as u16) << 8), |c, _| {
-                if c & 0x8000 != 0 {
-                    (c << 1) ^ 0x1021
-                } else {
-                    c << 1
-                }
-            })
+            (0..8).fold(c ^ ((b as u16) << 8), |c, _| if c & 0x8000 != 0 { (c << 1) ^ 0x1021 } else { c << 1 })
         })
     }
 }
@@ -206,11 +201,7 @@ pub mod frame {
             let check = crc16(crc16(CRC_INIT, &head), payload);
             let mut last = [0u8; 2];
             fill(r, &mut last)?;
-            if u16::from_le_bytes(last) == check {
-                Ok(Status::Ok)
-            } else {
-                Ok(Status::CrcMismatch)
-            }
+            if u16::from_le_bytes(last) == check { Ok(Status::Ok) } else { Ok(Status::CrcMismatch) }
         }
     }
 
