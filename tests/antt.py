@@ -1,19 +1,54 @@
 """A reader and an evaluator of the antt that crates/paper/specs is written in.
 
-Each definition becomes a Python function, by need: an argument is evaluated when a clause looks at it, and once. Types are skipped, but a
-proposition has its truth value. Each clause is a branch, and so is each arm of a `cond`, of a call of CASES, and of `&&` and `||`; `taken`
-is the set of those taken so far. Text that is not understood is an error with its file and line.
+python3 tests/antt.py            evaluates the proved table of document 01's examples, in crates/acceptance/proofs: the
+                                 two sides of each equation must be equal. Then faults are put into the reader, one at
+                                 a time, and each must make some row fail
+python3 tests/antt.py --faults   the same, and says at which row each of these faults shows
 
-A number is an int, true and false are bools, a record is a dict by its fields, and a constructor is a tuple of its name and its arguments.
+Each definition becomes a Python function, by need: an argument is evaluated when a clause looks at it, and once. Types
+are skipped, but a proposition has its truth value. Each clause is a branch, and so is each arm of a `cond`, of a call
+of CASES, and of `&&` and `||`; `taken` is the set of those taken so far. Text that is not understood is an error with
+its file and line.
+
+A number is an int, true and false are bools, a record is a dict by its fields, and a constructor is a tuple of its name
+and its arguments.
 """
 import pathlib
 import re
+import sys
+import threading
 from collections import namedtuple
 from types import SimpleNamespace
 
+import project
+from project import Faults, root
 
-class NotUnderstood(Exception):
-    pass
+
+class NotUnderstood(Faults):
+    """Text that this reader cannot read: where, and what was expected."""
+
+
+def deep(function, *arguments):
+    """Calls a function on a stack of its own: the definitions recur as deep as their lists are long."""
+    result = []
+
+    def call():
+        try:
+            result.append((function(*arguments), None))
+        except BaseException as raised:
+            result.append((None, raised))
+
+    limit, size = sys.getrecursionlimit(), threading.stack_size(512 << 20)
+    sys.setrecursionlimit(10 ** 7)
+    thread = threading.Thread(target=call)
+    thread.start()
+    thread.join()
+    sys.setrecursionlimit(limit)
+    threading.stack_size(size)
+    value, raised = result[0]
+    if raised:
+        raise raised
+    return value
 
 
 class Thunk:
@@ -84,36 +119,58 @@ def get(xs, n, default):
     return force(xs[1] if xs[0] == "∷" else default)
 
 
-# What the paper takes from the kit, by its modules: the meaning of each name as a Python expression, where $0 is the first argument
-# evaluated and ~0 as it is; or a constructor and the number of its arguments; or None for a type. The native numbers: `-` stops at 0,
-# n / 0 is 0, n % 0 is n.
+def mapped(f, xs):
+    return listed([Thunk(lambda x=x: apply(f, x)) for x in items(xs)])
+
+
+compared = []  # the two sides of each equation so far, as whole values
+
+
+def equal(a, b):
+    compared.append((plain(a), plain(b)))
+    return compared[-1][0] == compared[-1][1]
+
+
+# What the paper takes from the kit, by its modules: the meaning of each name as a Python expression, where $0 is the
+# first argument evaluated and ~0 as it is; or a constructor and the number of its arguments; or None for a type. The
+# native numbers: `-` stops at 0, n / 0 is 0, n % 0 is n.
 KIT = {
     "Prim.Native.Nat": {
-        "ℕ": None, "zero": "0", "suc": "($0 + 1)", "_+_": "($0 + $1)", "_-_": "max($0 - $1, 0)", "_*_": "($0 * $1)", "_/_": "over($0, $1)",
-        "_%_": "left($0, $1)", "_^_": "($0 ** $1)", "_≤_": "($0 <= $1)", "_<_": "($0 < $1)"},
+        "ℕ": None, "zero": "0", "suc": "($0 + 1)", "_+_": "($0 + $1)", "_-_": "max($0 - $1, 0)", "_*_": "($0 * $1)",
+        "_/_": "over($0, $1)", "_%_": "left($0, $1)", "_^_": "($0 ** $1)", "_≤_": "($0 <= $1)", "_<_": "($0 < $1)"},
     "mathlib.Core.Bool": {
-        "Bool": None, "true": "True", "false": "False", "not": "(not $0)", "_&&_": "&&", "_||_": "||", "cond": "cond", "Bool·beq": "($0 == $1)"},
-    "mathlib.Core.List": {"List": None, "[]": ("[]", 0), "_∷_": ("∷", 2), "_++_": "force(listed(items($0), ~1))"},
+        "Bool": None, "true": "True", "false": "False", "not": "(not $0)", "_&&_": "&&", "_||_": "||", "cond": "cond",
+        "Bool·beq": "($0 == $1)"},
+    "mathlib.Core.List": {
+        "List": None, "[]": ("[]", 0), "_∷_": ("∷", 2), "_++_": "force(listed(items($0), ~1))",
+        "map": "mapped($0, $1)"},
     "mathlib.Core.Option": {"Option": None, "none": ("none", 0), "some": ("some", 1)},
-    "mathlib.Core.Path": {"_≡_": "(plain($0) == plain($1))"},
+    "mathlib.Core.Path": {"_≡_": "equal($0, $1)", "refl": None},
     "lib.Bits": {"bitXor": "($0 ^ $1)"},
     "lib.Dec": {"leb": "($0 <= $1)", "ltb": "($0 < $1)", "eqb": "($0 == $1)"},
-    "lib.ListN": {"length": "len(items($0))", "getD": "get($0, $1, ~2)", "take": "listed(items($1, $0))", "drop": "drop($0, $1)",
-                  "replicate": "listed([~1] * $0)"},
+    "lib.ListN": {"length": "len(items($0))", "getD": "get($0, $1, ~2)", "take": "listed(items($1, $0))",
+                  "drop": "drop($0, $1)", "replicate": "listed([~1] * $0)"},
 }
 BUILT_IN = {",": (",", 2), "tt": ("tt", 0), "Unit": "True", "¬": "(not $0)", "_×_": "($0 and $1)"}
-FIXITY = {"_+_": ("l", 65), "_-_": ("l", 65), "_*_": ("l", 70), "_/_": ("l", 70), "_%_": ("l", 70), "_^_": ("r", 75), "_≤_": ("n", 50),
-          "_<_": ("n", 50), "_&&_": ("l", 35), "_||_": ("l", 30), "_∷_": ("r", 67), "_++_": ("l", 65), "_≡_": ("n", 50), "_×_": ("r", 2)}
-WORLD = {"Thunk": Thunk, "Fun": Fun, "force": force, "apply": apply, "plain": plain, "items": items, "listed": listed, "drop": drop, "get": get,
-         "over": lambda a, b: a // b if b else 0, "left": lambda a, b: a % b if b else a}
+FIXITY = {
+    "_+_": ("l", 65), "_-_": ("l", 65), "_*_": ("l", 70), "_/_": ("l", 70), "_%_": ("l", 70), "_^_": ("r", 75),
+    "_≤_": ("n", 50), "_<_": ("n", 50), "_&&_": ("l", 35), "_||_": ("l", 30), "_∷_": ("r", 67), "_++_": ("l", 65),
+    "_≡_": ("n", 50), "_×_": ("r", 2)}
+WORLD = {
+    "Thunk": Thunk, "Fun": Fun, "force": force, "apply": apply, "plain": plain, "items": items, "listed": listed,
+    "drop": drop, "get": get, "mapped": mapped, "equal": equal, "over": lambda a, b: a // b if b else 0,
+    "left": lambda a, b: a % b if b else a}
 
-# Definitions of the paper that only choose between their arguments: the places of these, and what each is taken at; and those that go on by
-# their first argument, a test.
-CASES = {"Hearing.onSome": {1: "none", 2: "some"}, "Answers.unlessEcho": {1: "an echo", 2: "no echo"},
-         "Frame.onReading": {1: "short", 2: "too long", 3: "bad check", 4: "whole"}, "Client.onLeft": {1: "idle", 2: "ready", 3: "waiting"}}
+# Definitions of the paper that only choose between their arguments: the places of these, and what each is taken at; and
+# those that go on by their first argument, a test.
+CASES = {
+    "Hearing.onSome": {1: "none", 2: "some"}, "Answers.unlessEcho": {1: "an echo", 2: "no echo"},
+    "Frame.onReading": {1: "short", 2: "too long", 3: "bad check", 4: "whole"},
+    "Client.onLeft": {1: "idle", 2: "ready", 3: "waiting"}}
 TESTS = {"Flash.refuseIf"}
 
-# kind: number, name, app (a: what, b: to what), field (a: of what, b: its name), lambda (a: binders, b: body), record (a: fields).
+# kind: number, name, app (a: what, b: to what), field (a: of what, b: its name), lambda (a: binders, b: body), record
+# (a: fields).
 Expr = namedtuple("Expr", "kind a b line text", defaults=(None, 0, ""))
 Branch = namedtuple("Branch", "definition text line")
 
@@ -129,7 +186,8 @@ class Reader:
         self.file, self.tokens, self.at, self.blocks = file, tokens, 0, []
 
     def wrong(self, what):
-        raise NotUnderstood(f"{self.file.path}:{self.tokens[min(self.at, len(self.tokens) - 1)].line}: {what}")
+        line = self.tokens[min(self.at, len(self.tokens) - 1)].line
+        raise NotUnderstood(f"{project.name_of(self.file.path)}:{line}: {what}")
 
     def peek(self):
         """The next token's text; none at the end of a block's statement."""
@@ -238,17 +296,20 @@ class Reader:
 
 
 class File:
-    """One file: what its names mean, and the clauses of its definitions."""
+    """One file: what its names mean, and the clauses of its definitions. `module` is its place in the paper, as
+    ("walk", "Count") for specs/walk/Count.antt; a file that is no part of the paper has none."""
 
-    def __init__(self, paper, path):
-        self.paper, self.path, self.name, self.source = paper, path, path.stem, path.read_text()
+    def __init__(self, paper, path, module=None):
+        self.paper, self.path, self.module, self.name, self.source = paper, path, module, path.stem, path.read_text()
         self.scope, self.fixity, self.types, self.clauses = dict(BUILT_IN), {"_×_": FIXITY["_×_"]}, {}, {}
+        self.tables, self.proved = {}, set()
         tokens, start = [], 0
         for number, text in enumerate(self.source.split("\n"), 1):
             first = True
             for m in re.finditer(r"--.*|[(){},;]|[^\s(){},;]+", text):
                 if not m[0].startswith("--"):
-                    tokens.append(SimpleNamespace(text=m[0], start=start + m.start(), end=start + m.end(), line=number, column=m.start(), first=first))
+                    tokens.append(SimpleNamespace(text=m[0], start=start + m.start(), end=start + m.end(), line=number,
+                                                  column=m.start(), first=first))
                     first = False
             start += len(text) + 1
         starts = [i for i, t in enumerate(tokens) if t.first and t.column == 0 and t.text != "}"] + [len(tokens)]
@@ -263,7 +324,9 @@ class File:
         while words[0] in ("unfoldable", "abbrev", "pub"):
             words = words[1:]
         if words[0] == "mod":
-            self.paper.names.append(words[1])
+            self.paper.modules.append((*self.module, words[1]))
+        elif words[0] == "unfolding":
+            return
         elif words[0] == "use":
             self.use(read, text)
         elif words[0] in ("infixl", "infixr"):
@@ -282,6 +345,9 @@ class File:
             if self.types[name] == "Type 0":
                 self.scope[name] = None
                 return
+            if self.types[name] in self.tables:
+                self.proved.add(self.types[name])  # the proof of a table of propositions is not evaluated
+                return
             self.clauses.setdefault(name, []).append((left, [self.pattern(p) for p in patterns], read.expr()))
             if read.at != len(tokens):
                 read.wrong("an end expected")
@@ -292,9 +358,12 @@ class File:
             read.wrong("a use expected")
         module, names, alias = m.groups()
         known, fixity = KIT.get(module), FIXITY
-        if module.startswith("Rattle.paper.specs."):
-            other = self.paper.file(module.rsplit(".", 1)[1])
+        part = re.fullmatch(r"Rattle.paper(?:·specs)?\.specs\.(.*)", module)
+        if part:
+            other = self.paper.file(tuple(part[1].split(".")))
             known, fixity = other.scope, other.fixity
+        elif re.match(r"Rattle·\w+(?:·proofs)?\.proofs\.", module):
+            return  # theorems, which no value is made of
         if known is None:
             read.wrong(f"no module {module} is known")
         for name in names.split(", ") if names else []:
@@ -326,8 +395,18 @@ class File:
             left = Expr("name", name, None, tokens[0].line, " ".join([name, *parameters]))
             self.scope[name] = ("def", f"{self.name}.{name}")
             self.clauses[name] = [(left, [("var", p) for p in parameters], whole[0])]
+        elif any(self.is_proposition(m[2:]) for m in members):
+            # A table of propositions: each is a definition of its own.
+            self.tables[name] = [m[0].text for m in members]
+            for m in members:
+                left = Expr("name", m[0].text, None, m[0].line, f"{name}.{m[0].text}")
+                self.clauses[left.text] = [(left, [], Reader(self, m[2:]).expr())]
         else:
             self.paper.records.add(frozenset(m[0].text for m in members))
+
+    def is_proposition(self, tokens):
+        """Whether a type is an equation, or names a definition whose values are propositions."""
+        return any(t.text == "≡" or self.types.get(t.text, "").endswith("→ Type 0") for t in tokens)
 
     def pattern(self, e):
         """A variable, what a value is, suc of a pattern, or a constructor with patterns."""
@@ -340,33 +419,45 @@ class File:
         if is_constructor(meaning) and meaning[1] == len(args):
             return ("con", meaning[0], [self.pattern(p) for p in args])
         if e.kind != "name" or is_constructor(meaning):
-            raise NotUnderstood(f"{self.path}:{e.line}: a pattern expected: {e.text}")
+            raise NotUnderstood(f"{project.name_of(self.path)}:{e.line}: a pattern expected: {e.text}")
         return ("var", name)
 
 
 class Paper:
-    """All files of a folder, in the order of its Lib.antt: `self["Client.request"]` is a definition as a Python function."""
+    """All files of a folder, in the order of its Lib.antt, and if given one beside it that is stated over them:
+    `self["Client.request"]` is a definition as a Python function, by the names of its file and its own."""
 
-    def __init__(self, folder):
-        self.folder, self.files, self.names, self.records = pathlib.Path(folder), {}, [], set()
+    def __init__(self, folder, beside=None):
+        self.folder, self.files, self.modules, self.records = pathlib.Path(folder), {}, [], set()
         self.branches, self.taken, self.fresh, self.python, self.arity, lines = [], set(), 0, {}, {}, []
-        File(self, self.folder / "Lib.antt")
-        for file in map(self.file, self.names):
+        File(self, self.folder / "Lib.antt", ())
+        files = [self.file(module) for module in self.modules]  # a file's own `mod` lines add to the list
+        if len({file.name for file in files}) < len(files):
+            raise NotUnderstood(f"{project.name_of(self.folder)}: two files of one name")
+        self.beside = File(self, beside) if beside else None
+        files += [self.beside] if beside else []
+        for file in files:
             for name, type_ in file.types.items():
-                if type_ != "Type 0" and name not in file.clauses:
-                    raise NotUnderstood(f"{file.path}: {name} has no clause")
+                if type_ != "Type 0" and name not in file.clauses and type_ not in file.proved:
+                    raise NotUnderstood(f"{project.name_of(file.path)}: {name} has no clause")
             for name, clauses in file.clauses.items():
-                self.python[f"{file.name}.{name}"], self.arity[f"{file.name}.{name}"] = f"d{len(self.python)}", len(clauses[0][1])
-        for file in map(self.file, self.names):
+                key = f"{file.name}.{name}"
+                self.python[key], self.arity[key] = f"d{len(self.python)}", len(clauses[0][1])
+        for file in files:
             for name in file.clauses:
                 lines += self.definition(file, name)
         self.world = dict(WORLD, took=self.taken.add)
         exec(compile("\n".join(lines), "paper", "exec"), self.world)
 
-    def file(self, name):
-        if name not in self.files:
-            self.files[name] = File(self, self.folder / f"{name}.antt")
-        return self.files[name]
+    def file(self, module):
+        if module not in self.files:
+            path = self.folder.joinpath(*module[:-1], f"{module[-1]}.antt")
+            self.files[module] = File(self, path, module)
+        return self.files[module]
+
+    def path_of(self, name):
+        """The path of the file of this name."""
+        return next(project.name_of(file.path) for file in self.files.values() if file.name == name)
 
     def __getitem__(self, key):
         return self.world[self.python[key]]
@@ -381,7 +472,7 @@ class Paper:
         return f"took({len(self.branches) - 1}) or "
 
     def wrong(self, e, what):
-        raise NotUnderstood(f"{self.here.path}:{e.line}: {what}: {e.text or e.a}")
+        raise NotUnderstood(f"{project.name_of(self.here.path)}:{e.line}: {what}: {e.text or e.a}")
 
     def definition(self, file, name):
         self.current, self.here = f"{file.name}.{name}", file
@@ -403,8 +494,10 @@ class Paper:
             scope[what] = at
             return depth
         lines.append("  " * depth + f"if {at}.__class__ is Thunk: {at} = {at}.get()")
-        lines.append("  " * depth + {"is": f"if {at} == {what}:", "suc": f"if {at} > 0:", "con": f"if {at}[0] == {what!r}:"}[kind])
-        parts = {"is": [], "suc": [(f"{at} - 1", what)], "con": [(f"{at}[{i}]", p) for i, p in enumerate(pattern[-1], 1)]}[kind]
+        tests = {"is": f"if {at} == {what}:", "suc": f"if {at} > 0:", "con": f"if {at}[0] == {what!r}:"}
+        lines.append("  " * depth + tests[kind])
+        inside = [(f"{at}[{i}]", p) for i, p in enumerate(pattern[-1], 1)] if kind == "con" else []
+        parts = [(f"{at} - 1", what)] if kind == "suc" else inside
         depth += 1
         for value, part in parts:
             inner = self.variable()
@@ -471,8 +564,10 @@ class Paper:
         given = []
         for i, x in enumerate(args[:n]):
             if i in arms:
-                took = self.mark(f"{head.a} {args[0].text if args[0].kind == 'name' else f'({args[0].text})'}: {arms[i]}", x)
-                given.append(self.function(x, scope, took) if x.kind == "lambda" else f"Thunk(lambda: {took}{self.value(x, scope)})")
+                by = args[0].text if args[0].kind == "name" else f"({args[0].text})"
+                took = self.mark(f"{head.a} {by}: {arms[i]}", x)
+                waits = f"Thunk(lambda: {took}{self.value(x, scope)})" if x.kind != "lambda" else None
+                given.append(waits or self.function(x, scope, took))
             elif i == 0 and key in TESTS:
                 given.append(f"Thunk(lambda: {self.truth(x, scope, f'{x.text}: holds', f'{x.text}: fails')})")
             else:
@@ -502,11 +597,132 @@ class Paper:
             no = self.mark(f"{args[0].text}: fails", e) + self.value(args[2], scope)
             return f"(({yes}) if {test} else ({no}))"
         if meaning in ("&&", "||") and len(args) == 2:
-            ways = {"&&": ("the first fails", "both hold", "only the second fails"), "||": ("the first holds", "only the second holds", "both fail")}
+            ways = {"&&": ("the first fails", "both hold", "only the second fails"),
+                    "||": ("the first holds", "only the second holds", "both fail")}
             short, yes, no = (f"{e.text}: {way}" for way in ways[meaning])
             stop = f"({self.mark(short, e)}{meaning == '||'})"
             right, left = self.truth(args[1], scope, yes, no), self.value(args[0], scope)
             return f"({right} if {left} else {stop})" if meaning == "&&" else f"({stop} if {left} else {right})"
         if len(args) != len(set(re.findall(r"[$~]\d", meaning))):
             self.wrong(e, "a name of the kit with other arguments")
-        return re.sub(r"([$~])(\d)", lambda m: (self.value if m[1] == "$" else self.argument)(args[int(m[2])], scope), meaning)
+        made = {"$": self.value, "~": self.argument}
+        return re.sub(r"([$~])(\d)", lambda m: made[m[1]](args[int(m[2])], scope), meaning)
+
+
+def shorten(paper):
+    """`sumUnder` goes through 2^d prefixes. Where d is over 9 it stops where `forked` is 0: no prefix that extends one
+    which at most one id matches is matched by more."""
+    whole, forked = paper["Count.sumUnder"], paper["Count.forked"]
+
+    def short(d, q, f):
+        d, f = force(d), force(f)
+        return 0 if d > 9 and f.call is forked and apply(f, q) == 0 else whole(d, q, f)
+    paper.world[paper.python["Count.sumUnder"]] = short
+
+
+# The reader on the proved table.
+
+specs, examples = root / "crates/paper/specs", root / "crates/acceptance/proofs/Examples.antt"
+
+# Faults of the reader: where, which name, and what it would be instead. The table does not try `bitXor`, since both
+# sides of a row have the same check: tests/definitions.py does. Neither tries a `-` that goes below 0: where they have
+# one, as in the count of a `replicate`, it makes no difference.
+NAT, BOOL, LIST, LISTS = (KIT[name] for name in (
+    "Prim.Native.Nat", "mathlib.Core.Bool", "mathlib.Core.List", "lib.ListN"))
+FAULTS = {
+    "`+` subtracts": (NAT, "_+_", "max($0 - $1, 0)"),
+    "`-` takes the first from the second": (NAT, "_-_", "max($1 - $0, 0)"),
+    "`*` adds": (NAT, "_*_", "($0 + $1)"),
+    "`/` rounds up": (NAT, "_/_", "-(-$0 // $1)"),
+    "`%` divides": (NAT, "_%_", "over($0, $1)"),
+    "`^` multiplies": (NAT, "_^_", "($0 * $1)"),
+    "`suc` does nothing": (NAT, "suc", "$0"),
+    "`not` does nothing": (BOOL, "not", "$0"),
+    "`&&` is `||`": (BOOL, "_&&_", "||"),
+    "`||` is `&&`": (BOOL, "_||_", "&&"),
+    "`cond` takes the other arm": (BOOL, "cond", "($2 if $0 else $1)"),
+    "`Bool·beq` is false": (BOOL, "Bool·beq", "($0 != $0 and $1)"),
+    "`++` in the other order": (LIST, "_++_", "force(listed(items($1), ~0))"),
+    "`map` drops the last": (LIST, "map", "listed(items(mapped($0, $1))[:-1])"),
+    "`leb` is strict": (KIT["lib.Dec"], "leb", "($0 < $1)"),
+    "`ltb` is not strict": (KIT["lib.Dec"], "ltb", "($0 <= $1)"),
+    "`eqb` is true": (KIT["lib.Dec"], "eqb", "($0 == $0 or $1)"),
+    "`length` is one more": (LISTS, "length", "(len(items($0)) + 1)"),
+    "`getD` gives the next": (LISTS, "getD", "get($0, $1 + 1, ~2)"),
+    "`take` takes one more": (LISTS, "take", "listed(items($1, $0 + 1))"),
+    "`drop` drops one more": (LISTS, "drop", "drop($0 + 1, $1)"),
+    "`replicate` makes one more": (LISTS, "replicate", "listed([~1] * ($0 + 1))"),
+    "`∷` groups to the left": (FIXITY, "_∷_", ("l", 67)),
+    "`*` binds weaker than `+`": (FIXITY, "_*_", ("l", 60)),
+    "an equation is not evaluated": (KIT["mathlib.Core.Path"], "_≡_", "(True or $0 or $1)"),
+    "of two propositions one is evaluated": (BUILT_IN, "_×_", "($0 or $1)"),
+    "all values are equal": (globals(), "plain", lambda v: None),
+}
+
+
+class Table:
+    """The proved table, evaluated: `rows` and `equations` count what was."""
+
+    def __init__(self):
+        self.paper = Paper(specs, examples)
+        self.file = self.paper.beside
+        self.rows = self.equations = 0
+        shorten(self.paper)
+
+    def stated(self, e):
+        """The number of equations that a proposition states, those of a definition that it names included."""
+        head, args = (e.a, e.b) if e.kind == "app" else (e, [])
+        if head.a == "_×_":
+            return sum(map(self.stated, args))
+        return 1 if head.a == "_≡_" else self.stated(self.file.clauses[head.a][0][2])
+
+    def false_rows(self):
+        """The rows that are not equations of equal values, each with the reason."""
+        values = set()
+        for table in self.file.proved:
+            for row in self.file.tables[table]:
+                key, before = f"{table}.{row}", len(compared)
+                try:
+                    holds = self.paper[f"{self.file.name}.{key}"]()
+                except (AssertionError, KeyError, TypeError, ValueError, IndexError) as e:
+                    yield f"{row}: the reader gives no value: {e!r}"
+                    continue
+                sides, stated = compared[before:], self.stated(self.file.clauses[key][0][2])
+                self.rows, self.equations = self.rows + 1, self.equations + len(sides)
+                values.update(repr(right) for _, right in sides)
+                unequal = [f"{row}: {left} on the left, {right} on the right" for left, right in sides if left != right]
+                yield from unequal
+                if not unequal and (holds is not True or len(sides) != stated):
+                    yield f"{row}: {len(sides)} of {stated} equations evaluated, and the row's value is {holds}"
+        if len(values) < 2:
+            yield "the right sides of all rows are one value"
+
+
+def shows(fault):
+    """The row at which a fault of the reader shows; None if it does not."""
+    place, name, wrong = FAULTS[fault]
+    right, place[name] = place[name], wrong
+    try:
+        return next(Table().false_rows(), None)
+    finally:
+        place[name] = right
+
+
+def test(words):
+    if words not in ([], ["--faults"]):
+        raise Faults(__doc__)
+    table, hidden = Table(), []
+    faults = list(table.false_rows())
+    for fault in FAULTS:
+        where = shows(fault)
+        if where is None:
+            hidden.append(f"put into the reader, this does not show: {fault}")
+        elif words:
+            print(f"{fault}: {where[:100]}")
+    summary = (f"{table.rows} rows of the proved table with {table.equations} equations, {len(faults)} false; "
+               f"{len(FAULTS)} faults put into the reader, {len(FAULTS) - len(hidden)} found")
+    return project.finish(faults + hidden, summary, table.equations)
+
+
+if __name__ == "__main__":
+    project.run(lambda words: deep(test, words))

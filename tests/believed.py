@@ -1,20 +1,20 @@
 """docs/BELIEVED.md: the definitions that the promises are stated with, and their lines.
 
-python3 tests/believed.py             writes it, and the totals in README.md
-python3 tests/believed.py --compare   both are up to date
-python3 tests/believed.py --why NAME  how a definition of that name is reached, from a statement on
+python3 tests/believed.py              writes it, and the counts in README.md
+python3 tests/believed.py --compare    compares both
+python3 tests/believed.py --why NAME   says how a definition of that name is reached, from a statement on
 
 A promise is a statement of crates/acceptance/proofs: the type of a public name, or a public record. A file there whose
 first line begins "What meets the premise" promises nothing. A definition is needed where a statement or a needed
 definition names it; what only a proof names is not. A bound name hides a definition of that name. Of a record or an
 enum of the code (`specs.declared`) its declaration in crates/NAME/src is needed. A name that means nothing is an error.
 """
-import pathlib
 import re
-import sys
 from collections import namedtuple
 
-root = pathlib.Path(__file__).resolve().parent.parent
+import project
+from project import Faults, root
+
 document, readme = root / "docs/BELIEVED.md", root / "README.md"
 totals = re.compile(r"[\d,]+ definitions,\s[\d,]+\slines\sof\s[\d,]+\sfiles")
 OPEN, CLOSE = ("(", "{"), (")", "}")
@@ -26,7 +26,7 @@ Kit = namedtuple("Kit", "module name")
 
 
 def wrong(path, line, what):
-    sys.exit(f"{path.relative_to(root)}:{line}: {what}")
+    raise Faults(f"{project.name_of(path)}:{line}: {what}")
 
 
 def column(text):
@@ -48,33 +48,33 @@ class Definition:
         self.lines, self.clause_lines = set(), set()
 
     def __str__(self):
-        return f"{self.file.path.relative_to(root)}: {self.name}"
+        return f"{project.name_of(self.file.path)}: {self.name}"
 
 
 class Declared:
-    """A record or an enum of the code, and those that its fields are of."""
+    """A record, an enum or a constant of the code, by its path from the crate on, and those that it names."""
 
-    def __init__(self, crate, name):
-        self.name, self.needs = name, set()
-        for self.path in sorted((root / "crates" / crate / "src").glob("*.rt")):
+    def __init__(self, path):
+        self.name, self.needs = path[-1], set()
+        crate, module = path[0], path[1:-1]
+        for self.path in project.code_files(crate):
             text = self.path.read_text()
-            m = re.search(rf"(?ms)^(?:pub )?(?:struct|enum) {name}\b.*?^\}}", text)
-            if m:
+            m = re.search(rf"(?ms)^(?:pub )?(?:(?:struct|enum) {self.name}\b.*?^\}}|const {self.name}: .*?;$)", text)
+            if m and project.place_of(self.path) == (crate, module):
                 break
         else:
-            sys.exit(f"crates/{crate} declares no {name}")
+            raise Faults(f"crates/{crate} declares no {'::'.join(path)}")
         first = text.count("\n", 0, m.start()) + 1
         self.lines = set(range(first, first + m[0].count("\n") + 1))
-        uses = {b: a for a, b in re.findall(r"(?m)^use (\w+)::(\w+);", text)}
-        for line in m[0].split("\n")[1:-1]:
-            of = re.match(r"\s*(?:(?:pub )?\w+: (.*)|\w+\((.*)\)|\w+,$|//)", line)
+        for line in m[0].split("\n")[1:-1] or [m[0].split(": ", 1)[1]]:
+            of = re.match(r"\s*(?:(?:pub )?\w+: (.*)|\w+\((.*)\)|\w+,$|//)|(.*;)$", line)
             if not of:
                 wrong(self.path, first, f"a field or a variant expected: {line}")
-            for other, kind in re.findall(r"(?:(\w+)::)?\b([A-Z]\w*)", of[1] or of[2] or ""):
-                self.needs.add((other or uses.get(kind, crate), kind))
+            for kind in re.findall(r"(?<![\w:])(?:\w+::)*[A-Z]\w*", of[1] or of[2] or of[3] or ""):
+                self.needs.add(project.resolved(kind.split("::"), crate, module, text))
 
     def __str__(self):
-        return f"{self.path.relative_to(root)}: {self.name}"
+        return f"{project.name_of(self.path)}: {self.name}"
 
 
 class File:
@@ -127,7 +127,7 @@ class File:
         if not made and (colon is None or equals is not None and equals < colon):
             return self.clause(words, equals, lines)
         name = words[made].text
-        theorem = self.path.parent.name == "proofs" and flags <= {"pub"}
+        theorem = "proofs" in self.path.relative_to(root / "crates").parts and flags <= {"pub"}
         kind = words[0].text if made else "theorem" if theorem else "function"
         d = Definition(self, name, kind, "pub" in flags, outer)
         self.known[name] = d
@@ -187,7 +187,7 @@ class File:
 
 # What a declaration names.
 
-files, declared = {}, {}
+files, declared, functions = {}, {}, set()
 
 
 def file(path):
@@ -202,22 +202,26 @@ def meaning(module, name):
     if not m:
         return Kit(module, name)
     crate, folder, rest = m.groups()
-    if rest.startswith("declared."):
-        return of_code(crate, rest.split(".")[1])
-    if folder == "proofs" and is_function(crate, rest.split(".")[-1]):
+    steps = rest.split(".")
+    if steps[0] == "declared":
+        return of_code((crate, *(step for step in steps[1:] if step != "the-variants")))
+    if folder == "proofs" and is_function(crate, tuple(steps)):
         return Kit(module, name)  # a function's contract, as the checker makes it of the code
-    return file(root / "crates" / crate / folder / f"{rest.replace('.', '/')}.antt").known.get(name)
+    path = root.joinpath("crates", crate, folder, *steps[:-1], f"{steps[-1]}.antt")
+    return file(path).known.get(name) if path.exists() else None
 
 
-def is_function(crate, name):
-    """Whether a crate's code has a function of this name."""
-    return any(re.search(rf"\bfn {name}\(", path.read_text()) for path in (root / "crates" / crate / "src").glob("*.rt"))
+def is_function(crate, path):
+    """Whether a crate's code has a function of this path, in a module or of a type."""
+    if not functions:
+        functions.update((function.crate, function.path()) for function in project.functions())
+    return (crate, path) in functions
 
 
-def of_code(crate, name):
-    if (crate, name) not in declared:
-        declared[crate, name] = Declared(crate, name)
-    return declared[crate, name]
+def of_code(path):
+    if path not in declared:
+        declared[path] = Declared(path)
+    return declared[path]
 
 
 class Names:
@@ -341,7 +345,7 @@ def named(d, clauses):
     if isinstance(d, Kit):
         return set()
     if isinstance(d, Declared):
-        return {of_code(*need) for need in d.needs}
+        return {of_code(need) for need in d.needs}
     names, bound = Names(d), set()
     for _, head in d.outer:
         names.expression(head, bound)
@@ -361,17 +365,22 @@ def named(d, clauses):
 # The promises, and what they need.
 
 def promises():
-    """The files of acceptance that promise something, each with its statements."""
-    for path in sorted((root / "crates/acceptance/proofs").glob("*.antt")):
-        if path.name != "Lib.antt" and not path.read_text().startswith("-- What meets the premise"):
+    """The files of acceptance that promise something, each with its statements; a file of `mod` lines has none."""
+    for path in sorted((root / "crates/acceptance/proofs").rglob("*.antt")):
+        if file(path).definitions and not path.read_text().startswith("-- What meets the premise"):
             f = file(path)
             yield f, [d for d in f.definitions if d.public and d.kind in ("theorem", "record", "data")]
+
+
+def promise_of(f):
+    """The name of a file of acceptance."""
+    return f.path.relative_to(root / "crates/acceptance/proofs").with_suffix("").as_posix()
 
 
 def cited():
     """The definitions that the code's contracts cite, and what those need."""
     names = set()
-    for path in sorted(root.glob("crates/*/src/*.rt")):
+    for path in project.code_files():
         text = path.read_text()
         for module, some, alias in re.findall(r"(?m)^ghost use (Rattle·[^\s{}]+?)(?:\.\{(.*)\}| as (\S+));", text):
             own = re.findall(rf"(?<![\w.·]){re.escape(alias)}\.([^\s(){{}},;]+)", text) if alias else some.split(", ")
@@ -436,7 +445,7 @@ def rows(ds, reached):
         n, whole = lines_of(own), len(path.read_text().splitlines())
         names = which(own, file(path).definitions) if path.suffix == ".antt" else shown(own)
         counts = [counts[0] + len(own), counts[1] + n, counts[2] + 1]
-        out.append(f"| `{path.relative_to(root)}` | {len(own)} | {n} | {whole} | {names} | {of} |")
+        out.append(f"| `{project.name_of(path)}` | {len(own)} | {n} | {whole} | {names} | {of} |")
     return out, "{:,} definitions, {:,} lines of {:,} files".format(*counts)
 
 
@@ -445,19 +454,19 @@ def promised(every):
     for f, statements in every:
         first = next(i for i, line in enumerate(f.source) if is_code(line))
         what = re.split(r"\.(?: |$)", " ".join(line[3:] for line in f.source[:first]))[0]
-        out.append(f"| `{f.path.relative_to(root)}` | {what} | {len(statements)} | {lines_of(statements)} |")
+        out.append(f"| `{project.name_of(f.path)}` | {what} | {len(statements)} | {lines_of(statements)} |")
     return out
 
 
 def written(every):
     """The document, and the totals of its parts."""
-    reached = {f.path.stem: needed(statements) for f, statements in every}
+    reached = {promise_of(f): needed(statements) for f, statements in every}
     stated = {s for _, statements in every for s in statements}
     all_needed = set().union(*reached.values()) - stated
     kit = sorted(d for d in all_needed if isinstance(d, Kit))
     code = {d for d in all_needed if isinstance(d, Declared)}
     rest = all_needed - code - set(kit)
-    paper = {d for d in rest if path_of(d).is_relative_to(root / "crates/paper")}
+    paper = {d for d in rest if path_of(d).is_relative_to(root / "crates/paper/specs")}
     contracts = cited()
     does = {d for d in rest - paper if d in contracts}
     tables = [rows(ds, reached) for ds in (paper, rest - paper - does, does, code)]
@@ -477,7 +486,8 @@ head = """# What is believed
 The promises are the statements of `crates/acceptance`; no proof can say whether they are the right ones. This file
 lists the definitions that one reads to know what they say. `tests/believed.py` writes it: it follows the names in the
 statements through the definitions that they need. Lines are those of types and clauses, without comments. What no
-statement needs, or only a proof uses, is not here; nor are the files of acceptance that show values which meet a premise.
+statement needs, or only a proof uses, is not here; nor are the files of acceptance that show values which meet a
+premise.
 
 @## Document 01
 
@@ -495,7 +505,7 @@ mean.
 TOTAL. The code's contracts cite them, or they are parts of what these cite: that the
 code does what they say is proved, and not believed. They are read to know of what a promise speaks.
 
-@## The code's records and enums
+@## The code's records, enums and constants
 
 TOTAL. Their declarations.
 
@@ -505,37 +515,38 @@ The names of the kit that all of these use.
 """
 
 
-def main():
-    every = list(promises())
-    if sys.argv[1:2] == ["--why"]:
-        return tell(sys.argv[2], every)
-    if sys.argv[1:] not in ([], ["--compare"]):
-        sys.exit(__doc__)
-    text, counts = written(every)
-    found = [" ".join(m.split()) for m in totals.findall(readme.read_text())]
-    if not sys.argv[1:]:
-        left = iter(counts)
-        document.write_text(text)
-        readme.write_text(totals.sub(lambda m: next(left), readme.read_text()))
-        return None
-    if not document.exists() or document.read_text() != text:
-        sys.exit("docs/BELIEVED.md is not what the statements need: python3 tests/believed.py writes it")
-    if found != counts:
-        sys.exit(f"README.md counts {found}, and not {counts}")
-    print("; ".join(counts))
-    return None
+def generated():
+    text, counts = written(list(promises()))
+    before, left = readme.read_text(), iter(counts)
+    if len(totals.findall(before)) != len(counts):
+        raise Faults(f"README.md has {len(totals.findall(before))} counts of definitions, and not {len(counts)}")
+    return {document: text, readme: totals.sub(lambda found: same_layout(found[0], next(left)), before)}
 
 
-def tell(name, every):
-    for f, statements in every:
+def same_layout(found, count):
+    """A count, with a line's end where the one found has it."""
+    return found if " ".join(found.split()) == count else count
+
+
+def tell(name):
+    for f, statements in promises():
         why = needed(statements)
         for d in why:
             if d.name == name:
                 chain = [d]
                 while chain[-1] in why:
                     chain.append(why[chain[-1]])
-                print(f"{f.path.stem}: " + ", named by ".join(map(str, chain)))
+                print(f"{promise_of(f)}: " + ", named by ".join(map(str, chain)))
+    return 0
+
+
+def main(words):
+    if words[:1] == ["--why"] and len(words) == 2:
+        return tell(words[1])
+    if words not in ([], ["--compare"]):
+        raise Faults(__doc__)
+    return project.write_or_compare(generated(), bool(words), "python3 tests/believed.py")
 
 
 if __name__ == "__main__":
-    main()
+    project.run(main)

@@ -1,18 +1,23 @@
-"""docs/CRATES.md: each crate with its lines of code, definitions and proofs, its wrong versions, and how long it is checked.
+"""docs/CRATES.md: each crate with its lines of code, definitions and proofs, its wrong versions, and how long its check
+takes.
 
-python3 tests/crates.py --table LOG    writes it; the check times are those of LOG, the output of `rt ci` or `rt prove`
-python3 tests/crates.py --compare      all but the times is up to date
+python3 tests/crates.py --table [LOG]   writes it. The seconds are those of LOG, the output of `rt ci` or `rt prove`, or
+                                        else of target/log, where such a run leaves them. After another run, which does
+                                        not prove every crate, the seconds in the document stay
+python3 tests/crates.py --compare       all but the seconds is compared
 """
 import pathlib
 import re
-import sys
 
-root = pathlib.Path(__file__).resolve().parent.parent
+import project
+from project import Faults, root
+
 document = root / "docs/CRATES.md"
 head = """# The crates in numbers
 
-Lines of code (`src`), of definitions (`specs`) and of proofs (`proofs`, skeletons included); wrong versions, and the rounds in which they are
-tried; seconds that a check of the crate took in the gate, where several run beside each other on two cores. `tests/crates.py` writes this file.
+Lines of code (`src`), of definitions (`specs`) and of proofs (`proofs`, skeletons included); wrong versions, and the
+rounds in which they are tried; the seconds that a check of the crate took in the gate, where several run beside each
+other on two cores. `tests/crates.py` writes this file.
 
 | crate | what it is for | code | definitions | proofs | wrong versions | rounds | seconds |
 |---|---|---:|---:|---:|---:|---:|---:|
@@ -20,43 +25,71 @@ tried; seconds that a check of the crate took in the gate, where several run bes
 
 
 def lines(folder, suffix):
-    return sum(len(f.read_text().splitlines()) for f in folder.rglob("*" + suffix))
+    return sum(len(file.read_text().splitlines()) for file in folder.rglob("*" + suffix))
 
 
 def purpose(crate):
     """The first line of its source."""
-    source = next(f for f in (crate / "src/lib.rt", crate / "src/main.rt") if f.exists())
+    source = next(file for file in (crate / "src/lib.rt", crate / "src/main.rt") if file.exists())
     return source.read_text().split("\n")[0].lstrip("/! ").rstrip(".")
 
 
-def rows():
-    """Of each crate, in the order of crates.txt, its purpose and its counts."""
-    for line in (root / "crates.txt").read_text().split("\n"):
-        if line and not line.startswith("#"):
-            crate = root / "crates" / line.split(":")[0]
-            edits = [e.read_text() for e in crate.glob("must-fail*/*.edit")]
-            wrong = sum(len(re.findall(r"(?m)^wrong: ", e)) for e in edits)
-            yield crate.name, purpose(crate), [lines(crate / "src", ".rt"), lines(crate / "specs", ".antt"), lines(crate / "proofs", ".antt"), wrong, len(edits)]
+def counts(crate):
+    rounds = project.edit_files(crate.name)
+    wrong = sum(len(project.wrong_versions(edit)) for edit in rounds)
+    sizes = [lines(crate / folder, end) for folder, end in (("src", ".rt"), ("specs", ".antt"), ("proofs", ".antt"))]
+    return [*sizes, wrong, len(rounds)]
 
 
-def written(times):
-    counted = list(rows())
-    text = head
-    for name, what, counts in counted:
-        text += f"| `{name}` | {what} | " + " | ".join(str(n) if n else "" for n in counts) + f" | {times.get(name, '')} |\n"
-    totals = [sum(counts[i] for _, _, counts in counted) for i in range(5)]
-    text += "| all | | " + " | ".join(f"{n:,}" for n in totals) + f" | {sum(int(times.get(name, 0)) for name, _, _ in counted)} |\n"
-    return text + f"\nLines of proof for each line of code: {totals[2] / totals[0]:.1f}.\n"
+def seconds_in(log):
+    """The seconds of each crate, from what rt printed."""
+    return {name: int(seconds) for name, seconds in re.findall(r"(?m)^rt: (\w+) proved \((\d+) s\)", log)}
 
 
-if sys.argv[1:2] == ["--table"]:
-    log = pathlib.Path(sys.argv[2]).read_text()
-    document.write_text(written(dict(re.findall(r"rt: (\w+) proved \((\d+) s\)", log))))
-elif sys.argv[1:] == ["--compare"]:
-    stored = document.read_text()
-    times = dict(re.findall(r"(?m)^\| `(\w+)` .* (\d+) \|$", stored))
-    if stored != written(times):
-        sys.exit("docs/CRATES.md is not up to date")
-    print(f"{len(times)} crates, as docs/CRATES.md says")
-else:
-    sys.exit(__doc__)
+def stored_seconds():
+    rows = re.findall(r"(?m)^\| `(\w+)` .* (\d+) \|$", document.read_text() if document.exists() else "")
+    return {name: int(seconds) for name, seconds in rows}
+
+
+def measured_seconds():
+    """Those that `rt ci` or `rt prove` left; None after another run, which proves only what has changed."""
+    logs = [root / "target/log" / f"{name}.out" for name in project.crates()]
+    found = seconds_in("\n".join(log.read_text() for log in logs if log.exists()))
+    return found if set(found) == set(project.crates()) else None
+
+
+def generated(seconds=None):
+    seconds = seconds or stored_seconds()
+    missing = [name for name in project.crates() if name not in seconds]
+    if missing:
+        raise Faults(f"docs/CRATES.md: no seconds for {', '.join(missing)}: run `rt ci` first, which leaves them in "
+                     "target/log")
+    text, totals = head, [0] * 6
+    for name in project.crates():
+        crate = root / "crates" / name
+        numbers = [*counts(crate), seconds[name]]
+        totals = [a + b for a, b in zip(totals, numbers)]
+        cells = [str(n) if n else "" for n in numbers[:-1]] + [str(numbers[-1])]
+        text += f"| `{name}` | {purpose(crate)} | {' | '.join(cells)} |\n"
+    text += "| all | | " + " | ".join([*(f"{n:,}" for n in totals[:-1]), str(totals[-1])]) + " |\n"
+    return {document: text + f"\nLines of proof for each line of code: {totals[2] / totals[0]:.1f}.\n"}
+
+
+def generated_anew():
+    """With the seconds of the last run that proved every crate."""
+    return generated(measured_seconds())
+
+
+def main(words):
+    if words == ["--compare"]:
+        return project.write_or_compare(generated(), True, "python3 tests/crates.py --table")
+    if words[:1] != ["--table"] or len(words) > 2:
+        raise Faults(__doc__)
+    seconds = seconds_in(pathlib.Path(words[1]).read_text()) if words[1:] else measured_seconds()
+    if seconds is None:
+        print("the seconds stay: target/log is not that of a run that proves every crate (rt ci)")
+    return project.write_or_compare(generated(seconds), False, "")
+
+
+if __name__ == "__main__":
+    project.run(main)

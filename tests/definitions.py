@@ -1,23 +1,23 @@
 """The paper's definitions, crates/paper/specs, run as text on the Rust's stored answers.
 
-python3 tests/definitions.py           compares every answer, wants every branch of every definition taken, and docs/COVERAGE.md as it is
-python3 tests/definitions.py --table   writes docs/COVERAGE.md
+python3 tests/definitions.py           compares every answer; each branch of each definition must be taken
+python3 tests/definitions.py --table   the same, and writes docs/COVERAGE.md
 
-The Rust's answers are those of tests/oracle. Where document 01 goes beyond the Rust, or a definition is no part of a client, there are the
-logs of tests/logs and the cases below, each beside document 01's sentence.
+The Rust's answers are those of tests/oracle. Where document 01 goes beyond the Rust, or a definition is no part of a
+client, there are the logs of tests/logs and the cases below, each beside document 01's sentence. tests/antt.py, which
+reads and runs the definitions, is tested on a table of examples that is proved.
 """
-import binascii
-import pathlib
 import struct
-import sys
-import threading
 
-from antt import NIL, Fun, NotUnderstood, Paper, apply, force, listed, plain
+import project
+from antt import NIL, Fun, Paper, apply, deep, force, listed, plain, shorten
+from bench import CRC_MISMATCH, ERASE, INFO, OK, SELECT, VERIFY, WRITE, bits_of, frame
+from project import Faults, root
 
-root = pathlib.Path(__file__).resolve().parent.parent
 stored = root / "tests/oracle"
-NAMES = {1: "Io", 2: "Device", 3: "FirmwareTooLarge", 4: "CrcMismatch", 5: "BadInfo", 6: "Incompatible", 7: "NoDevice", 8: "SeveralDevices",
-         9: "NoSuchUid", 10: "AmbiguousUid", 11: "NotAddressable", 12: "DuplicateUid", 23: "Unaddressed"}
+NAMES = {1: "Io", 2: "Device", 3: "FirmwareTooLarge", 4: "CrcMismatch", 5: "BadInfo", 6: "Incompatible", 7: "NoDevice",
+         8: "SeveralDevices", 9: "NoSuchUid", 10: "AmbiguousUid", 11: "NotAddressable", 12: "DuplicateUid",
+         23: "Unaddressed"}
 
 # The operations by their codes in tests/oracle: in words, the definition, and its arguments from the line's bytes.
 STARTS = {
@@ -39,7 +39,7 @@ UNREACHED = {
     "Client.cleared (leave d) id": LEFT,
     "Client.reading (leave d) image bytes": LEFT,
     "Client.place (leave d) bytes": LEFT,
-    "Count.test n || some n test: only the second holds":
+    "Count.test n || someBelow n test: only the second holds":
         "an id alone under a prefix of its bits is alone under each longer one, which is tried first",
 }
 
@@ -69,7 +69,7 @@ class Player:
     def ask(self):
         """The next request, in a buffer whose rest must stay as it is."""
         _, q, _ = force(self.client["left"])
-        answer = self.paper["Talk.Answer"](q)
+        answer = self.paper["Talk.AnswerTo"](q)
         asked = self.call("request", self.client, self.image, listed([0xC3] * 1036))
         says, buffer = plain(asked["says"]), plain(asked["buffer"])
         self.client, self.awaited = force(asked["client"]), answer is not True
@@ -77,7 +77,7 @@ class Player:
         if says[0] != granted or buffer[says[1]:] != [0xC3] * (1036 - says[1]):
             raise AssertionError(f"a request that is not granted as it should be: {says}")
         self.out.append("> " + bytes(buffer[:says[1]]).hex())
-        if self.awaited and answer != ("type", "Heard" if buffer[1] == 5 else "Answered"):
+        if self.awaited and answer != ("type", "Heard" if buffer[1] == SELECT else "Answered"):
             raise AssertionError(f"a request of command {buffer[1]} that wants {answer}")
         if not self.awaited:
             self.ended(number(0))
@@ -118,8 +118,8 @@ class Player:
             self.ended(number(0))
 
     def ended(self, how):
-        ident = plain(self.client["id"])
-        self.out += [f"={how}", f"s{number(force(self.client['seed']))} {bytes(ident[1]).hex() if ident[0] == 'some' else ''}"]
+        ident, seed = plain(self.client["id"]), force(self.client["seed"])
+        self.out += [f"={how}", f"s{number(seed)} {bytes(ident[1]).hex() if ident[0] == 'some' else ''}"]
 
     def play(self, lines):
         """An operation, its records, and at its end what a refusal carries and the rest."""
@@ -162,19 +162,16 @@ def blocks(name):
         answer.append(line)
     answers.append(answer)
     if len(parts) != len(answers):
-        sys.exit(f"tests/oracle/{name}: {len(parts)} operations and {len(answers)} answers")
+        raise Faults(f"tests/oracle/{name}: {len(parts)} operations and {len(answers)} answers")
     return zip(parts, answers)
 
 
-def bits_of(data, count):
-    return [bool(data[k // 8] >> k % 8 & 1) for k in range(count)]
-
-
 def honest(ids, asked, records):
-    """Whether pods of these ids, all of one length, were heard: silence, the reply of the one that matches, or a clash."""
+    """Whether pods of these ids, all of one length, were heard: silence, the reply of the one that matches, or a
+    clash."""
     def heard(bits):
-        here = [i for i in ids if 8 * len(i) >= len(bits) and bits_of(i, len(bits)) == bits]
-        return b"" if not here else frame(5, 1, here[0]) if len(here) == 1 else b"\0"
+        matching = [i for i in ids if bits_of(i)[:len(bits)] == bits]
+        return b"" if not matching else frame(SELECT, OK, matching[0]) if len(matching) == 1 else b"\0"
     return len(set(map(len, ids))) <= 1 and all(heard(bits) == record for bits, record in zip(asked, records))
 
 
@@ -182,7 +179,7 @@ def walked(paper, lines, out):
     """A discovery of the Rust as a walk over what it heard; and over an honest wire its count."""
     records = [bytes.fromhex(line)[1:] for line in lines[1:]]
     requests = [bytes.fromhex(line[2:]) for line in out if line.startswith(">")]
-    asked = [bits_of(request[12:], request[11]) for request in requests]
+    asked = [bits_of(request[12:])[:request[11]] for request in requests]
     prefix, heard = listed(asked[0]), [paper["Hearing.hear"](listed(list(record))) for record in records]
     ids = [bytes.fromhex(line[2:]) for line in out if line.startswith("i ")]
     end = next(line for line in out if line.startswith("="))[2:]
@@ -192,28 +189,13 @@ def walked(paper, lines, out):
     if end == "found" and honest(ids, asked, records):
         size, pods = len(ids[0]) if ids else 0, listed([listed(list(i)) for i in ids])
         yield "pods", paper["Count.Pods"](size, pods), True
-        yield "the honest wire", [plain(paper["Count.honest"](pods, k, listed(bits))) for k, bits in enumerate(asked)], list(map(plain, heard))
+        answers = [plain(paper["Count.honest"](pods, k, listed(bits))) for k, bits in enumerate(asked)]
+        yield "the honest wire", answers, list(map(plain, heard))
         yield "the count", paper["Count.selects"](pods, size, prefix), len(asked)
         yield "the bound", len(asked) <= paper["Count.limit"](prefix), True
 
 
-def shorten(paper):
-    """`sumUnder` goes through 2^d prefixes. Where d is over 9 it stops where `forked` is 0: no prefix that extends one which at most one id
-    matches is matched by more."""
-    whole, forked = paper["Count.sumUnder"], paper["Count.forked"]
-
-    def short(d, q, f):
-        d, f = force(d), force(f)
-        return 0 if d > 9 and f.call is forked and apply(f, q) == 0 else whole(d, q, f)
-    paper.world[paper.python["Count.sumUnder"]] = short
-
-
 # The examples: a generator gives the name of each, and then pairs of what the definitions give and what they should.
-
-def frame(command, status, payload):
-    body = struct.pack("<BBBBIH", 0xA5, command, status, 0, 0, len(payload)) + payload
-    return body + struct.pack("<H", binascii.crc_hqx(body, 0xFFFF))
-
 
 def of_the_rust(paper):
     for k, (lines, out) in enumerate(blocks("runs"), 1):
@@ -245,7 +227,8 @@ def of_the_rust(paper):
 def of_logs(paper):
     for log in sorted((root / "tests/logs").glob("*.in")):
         yield f"log {log.stem}"
-        yield "the output", bytes(plain(paper["Log.output"](listed(list(log.read_bytes()))))), log.with_suffix(".out").read_bytes()
+        output = bytes(plain(paper["Log.output"](listed(list(log.read_bytes())))))
+        yield "the output", output, log.with_suffix(".out").read_bytes()
 
 
 def info(capacity=4, erase_size=4, compat=0xFFFFFFFF, max_payload=4):
@@ -253,7 +236,8 @@ def info(capacity=4, erase_size=4, compat=0xFFFFFFFF, max_payload=4):
 
 
 def of_the_paper(paper):
-    """Document 01's sentences where it goes beyond the Rust, and its examples. The first string of each case is the sentence."""
+    """Document 01's sentences where it goes beyond the Rust, and its examples. The first string of each case is the
+    sentence."""
     def ends(sentence, operation, records, n, carries=()):
         player = Player(paper)
         player.play([operation.hex(), *("00" + r.hex() for r in records)])
@@ -274,56 +258,92 @@ def of_the_paper(paper):
     def of(name, *arguments):
         return plain(paper[name](*arguments))
 
-    ok, seven, long = lambda command, payload=b"": frame(command, 1, payload), listed([7] * 11), listed([0] * 17)
+    def ok(command, payload=b""):
+        return frame(command, OK, payload)
+
+    seven, long = listed([7] * 11), listed([0] * 17)
     idle = call("fresh")
     ready = force(call("startFlash", idle, listed([1] * 5))["client"])
     waiting = force(call("request", ready, listed([1] * 5), listed([0] * 12))["client"])
     six, five = listed([1] * 6), listed([1] * 5)
-    yield unchanged("a start while an operation runs", ready, [call("startInfo", ready), call("startDiscover", ready, long)], 21)
+    yield unchanged("a start while an operation runs", ready, [
+        call("startInfo", ready), call("startDiscover", ready, long)], 21)
     yield unchanged("a start while an operation runs (a request is out)", waiting, [call("startDeselect", waiting)], 21)
     yield unchanged("asking with none running", idle, [call("request", idle, NIL, seven)], 21)
     yield unchanged("asking .. with a request unanswered", waiting, [call("request", waiting, six, seven)], 21)
-    yield unchanged("a record or link failure with no request out", idle, [call("record′", idle, NIL, six), call("linkFailed", idle)], 21)
+    yield unchanged("a record or link failure with no request out", idle, [
+        call("record′", idle, NIL, six), call("linkFailed", idle)], 21)
     yield unchanged("a record or link failure with no request out (one is ready)", ready, [
         call("record′", ready, six, six), call("linkFailed", ready)], 21)
     yield unchanged("image length differs from the one at the start", ready, [call("request", ready, six, seven)], 20)
-    yield unchanged("image length differs from the one at the start (a record)", waiting, [call("record′", waiting, six, six)], 20)
+    yield unchanged("image length differs from the one at the start (a record)", waiting, [
+        call("record′", waiting, six, six)], 20)
     yield unchanged("request or text buffer too short", ready, [call("request", ready, five, seven)], 16, [12])
     yield unchanged("a count over 128 .. is 13", idle, [call("startSelect", idle, listed([0] * 16), 129)], 13)
-    yield unchanged("a count .. over 8 times the bytes given is 13", idle, [call("startSelect", idle, listed([0]), 9)], 13)
+    yield unchanged("a count .. over 8 times the bytes given is 13", idle, [
+        call("startSelect", idle, listed([0]), 9)], 13)
     yield unchanged("prefix or id given over 16 bytes", idle, [
-        call("startSelect", idle, long, 1), call("startAttach", idle, ("some", long)), call("startDiscover", idle, long)], 13)
-    yield ends("An id over 16 bytes gives refusal 14", b"\x01\x00", [ok(5, bytes(17))], 14)
-    deselected = Player(paper).play(["02", "00" + ok(5, bytes(17)).hex()])
-    yield equal("except in a deselect, whose record is ignored", (deselected[0][1:], ["@ 0000001d", "= 00000000", "s 00000001 "]))
-    yield ends("the 17th in a row for one offset gives 17", b"\x08\x01", [ok(0, info()), ok(1), *[frame(2, 3, b"")] * 17], 17)
-    yield ends("under two bytes is 18", b"\x08", [ok(0, info()), ok(1), ok(3, b"\x01")], 18)
-    yield ends("capacity rounded up to erase_size is above 2^32 - 1", b"\x07", [ok(0, info(0xFFFFFFFF, 2))], 19)
-    yield equal("0, e, 2e... below capacity", *((of("Answers.below", 2, c, 3), wanted) for c, wanted in ((3, []), (4, [3]), (8, [3, 5, 7]))))
+        call("startSelect", idle, long, 1), call("startAttach", idle, ("some", long)),
+        call("startDiscover", idle, long)], 13)
+    yield ends("An id over 16 bytes gives refusal 14", b"\x01\x00", [ok(SELECT, bytes(17))], 14)
+    deselected = Player(paper).play(["02", "00" + ok(SELECT, bytes(17)).hex()])
+    yield equal("except in a deselect, whose record is ignored",
+                (deselected[0][1:], ["@ 0000001d", "= 00000000", "s 00000001 "]))
+    yield ends("the 17th in a row for one offset gives 17", b"\x08\x01", [
+        ok(INFO, info()), ok(ERASE), *[frame(WRITE, CRC_MISMATCH, b"")] * 17], 17)
+    yield ends("under two bytes is 18", b"\x08", [ok(INFO, info()), ok(ERASE), ok(VERIFY, b"\x01")], 18)
+    yield ends("capacity rounded up to erase_size is above 2^32 - 1", b"\x07", [ok(INFO, info(0xFFFFFFFF, 2))], 19)
+    yield equal("0, e, 2e... below capacity",
+                *((of("Answers.below", 2, c, 3), wanted) for c, wanted in ((3, []), (4, [3]), (8, [3, 5, 7]))))
     first = paper["Flash.prepare"](1 << 32)
     stop = apply(force(first[2]), {"reply": ("Answers.ok", listed(list(info()))), "image": NIL})
     yield equal("lengths from 2^32 on report 4,294,967,295", (plain(stop), ("Talk.stop", 3, [0xFFFFFFFF, 4])))
-    whole = struct.pack("<BBBBIH", 0xA5, 1, 2, 3, 0x87654321, 3) + b"abc"
-    checked = whole + struct.pack("<H", binascii.crc_hqx(whole, 0xFFFF))
+    checked = frame(1, 2, b"abc", flags=3, address=0x87654321)
     fields = {"command": 1, "status": 2, "flags": 3, "address": 0x87654321, "payload": list(b"abc")}
-    read = lambda data: of("Frame.read", listed(list(data)))
-    yield equal("No A5, or fewer than 10 bytes from it: short. Then a length over 1,024: too long. Then bytes missing: short",
-                *((read(data), ("Frame.short",)) for data in (bytes(30), checked[:9], checked[:8] + b"\x00\x04", checked[:14])),
+    short = (bytes(30), checked[:9], checked[:8] + b"\x00\x04", checked[:14])
+
+    def read(data):
+        return of("Frame.read", listed(list(data)))
+
+    yield equal("No A5, or fewer than 10 bytes from it: short. Then a length over 1,024: too long. Then bytes missing: "
+                "short", *((read(data), ("Frame.short",)) for data in short),
                 (read(checked[:8] + b"\x01\x04"), ("Frame.tooLong",)))
     yield equal("A wrong check: bad check, fields still read. Else whole",
-                (read(b"\0\0" + checked + b"\0"), ("Frame.whole", 2, fields)), (read(checked[:-1] + b"\0"), ("Frame.badCheck", 0, fields)))
+                (read(b"\0\0" + checked + b"\0"), ("Frame.whole", 2, fields)),
+                (read(checked[:-1] + b"\0"), ("Frame.badCheck", 0, fields)))
     ids = [[1, 0], [1], [], [0, 2], [1, 0, 0]]
-    yield equal("sort by bytes, a shorter id before one that it begins", (of("Walk.sort", listed([listed(i) for i in ids])), sorted(ids)))
+    yield equal("sort by bytes, a shorter id before one that it begins",
+                (of("Walk.sort", listed([listed(i) for i in ids])), sorted(ids)))
     yield equal("Writing an id's text gives 13, then 16, with nothing written",
-                (of("Text.uidHex", long, 0), ("Text.refuses13",)), (of("Text.uidHex", listed([0]), 1), ("Text.refuses16", 2)))
+                (of("Text.uidHex", long, 0), ("Text.refuses13",)),
+                (of("Text.uidHex", listed([0]), 1), ("Text.refuses16", 2)))
     yield equal("The Rust also takes \"+f\"", (of("Text.parseUid", listed(list(b"+f"))), ("none",)))
     yield equal("answer (1 byte, 00 for success), count of those ids (1), Selects handed out (2, high first)",
                 *((bytes(of("Log.lastLine", 0, 3, k)), b"0003%04x\n" % k) for k in (255, 256, 33412)))
-    pods = lambda size, ids: of("Count.Pods", size, listed([listed(i) for i in ids]))
-    yield equal("distinct and of equal length", (pods(1, [[i] for i in range(64)]), True), (pods(16, [[255] * 16]), True),
-                *((pods(*p), False) for p in ((1, [[i] for i in range(65)]), (1, [[1], [2], [1]]), (1, [[1], []]), (1, [[256]]), (17, [[0] * 17]))))
+
+    def pods(size, ids):
+        return of("Count.Pods", size, listed([listed(i) for i in ids]))
+
+    others = (1, [[i] for i in range(65)]), (1, [[1], [2], [1]]), (1, [[1], []]), (1, [[256]]), (17, [[0] * 17])
+    yield equal("distinct and of equal length", (pods(1, [[i] for i in range(64)]), True),
+                (pods(16, [[255] * 16]), True), *((pods(*given), False) for given in others))
     yield equal("ends after at most 132 + 260 × (128 − p) Selects",
                 *((of("Count.limit", listed([True] * p)), wanted) for p, wanted in ((0, 33412), (128, 132))))
+
+
+HEAD = """# What the examples take of the paper's definitions
+
+Written by `tests/definitions.py --table`, which runs the text of `crates/paper/specs` on the Rust's stored answers
+(`tests/oracle`) and on other examples: the stored logs (`tests/logs`), and cases beside document 01's sentences where
+it goes beyond the Rust. Each answer is compared. A branch is a clause, an arm of a choice (`cond`, `refuseIf`,
+`onSome`, `onReading`, `onLeft`, `unlessEcho`), or a way that `&&` or `||` comes out; it counts where its value is
+wanted, and once for an example.
+
+`sumUnder` is run as it stands to a depth of 9; above, its sum leaves out what extends a prefix that at most one id
+matches, which adds 0.
+
+{} definitions with {} branches; {} answers of the Rust take {} of them, {} other examples the other {}, and no
+call can take {}."""
 
 
 class Tally:
@@ -375,63 +395,58 @@ class Tally:
         for b, counts in zip(self.paper.branches, self.counts):
             file = b.definition.split(".")[0]
             if not any(counts) and left.pop(f"{file}.{b.text}", None) is None:
-                yield f"crates/paper/specs/{file}.antt:{b.line}: no example takes a branch of {b.definition}: {b.text}"
+                where = f"{self.paper.path_of(file)}:{b.line}"
+                yield f"{where}: no example takes a branch of {b.definition}: {b.text}"
         for branch in left:
             yield f"{branch} is said to be out of reach, and is taken or is not there"
 
     def table(self):
         branches, definitions = len(self.counts), len({b.definition for b in self.paper.branches})
         rust = sum(1 for c in self.counts if c[0])
-        rows = [
-            "# What the examples take of the paper's definitions", "",
-            "Written by `tests/definitions.py --table`, which runs the text of `crates/paper/specs` on the Rust's stored answers (`tests/oracle`)",
-            "and on other examples: the stored logs (`tests/logs`), and cases beside document 01's sentences where it goes beyond the Rust. Each",
-            "answer is compared. A branch is a clause, an arm of a choice (`cond`, `refuseIf`, `onSome`, `onReading`, `onLeft`, `unlessEcho`), or a way",
-            "that `&&` or `||` comes out; it counts where its value is wanted, and once for an example.", "",
-            "`sumUnder` is run as it stands to a depth of 9; above, its sum leaves out what extends a prefix that at most one id matches, which adds 0.", "",
-            f"{definitions} definitions with {branches} branches; {self.examples[0]} answers of the Rust take {rust} of them, {self.examples[1]} other examples the "
-            f"other {branches - rust - len(UNREACHED)}, and no call can take {len(UNREACHED)}.",
-        ]
+        rows = [HEAD.format(definitions, branches, self.examples[0], rust, self.examples[1],
+                            branches - rust - len(UNREACHED), len(UNREACHED))]
         file = definition = None
         for b, (rust, others), first in zip(self.paper.branches, self.counts, self.first):
             name, own = b.definition.split(".", 1)
             if name != file:
-                rows += ["", f"## {name}", "", "| definition | branch | the Rust's | others | first |", "|---|---|---|---|---|"]
+                rows += ["", f"## {name}", "", "| definition | branch | the Rust's | others | first |",
+                         "|---|---|---|---|---|"]
             first = first or "none: " + UNREACHED.get(f"{name}.{b.text}", "")
             text = b.text.replace("|", "\\|")
-            rows.append(f"| {'`' + own + '`' if b.definition != definition else ''} | `{text}` | {rust} | {others} | {first} |")
+            named = f"`{own}`" if b.definition != definition else ""
+            rows.append(f"| {named} | `{text}` | {rust} | {others} | {first} |")
             file, definition = name, b.definition
         return "\n".join(rows) + "\n"
 
 
-def main():
-    try:
-        paper = Paper(root / "crates/paper/specs")
-    except NotUnderstood as e:
-        return print(e)
+def tallied():
+    """Every example run and compared."""
+    paper = Paper(root / "crates/paper/specs")
     shorten(paper)
     tally = Tally(paper)
     tally.all()
-    bad = tally.faults + ([] if tally.faults else list(tally.untaken()))
-    coverage = root / "docs/COVERAGE.md"
-    if sys.argv[1:] == ["--table"] and not bad:
-        coverage.write_text(tally.table())
-    elif not bad and (not coverage.exists() or coverage.read_text() != tally.table()):
-        bad.append("docs/COVERAGE.md is not what this script writes")
-    for line in bad:
-        print(line[:2000])
-    print(f"{tally.examples[0]} answers of the Rust and {tally.examples[1]} other examples, {len(paper.branches)} branches, {len(bad)} faults")
-    result[0] = 1 if bad else 0
+    tally.faults += [] if tally.faults else list(tally.untaken())
+    return tally
+
+
+def generated():
+    tally = deep(tallied)
+    if tally.faults:
+        raise Faults(*(fault[:2000] for fault in tally.faults))
+    return {root / "docs/COVERAGE.md": tally.table()}
+
+
+def main(words):
+    if words == ["--table"]:
+        return project.write_or_compare(generated(), False, "")
+    if words:
+        raise Faults(__doc__)
+    tally = deep(tallied)
+    faults = [fault[:2000] for fault in tally.faults]
+    summary = (f"{tally.examples[0]} answers of the Rust and {tally.examples[1]} other examples, "
+               f"{len(tally.paper.branches)} branches, {len(faults)} faults")
+    return project.finish(faults, summary, tally.examples[0])
 
 
 if __name__ == "__main__":
-    if sys.argv[1:] not in ([], ["--table"]):
-        sys.exit(__doc__)
-    # The definitions recur as deep as their lists are long.
-    result = [1]
-    sys.setrecursionlimit(10 ** 7)
-    threading.stack_size(512 << 20)
-    thread = threading.Thread(target=main)
-    thread.start()
-    thread.join()
-    sys.exit(result[0])
+    project.run(main)

@@ -1,165 +1,200 @@
-"""Every wrong version was refused because a fact no longer holds, and not because its proof file no longer fits the code.
+"""Each wrong version was refused because a fact no longer holds, and not because a proof file no longer fits the code.
 
-A file of crates/NAME/must-fail has one or more wrong versions, each under a line `wrong: LABEL` with the rule that it breaks. They are
-tried at once, and judged apart: no two of a file are in one function (or one theorem), and each must be refused by an error on a fact in
-that function's own proof. Of a table of theorems each field is one; a premise of several theorems is tried with no other of its file. A
-wrong version of a definition, on which many proofs rest, is alone in its file.
+python3 tests/edits.py            the verdict, from the logs that `rt ci` leaves in target/must-fail
+python3 tests/edits.py --long     the verdict on the rounds of the long tests alone, from the logs that `bash tests/long
+                                  edits` leaves in target/must-fail-long; each is held to its row of the table
+python3 tests/edits.py --table    writes the table, docs/WRONG-VERSIONS.md
 
-Reads the logs that `rt ci` leaves in target/must-fail, and compares the table of docs/CONTRACTS.md with them. The rounds in
-crates/NAME/must-fail-long are tried by `tests/long edits`, which leaves their logs in target/must-fail-long. Where there are none they are
-not judged, and are counted apart: only that each text still stands once in its file, and that the table has a row for it, is looked at.
+A file crates/NAME/must-fail/ROUND.edit is a round: one or more wrong versions, each under a line `wrong: LABEL` with
+the rule that it breaks. They are tried at once and judged apart: no two of a round are in one function (or one
+theorem), and each must be refused by an error on a fact in that function's own proof. Of a table of theorems each field
+is one theorem. A premise of several theorems is tried with no other in its file. A wrong version of a definition, on
+which many proofs rest, is alone in its round.
 
-python3 tests/edits.py            the verdict
-python3 tests/edits.py --long     the verdict on the rounds of the long tests alone, each held to its row of the table
-python3 tests/edits.py --table    writes the table
+The rounds in crates/NAME/must-fail-long are not tried by `rt ci`. Where they have no logs, they are counted apart: each
+text must still stand once in its file, and the table must have a row for it.
 """
-import pathlib
 import re
-import sys
 
-root = pathlib.Path(__file__).resolve().parent.parent
+import project
+from project import Faults, root
+
+document = root / "docs/WRONG-VERSIONS.md"
+head = """# Wrong versions
+
+Every wrong version of the code, the definitions and the theorems that was tried: in which function or theorem it is,
+which rule of the right version it breaks, and the fact at which the check refuses it. docs/CONTRACTS.md says which are
+tried when, and has those that change code and contract together. `python3 tests/edits.py --table` writes this file from
+the logs of a check.
+"""
 unfit = re.compile(
     r"has no `Need-|has no `Tie`|expected type `tie\.Need-|is not in scope|is not a constructor|cannot be parsed|syntax"
     r"|give the call less to do|replace that `_` with the term"
 )
-other = re.compile(r"computed as far as they go, the two types are")  # in a function's proof: a loop's facts of another shape
+other_shape = re.compile(r"computed as far as they go, the two types are")  # in a function's proof: of another loop
 follows = re.compile(r"was not admitted")
-mark = "## Every wrong version\n"
+error = r"(?m)^\S*/must-fail/{}/{}/((?:src|specs|proofs)/\S+?):(\d+):\d+: error: (.*)$"
 
 
 class Wrong:
-    """One wrong version: its label, the rule that it breaks, and where it is: a file, and a function or theorem of it."""
+    """A wrong version: where it is, and how it was refused."""
 
-    def __init__(self, crate, label):
-        self.crate, self.label, self.rule, self.file, self.place, self.fact = crate, label, "", None, None, None
+    def __init__(self, edit_file, entry):
+        self.crate, self.round, self.long = project.crate_of(edit_file), edit_file.stem, "long" in edit_file.parent.name
+        self.label, self.rule, self.file = entry.label, entry.rule, entry.edits[0][0]
+        self.faults, self.place, self.fact = [], None, None
+        self.find(entry.edits)
+
+    def name(self):
+        return f"{self.crate}/{self.label}"
+
+    def place_name(self):
+        return "::".join(self.place or ())
+
+    def find(self, edits):
+        """Makes the edits one after the other, as rt does, and finds the one place in which they stand."""
+        path, places = root / "crates" / self.crate / self.file, set()
+        text = path.read_text() if path.exists() else ""
+        for file, old, new in edits:
+            if file != self.file or text.count(old) != 1:
+                self.faults.append(f"in {file} this does not stand once: {old}")
+                return
+            places.add(enclosing(text, text.index(old), self.crate, file))
+            text = text.replace(old, new)
+        if len(places) > 1:
+            self.faults.append("its edits are in several functions or theorems")
+        self.place = places.pop()
+
+    def judge(self, log):
+        """Finds the fact at which it was refused; None if there is none."""
+        errors = re.findall(error.format(self.crate, self.round), log)
+        errors = [e for e in errors if not follows.search(e[2])]
+        if self.place is None:
+            own = errors[:1]
+        elif self.file.startswith("proofs/"):
+            own = [e for e in errors if e[0] == self.file and self.is_of_it(e)]
+        else:
+            own = [e for e in errors if e[0] == f"proofs/{'/'.join(self.place)}/Proof.antt"]
+            made = rf"(?m)^fn {self.crate}::{self.place_name()}: no proof: .*`search` does not close (`[^`]*`)"
+            if not own and (closes := re.search(made, log)):
+                self.fact = closes[1]
+                return
+        if not own or unfit.search(own[0][2]) or (self.file.startswith("src/") and other_shape.search(own[0][2])):
+            return
+        name = re.match(r"`[^`]*`", own[0][2])
+        self.fact = (name[0] if name else "its statement") + (f" of `{own[0][0]}`" if self.place is None else "")
+
+    def is_of_it(self, found):
+        """Whether an error in a file of proofs is one of the theorem, or of that field of a table of theorems."""
+        _, line, text = found
+        theorem = self.place_name()
+        source = (root / "crates" / self.crate / self.file).read_text().split("\n")[int(line) - 1]
+        return theorem == "module" or source.strip().startswith(f"{theorem} = ") or text.startswith(f"`{theorem}`")
 
 
-def enclosing(text, at, file):
-    """The function, theorem or field of a table in which a position stands; "module" for a premise of several theorems; None for a definition."""
+def enclosing(text, at, crate, file):
+    """The function, theorem or field of a table in which a position stands, as its path; ("module",) for a premise of
+    several theorems; None for a definition, or a declaration of the code."""
     if file.startswith("specs/"):
         return None
     if file.startswith("proofs/"):
-        if text[text.rfind("\n", 0, at) + 1 : at].lstrip().startswith("module "):
-            return "module"
-        names = [m for m in re.finditer(r"(?m)^\s*(?:unfoldable |abbrev )?(?:pub )?([^\s:({]+) :", text) if m.start() <= at]
-        return names[-1].group(1)
-    name, owner = None, ""
-    for m in re.finditer(r"(?m)^(?:impl (\w+)|( *)(?:pub )?(?:extern \"C\" )?fn (\w+))", text):
-        if m.start() > at:
-            break
-        if m.group(1):
-            owner = m.group(1) + "/"
-        else:
-            name = (owner if m.group(2) else "") + m.group(3)
-    return name
+        if text[text.rfind("\n", 0, at) + 1:at].lstrip().startswith("module "):
+            return ("module",)
+        named = re.finditer(r"(?m)^\s*(?:unfoldable |abbrev )?(?:pub )?([^\s:({]+) :", text)
+        return ([match[1] for match in named if match.start() <= at][-1],)
+    before = [f for f in project.functions_in(text, crate, project.module_of(file)) if f.start <= at]
+    return before[-1].path() if before else None
 
 
-def read(edit):
-    """The wrong versions of one file."""
-    crate, found = edit.parent.parent.name, []
-    for line in edit.read_text().split("\n"):
-        if line.startswith("wrong: "):
-            found.append(Wrong(crate, line[7:]))
-        elif line.startswith("# "):
-            found[-1].rule = (found[-1].rule + " " + line[2:]).strip()
-        elif line.startswith("file: "):
-            found[-1].file = line[6:]
-        elif line.startswith("old: "):
-            text = (root / "crates" / crate / found[-1].file).read_text()
-            found[-1].place = enclosing(text, text.find(line[5:]), found[-1].file)
-    return found
+def rows():
+    """The fact that the table has for each wrong version."""
+    text = document.read_text() if document.exists() else ""
+    return {name: fact for name, fact in re.findall(r"(?m)^\| .*? \| `(\w+/\w+)` \| .* \| (.*) \|$", text)}
 
 
-def refused(wrong, log):
-    """The fact at which a wrong version was refused; None if there is none."""
-    errors = [e for e in re.findall(r"(?m)^\S*?/((?:src|specs|proofs)/\S+?):(\d+):\d+: error: (.*)$", log) if not follows.search(e[2])]
-    if wrong.place is None:
-        own = errors[:1]
-    elif wrong.file.startswith("proofs/"):
-        lines = (root / "crates" / wrong.crate / wrong.file).read_text().split("\n")
-
-        def of_it(error):
-            field = lines[int(error[1]) - 1].strip().startswith(f"{wrong.place} = ")
-            return wrong.place == "module" or field or error[2].startswith(f"`{wrong.place}`")
-
-        own = [e for e in errors if e[0] == wrong.file and of_it(e)]
-    else:
-        own = [e for e in errors if e[0] == f"proofs/{wrong.place}/Proof.antt"]
-        path = wrong.place.replace("/", "::")
-        if not own and (m := re.search(rf"(?m)^fn {wrong.crate}::{path}: no proof: .*`search` does not close (`[^`]*`)", log)):
-            return m.group(1)
-    if not own or unfit.search(own[0][2]) or (wrong.file.startswith("src/") and other.search(own[0][2])):
-        return None
-    name = re.match(r"`([^`]*)`", own[0][2])
-    return (name.group(0) if name else "its statement") + (f" of `{own[0][0]}`" if wrong.place is None else "")
-
-
-def table(all_wrong):
-    """The lines of the table, a part for each crate."""
-    lines, crate = [mark], None
-    for w in all_wrong:
-        if w.crate != crate:
-            crate = w.crate
-            lines += ["", f"### `{crate}`", "", "| in | wrong version | breaks the rule | refused at |", "|---|---|---|---|"]
-        where = f"`{w.place.replace('/', '::')}`" if w.place else f"`{w.file}`"
-        lines.append(f"| {where} | `{w.crate}/{w.label}` | {w.rule} | {w.fact} |".replace("||", "\\|\\|"))
+def table(every):
+    """The whole document, with a table for each crate."""
+    lines, crate = [head.rstrip("\n")], None
+    for wrong in sorted(every, key=lambda wrong: (wrong.crate, "/".join(wrong.place or ()), wrong.label)):
+        if wrong.crate != crate:
+            crate = wrong.crate
+            header = "| in | wrong version | breaks the rule | refused at |"
+            lines += ["", f"## `{crate}`", "", header, "|---|---|---|---|"]
+        where = f"`{wrong.place_name() if wrong.place else wrong.file}`"
+        lines.append(f"| {where} | `{wrong.name()}` | {wrong.rule} | {wrong.fact} |".replace("||", "\\|\\|"))
     return "\n".join(lines) + "\n"
 
 
-def stale(edit):
-    """The texts of a file of wrong versions that do not stand once in the file that they are of."""
-    path, found = None, []
-    for line in edit.read_text().split("\n"):
-        if line.startswith("file: "):
-            path = edit.parent.parent / line[6:]
-        elif line.startswith("old: ") and path.read_text().count(line[5:]) != 1:
-            found.append(f"does not stand once in {path.name}: {line[5:]}")
-    return found
+def log_of(edit_file):
+    """The log of a round."""
+    return root / "target" / edit_file.parent.name / project.crate_of(edit_file) / edit_file.stem / ".log"
 
 
-def stored(wrong):
-    """The fact that the table has for a wrong version."""
-    row = re.search(rf"(?m)^\| .* \| `{wrong.crate}/{wrong.label}` \| .* \| (.*) \|$", (root / "docs/CONTRACTS.md").read_text())
-    return row and row.group(1)
+def judged(edit_file, stored, long):
+    """The wrong versions of a round, and the faults."""
+    name, log = f"{project.crate_of(edit_file)}/{edit_file.stem}", log_of(edit_file)
+    found = [Wrong(edit_file, entry) for entry in project.wrong_versions(edit_file)]
+    places, faults, tried = [(wrong.file, wrong.place) for wrong in found], [], log.exists()
+    if len(set(places)) < len(places) or (len(found) > 1 and any(wrong.place is None for wrong in found)):
+        faults.append(f"{name}: two wrong versions in one place, or one of a definition beside others")
+    for wrong in found:
+        faults += [f"{name}: {wrong.label}: {fault}" for fault in wrong.faults]
+        if tried:
+            wrong.judge(log.read_text())
+        else:
+            wrong.fact = stored.get(wrong.name())
+        if wrong.fact is None and (tried or wrong.long):
+            why = "is not refused at a fact" if tried else f"has no row in {project.name_of(document)} and no log"
+            advice = "" if tried else ": run `bash tests/long edits` first"
+            faults.append(f"{name}: {wrong.label} ({wrong.place_name()}) {why}{advice}")
+        if long and tried and wrong.fact != stored.get(wrong.name()):
+            faults.append(f"{name}: {wrong.label} is refused at {wrong.fact}, and {project.name_of(document)} says "
+                          f"{stored.get(wrong.name())}")
+        if not wrong.rule:
+            faults.append(f"{name}: {wrong.label} does not say what rule it breaks")
+    return found, faults
 
 
-everything, untried, bad = [], 0, []
-long = sys.argv[1:] == ["--long"]
-for edit in sorted(root.glob(f"crates/*/must-fail{'-long' if long else '*'}/*.edit")):
-    name = f"{edit.parent.parent.name}/{edit.stem}"
-    log = root / "target" / edit.parent.name / edit.parent.parent.name / edit.stem / ".log"
-    wrongs = read(edit)
-    places = [(w.file, w.place) for w in wrongs]
-    if len(set(places)) < len(places) or (len(wrongs) > 1 and any(w.place is None for w in wrongs)):
-        bad.append(f"{name}: two wrong versions in one place, or a definition's beside others")
-    tried = log.exists()
-    if not tried and (long or edit.parent.name != "must-fail-long"):
-        bad.append(f"{name}: no log")
-        continue
-    bad += [f"{name}: {what}" for what in stale(edit)]
-    untried += 0 if tried else len(wrongs)
-    for w in wrongs:
-        w.fact = refused(w, log.read_text()) if tried else stored(w)
-        if w.fact is None:
-            bad.append(f"{name}: {w.label} ({w.place}) " + ("is not refused at a fact" if tried else "is in no row of docs/CONTRACTS.md"))
-        if long and w.fact != stored(w):
-            bad.append(f"{name}: {w.label} is refused at {w.fact}, and docs/CONTRACTS.md says {stored(w)}")
-        if not w.rule:
-            bad.append(f"{name}: {w.label} does not say what rule it breaks")
-    everything += wrongs
+def verdict(long):
+    """Every wrong version, how many were judged, how many are left to the long tests, and the faults."""
+    stored, every, judged_count, left, faults, without_log = rows(), [], 0, 0, [], []
+    for edit_file in project.edit_files():
+        gate = edit_file.parent.name == "must-fail"
+        if long and gate:
+            continue
+        found, bad = judged(edit_file, stored, long)
+        every, faults = every + found, faults + bad
+        if log_of(edit_file).exists():
+            judged_count += len(found)
+        elif long or gate:
+            without_log.append(f"{project.crate_of(edit_file)}/{edit_file.stem}")
+        else:
+            left += len(found)
+    if without_log:
+        command = "bash tests/long edits" if long else "rt ci"
+        faults.append(f"no log of {len(without_log)} rounds: run `{command}` first, which leaves them in target: "
+                      f"{', '.join(without_log)}")
+    names = [wrong.name() for wrong in every]
+    faults += sorted({f"{name}: twice" for name in names if names.count(name) > 1})
+    return every, judged_count, left, faults
 
-labels = [f"{w.crate}/{w.label}" for w in everything]
-bad += sorted({f"{label}: twice" for label in labels if labels.count(label) > 1})
-everything.sort(key=lambda w: (w.crate, w.place or "", w.label))
-document = root / "docs/CONTRACTS.md"
-text = document.read_text()
-written = text[: text.index(mark)] + table(everything)
-if sys.argv[1:] == ["--table"]:
-    document.write_text(written)
-elif text != written and not long:
-    bad.append("docs/CONTRACTS.md: its table is not that of the edits; python3 tests/edits.py --table writes it")
-for line in bad:
-    print(line)
-left = f"; left out {untried}, which tests/long tries" if untried else ""
-print(f"{len(everything) - untried} wrong versions judged, {len(bad)} faults{left}")
-sys.exit(1 if bad or len(everything) == untried else 0)
+
+def generated():
+    every, _, _, faults = verdict(False)
+    if faults:
+        raise Faults(*faults)
+    return {document: table(every)}
+
+
+def main(words):
+    if words == ["--table"]:
+        return project.write_or_compare(generated(), False, "")
+    if words not in ([], ["--long"]):
+        raise Faults(__doc__)
+    _, count, left, faults = verdict(words == ["--long"])
+    skipped = f"; skipped: {left}, which `bash tests/long edits` tries" if left else ""
+    return project.finish(faults, f"{count} wrong versions judged, {len(faults)} faults{skipped}", count)
+
+
+if __name__ == "__main__":
+    project.run(main)

@@ -1,24 +1,23 @@
-"""Stored bench logs, and what the program must print for them, by an implementation of document 01 that shares no code with this project.
+"""Bench logs, and what the program bench_log must print for them, by an implementation of document 01 that shares no
+code with the Rattle crates.
 
-python3 tests/logs.py --make              writes tests/logs/NAME.in and NAME.out, and one of them to crates/bench_log
-python3 tests/logs.py --compare PROGRAM   computes them again, compares them with what is stored, and runs PROGRAM on each
+python3 tests/logs.py --make              writes tests/logs/NAME.in and NAME.out, and one of them to crates/bench_log,
+                                          where `rt check` runs the program on it
+python3 tests/logs.py --compare PROGRAM   runs PROGRAM on each log, and on one too long to be stored; compares what it
+                                          prints, and the stored logs, with what is computed here
 """
-import binascii
-import pathlib
 import struct
 import subprocess
-import sys
 
-here = pathlib.Path(__file__).resolve().parent / "logs"
-crate, given = here.parent.parent / "crates/bench_log", "three_ids"  # what `rt check` runs the program on
+import project
+from bench import OK, REQUEST, SELECT, UNSUPPORTED, bits_of, check, frame
+from project import root
+
+folder = root / "tests/logs"
+crate, given = root / "crates/bench_log", "three_ids"
 
 
-# The bench frame and hearing.
-
-def frame(command, status, payload, flags=0, address=0):
-    body = struct.pack("<BBBBIH", 0xA5, command, status, flags, address, len(payload)) + payload
-    return body + struct.pack("<H", binascii.crc_hqx(body, 0xFFFF))
-
+# Hearing.
 
 def hear(record):
     """What a Select hears: ('nothing',), ('one', id), ('unaddressed',) or ('garble',)."""
@@ -30,16 +29,16 @@ def hear(record):
         if n > 1024 or len(record) - at < 12 + n:
             return ("garble",)
         body = record[at:at + 10 + n]
-        if struct.unpack_from("<H", record, at + 10 + n)[0] != binascii.crc_hqx(body, 0xFFFF):
+        if struct.unpack_from("<H", record, at + 10 + n)[0] != check(body):
             return ("garble",)
-        if body[2] != 0:
+        if body[2] != REQUEST:
             replies.append((body[2], body[10:]))
         at += 12 + n
     if not replies:
         return ("nothing",)
-    if len(replies) == 1 and replies[0][0] == 1:
+    if len(replies) == 1 and replies[0][0] == OK:
         return ("one", replies[0][1])
-    if len(replies) == 1 and replies[0][0] == 2:
+    if len(replies) == 1 and replies[0][0] == UNSUPPORTED:
         return ("unaddressed",)
     return ("garble",)
 
@@ -48,10 +47,6 @@ def hear(record):
 
 class Stop(Exception):
     pass
-
-
-def bits_of(data):
-    return [data[k // 8] >> (k % 8) & 1 for k in range(8 * len(data))]
 
 
 def select(bits):
@@ -152,7 +147,8 @@ def output(data):
 # Logs of pods that answer honestly, and of wires that do not.
 
 def log(prefix, wire):
-    """The log of a discovery over a wire: a function of the Select's number and bits, to a list of frames or other bytes."""
+    """The log of a discovery over a wire: a function from a Select's number and bits to a list of frames or other
+    bytes."""
     lines, heard, talk, k = [b"01" + prefix.hex().encode()], None, discover(prefix), 0
     try:
         while True:
@@ -165,16 +161,16 @@ def log(prefix, wire):
 
 
 def reply(ident):
-    return frame(5, 1, ident)
+    return frame(SELECT, OK, ident)
 
 
 def pods(*idents, echo=False):
     def wire(k, bits):
-        own = [frame(5, 0, bytes([(k + 1) % 256, len(bits)]))] if echo else []
-        here_ = [i for i in idents if bits_of(i)[:len(bits)] == bits]
-        if len(here_) == 1:
-            return own + [reply(here_[0])]
-        return own + ([b"\xff\x00\xff"] if here_ else [])
+        own = [frame(SELECT, REQUEST, bytes([(k + 1) % 256, len(bits)]))] if echo else []
+        matching = [i for i in idents if bits_of(i)[:len(bits)] == bits]
+        if len(matching) == 1:
+            return own + [reply(matching[0])]
+        return own + ([b"\xff\x00\xff"] if matching else [])
     return wire
 
 
@@ -216,11 +212,11 @@ def logs():
     yield "garble_down_to_128_bits", log(b"", always(b"\x00"))
     yield "an_id_and_one_that_it_begins", log(b"", pods(b"\x00", b"\x00\xff"))
     yield "the_shorter_id_lost", log(b"", pods(b"\x00", b"\x00\x00"))
-    yield "unaddressed", log(b"", always(frame(5, 2, b"")))
+    yield "unaddressed", log(b"", always(frame(SELECT, UNSUPPORTED, b"")))
     yield "an_id_of_17_bytes", log(b"", always(reply(bytes(17))))
     yield "an_id_of_17_bytes_with_noise", log(b"", always(reply(bytes(17)), b"\x00"))
     yield "two_clean_replies", log(b"\x00" * 16, always(reply(b"\x01"), reply(b"\x02")))
-    yield "a_long_frame", log(b"\x00" * 16, always(frame(5, 1, bytes(1024))))
+    yield "a_long_frame", log(b"\x00" * 16, always(frame(SELECT, OK, bytes(1024))))
     yield "empty_input", b""
     yield "an_empty_first_line", b"\n01\n"
     yield "first_line_02", b"02\n\n\n"
@@ -245,63 +241,59 @@ def logs():
 
 
 def long_log():
-    """A log of over 31,000 Selects: 64 ids that part in their first six bits, each made to fail its confirmation down to its last bit."""
+    """A log of over 31,000 Selects: 64 ids that part in their first six bits, each made to fail its confirmation down
+    to its last bit."""
     idents = [bytes([i]) + bytes(15) for i in range(64)]
     spelt, asked = [(bits_of(i), reply(i)) for i in idents], set()
 
     def wire(k, bits):
-        here_ = [answer for own, answer in spelt if own[:len(bits)] == bits]
-        if len(here_) == 1:
-            return here_
-        if not here_ and tuple(bits) in asked:
+        matching = [answer for own, answer in spelt if own[:len(bits)] == bits]
+        if len(matching) == 1:
+            return matching
+        if not matching and tuple(bits) in asked:
             return []
         asked.add(tuple(bits))
         return [b"\x00"]
     return log(b"", wire)
 
 
-def main():
-    if sys.argv[1:] == ["--make"]:
-        here.mkdir(exist_ok=True)
-        for old in list(here.glob("*.in")) + list(here.glob("*.out")):
-            old.unlink()
-        for name, data in logs():
-            (here / f"{name}.in").write_bytes(data)
-            (here / f"{name}.out").write_bytes(output(data))
-            if name == given:
-                (crate / "stdin").write_bytes(data)
-                (crate / "stdout").write_bytes(output(data))
-        return 0
-    if len(sys.argv) != 3 or sys.argv[1] != "--compare":
-        print(__doc__)
-        return 2
-    program, bad, names = sys.argv[2], [], set()
-    assert output(b"01\n\n\n") == b"00000002\n"
+# The stored logs, and the program.
 
-    def run(name, data, wanted):
-        done = subprocess.run([program], input=data, stdout=subprocess.PIPE)
-        got = done.stdout
-        if done.returncode != 0:
-            bad.append(f"{name}: {program} ended with status {done.returncode}")
-        if got != wanted:
-            bad.append(f"{name}: {program} wrote {got[:80]!r}, and not {wanted[:80]!r}")
-
+def generated():
+    """The stored logs; any other file in their folder should not be there."""
+    files = {path: None for path in folder.iterdir()} if folder.exists() else {}
     for name, data in logs():
-        names.add(name)
-        stored = [(here / f"{name}.{end}") for end in ("in", "out")]
-        if [s.read_bytes() if s.exists() else None for s in stored] != [data, output(data)]:
-            bad.append(f"{name}: what is stored is not what this script computes")
-        run(name, data, output(data))
-        if name == given and [(crate / f).read_bytes() for f in ("stdin", "stdout")] != [data, output(data)]:
-            bad.append(f"crates/bench_log: stdin and stdout are not those of {name}")
-    if given not in names or {f.stem for f in here.iterdir()} != names:
-        bad.append("the stored logs are not those that this script makes")
-    data = long_log()
-    run("the long log", data, output(data))
-    for line in bad:
-        print(line)
-    print(f"{len(names) + 1} logs, {len(bad)} faults; the long log has {len(data):,} bytes and ends {output(data)[-9:].decode().strip()}")
-    return 1 if bad else 0
+        files[folder / f"{name}.in"], files[folder / f"{name}.out"] = data, output(data)
+        if name == given:
+            files[crate / "stdin"], files[crate / "stdout"] = data, output(data)
+    assert crate / "stdin" in files
+    return files
 
 
-sys.exit(main())
+def faults_of_run(program, name, data):
+    """What is wrong with what the program prints for a log."""
+    done, wanted = subprocess.run([program], input=data, stdout=subprocess.PIPE), output(data)
+    if done.returncode != 0:
+        yield f"{name}: {program} ended with status {done.returncode}"
+    if done.stdout != wanted:
+        yield f"{name}: {program} wrote {done.stdout[:80]!r}, and not {wanted[:80]!r}"
+
+
+def main(words):
+    if words == ["--make"]:
+        return project.write_or_compare(generated(), False, "")
+    if len(words) != 2 or words[0] != "--compare":
+        raise project.Faults(__doc__)
+    assert output(b"01\n\n\n") == b"00000002\n"
+    every, data = list(logs()), long_log()
+    stored = project.differing(generated())
+    faults = [f"{project.name_of(path)} differs: python3 tests/logs.py --make writes it" for path in stored]
+    for name, log_data in [*every, ("the long log", data)]:
+        faults += faults_of_run(words[1], name, log_data)
+    end = output(data)[-9:].decode().strip()
+    return project.finish(faults, f"{len(every) + 1} logs, {len(faults)} faults; the long log has {len(data):,} bytes "
+                          f"and ends {end}", every)
+
+
+if __name__ == "__main__":
+    project.run(main)

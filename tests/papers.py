@@ -1,39 +1,59 @@
 """The documents name what is there: each theorem, file and wrong version that README.md and docs/ cite exists.
 
-A theorem is cited as `file.antt: name` in docs/THEOREMS.md; a wrong version as `crate/label`.
+python3 tests/papers.py
+
+A theorem is cited as `FILE.antt: NAME` in docs/THEOREMS.md, with several names after commas; a wrong version as
+`CRATE/LABEL`; a file by its path from crates/, tests/, docs/, bindings/ or oracle/ on.
 """
-import pathlib
 import re
-import sys
 
-root = pathlib.Path(__file__).resolve().parent.parent
-bad = []
+import project
+from project import Faults, root
 
-theorems = (root / "docs/THEOREMS.md").read_text()
-cited = re.findall(r"`(crates/[\w/.]+\.antt): ([^`]+)`", theorems)
-for path, names in cited:
-    file = root / path
-    if not file.exists():
-        bad.append(f"THEOREMS.md: no file {path}")
-        continue
-    text = file.read_text()
-    for name in re.split(r",\s*", names):
-        if not re.search(rf"^\s*(?:abbrev |unfoldable )?pub (?:record |data )?{re.escape(name)}\b", text, re.M):
-            bad.append(f"THEOREMS.md: {path} has no public {name}")
 
-wrong = {f"{e.parent.parent.name}/{label}" for e in root.glob("crates/*/must-fail*/*.edit") for label in re.findall(r"(?m)^wrong: (.*)$", e.read_text())}
-crates = {c.name for c in (root / "crates").iterdir()}
-for doc in sorted(root.glob("docs/*.md")):
-    for label in re.findall(r"`(\w+/\w+)`", doc.read_text()):
-        if label.split("/")[0] in crates and label not in wrong:
-            bad.append(f"{doc.name}: no wrong version {label}")
+def theorems():
+    """The citations of docs/THEOREMS.md: a file, and names in it."""
+    cited = re.findall(r"`(crates/[\w/.]+\.antt): ([^`]+)`", (root / "docs/THEOREMS.md").read_text())
+    return [(root / path, re.split(r",\s*", names)) for path, names in cited]
 
-for doc in [root / "README.md", *root.glob("docs/*.md")]:
-    for path in re.findall(r"`((?:crates|tests|docs|bindings)/[\w/.]+\.\w+)`", doc.read_text()):
-        if not (root / path).exists():
-            bad.append(f"{doc.name}: no file {path}")
 
-for line in bad:
-    print(line)
-print(f"{len(cited)} citations of theorems, {len(wrong)} wrong versions, {len(bad)} faults")
-sys.exit(1 if bad or not cited else 0)
+def faults_of_theorems():
+    for path, names in theorems():
+        if not path.exists():
+            yield f"docs/THEOREMS.md: no file {project.name_of(path)}"
+            continue
+        text = path.read_text()
+        for name in names:
+            if not re.search(rf"(?m)^\s*(?:abbrev |unfoldable )?pub (?:record |data )?{re.escape(name)}\b", text):
+                yield f"docs/THEOREMS.md: {project.name_of(path)} has no public {name}"
+
+
+def faults_of_labels(wrong):
+    crates = set(project.crates())
+    for document in sorted(root.glob("docs/*.md")):
+        for label in re.findall(r"`(\w+/\w+)`", document.read_text()):
+            if label.split("/")[0] in crates and label not in wrong:
+                yield f"{project.name_of(document)}: no wrong version {label}"
+
+
+def faults_of_files():
+    for document in [root / "README.md", *sorted(root.glob("docs/*.md"))]:
+        named = re.findall(r"(?<![\w/.-])((?:crates|tests|docs|bindings|oracle)/[\w/.-]*\.\w+)", document.read_text())
+        for path in named:
+            if not (root / path).exists():
+                yield f"{project.name_of(document)}: no file {path}"
+
+
+def main(words):
+    if words:
+        raise Faults(__doc__)
+    wrong = {f"{project.crate_of(file)}/{entry.label}"
+             for file in project.edit_files() for entry in project.wrong_versions(file)}
+    faults = [*faults_of_theorems(), *faults_of_labels(wrong), *faults_of_files()]
+    cited = theorems()
+    summary = f"{len(cited)} citations of theorems, {len(wrong)} wrong versions, {len(faults)} faults"
+    return project.finish(faults, summary, cited)
+
+
+if __name__ == "__main__":
+    project.run(main)
