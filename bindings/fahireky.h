@@ -5,8 +5,8 @@
  * proved against written definitions. This header, with its inline function, is not.
  *
  * Buffers. The client's state is a buffer of FAHIREKY_STATE bytes that the caller owns. All zero is a new client. Any
- * content is safe: no call misbehaves on it. (If a content did not come from a call, an answer may show an id where
- * none is attached, or an id's length above 16, which counts as 16.) Calls keep no pointer, allocate nothing and use
+ * content is safe: no call misbehaves on it. (If you pass bytes that no call wrote, the answer may show an id
+ * although none is attached, or a length above 16: read it as 16.) Calls keep no pointer, allocate nothing and use
  * no global state. The buffers passed to one call must not overlap. A pointer may be NULL where its length is 0.
  *
  * Operations.
@@ -15,7 +15,7 @@
  *   3. If the answer to that call says FAHIREKY_CLOSING, the operation has succeeded, and nothing is received.
  *   4. Otherwise receive, and pass the bytes to fahireky_record; if the link failed, call fahireky_link_failed instead.
  *   5. If the answer says FAHIREKY_ONWARD, go on with 2. Otherwise the operation has ended, with an outcome or with a
- *      refusal (but not with 16, 20 or 21: see below).
+ *      refusal. Refusals 16, 20 and 21 do not end it.
  * The bytes after the frame that answered a request stay unread. The answer has the place where they begin
  * (FAHIREKY_AT_REST), and the caller puts them before the bytes of the next record. A Select reads the whole record.
  *
@@ -56,7 +56,7 @@ extern "C" {
 enum fahireky_refusal {
     FAHIREKY_NO_REFUSAL = 0,
     FAHIREKY_IO = 1,                 /* the link failed, or the record has no complete frame that answers */
-    FAHIREKY_DEVICE = 2,             /* carries the answer's status, which is not Ok; 3 also for a wrong check */
+    FAHIREKY_DEVICE = 2,             /* carries the status, not Ok; status 3 also if the answer's check is wrong */
     FAHIREKY_FIRMWARE_TOO_LARGE = 3, /* carries size and capacity */
     FAHIREKY_CRC_MISMATCH = 4,       /* after a flash; carries the check expected and the actual one */
     FAHIREKY_BAD_INFO = 5,           /* device information too short, or with a value that cannot be used */
@@ -165,9 +165,10 @@ static inline const char *fahireky_refusal_text(unsigned number)
 
 /* Starting an operation.
  *
- * Each of these returns a code without a length. The answer says FAHIREKY_ONWARD, or FAHIREKY_REFUSED: with 16 for the
- * state or the answer buffer, with 21 if an operation is running, and with what else the call's comment lists. How the
- * operation can end is listed after it; 1 ends every operation whose link failed. */
+  * Each of these returns a code. If the state or the answer buffer is too short, it is 16 with the length needed, and
+ * nothing is written. Otherwise it has no length, and the answer says FAHIREKY_ONWARD, or FAHIREKY_REFUSED: with 21 if
+ * an operation is running, and with what else the call's comment lists. How the operation can end is listed after it;
+ * 1 ends every operation whose link failed. */
 
 /* Selects the pods whose ids begin with the first `bits` bits of a prefix. Refusal: 13.
  * Ends with FAHIREKY_OUTCOME_HEARD, or with 14. */
@@ -228,7 +229,7 @@ uint64_t fahireky_request(uint8_t *state, size_t state_len, const uint8_t *image
                           uint8_t *buffer, size_t buffer_len, uint8_t *answer, size_t answer_len);
 
 /* Takes a record: the unread rest of the last one, then the bytes received since. The image is as for
- * fahireky_request. Returns a code without a length. The answer says FAHIREKY_ONWARD, FAHIREKY_ENDED or
+ * fahireky_request. Returns a code, with a length only for 16. The answer says FAHIREKY_ONWARD, FAHIREKY_ENDED or
  * FAHIREKY_REFUSED. After 1 nothing is unread; after 20 and 21 the whole record is.
  * Refusals: 16; 20; 21 if no record is expected; and those that can end the operation. */
 uint64_t fahireky_record(uint8_t *state, size_t state_len, const uint8_t *image, size_t image_len,
@@ -236,18 +237,18 @@ uint64_t fahireky_record(uint8_t *state, size_t state_len, const uint8_t *image,
 
 /* Ends the operation because the link failed. If the request was a Select (its byte 1 is 5), this is for a failure to
  * send only: if receiving failed, pass what was received to fahireky_record. The caller drops the rest of earlier
- * records. Returns a code without a length.
+ * records. Returns a code, with a length only for 16.
  * Refusals: 16; 21 if no record is expected; otherwise always 1. */
 uint64_t fahireky_link_failed(uint8_t *state, size_t state_len, uint8_t *answer, size_t answer_len);
 
-/* Shows the attached id, at any time. Returns a code without a length. The answer says FAHIREKY_ENDED, with
+/* Shows the attached id, at any time. Returns a code, with a length only for 16. The answer says FAHIREKY_ENDED, with
  * FAHIREKY_OUTCOME_ATTACHED.
  * Refusal: 16. */
 uint64_t fahireky_attached(const uint8_t *state, size_t state_len, uint8_t *answer, size_t answer_len);
 
 /* Calls without a client. */
 
-/* Shows what a select hears in a record. Returns a code without a length. The answer says FAHIREKY_ENDED, with
+/* Shows what a select hears in a record. Returns a code, with a length only for 16. The answer says FAHIREKY_ENDED, with
  * FAHIREKY_OUTCOME_HEARD.
  * Refusals: 14, 16. */
 uint64_t fahireky_hear(const uint8_t *record, size_t record_len, uint8_t *answer, size_t answer_len);

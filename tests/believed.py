@@ -503,7 +503,7 @@ mean.
 @## What the code does
 
 TOTAL. The code's contracts cite them, or they are parts of what these cite: that the
-code does what they say is proved, and not believed. They are read to know of what a promise speaks.
+code does what they say is proved, and not believed. They are read to understand what a promise is about.
 
 @## The code's records, enums and constants
 

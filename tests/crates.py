@@ -1,5 +1,5 @@
-"""docs/CRATES.md: each crate with its lines of code, definitions and proofs, its wrong versions, and how long its check
-takes.
+"""docs/CRATES.md: each crate with its functions, its lines of code, definitions and proofs, its wrong versions, and how
+long its check takes.
 
 python3 tests/crates.py --table [LOG]   writes it. The seconds are those of LOG, the output of `rt ci` or `rt prove`, or
                                         else of target/log, where such a run leaves them. After another run, which does
@@ -15,12 +15,12 @@ from project import Faults, root
 document = root / "docs/CRATES.md"
 head = """# The crates in numbers
 
-Lines of code (`src`), of definitions (`specs`) and of proofs (`proofs`, skeletons included); wrong versions, and the
-rounds in which they are tried; the seconds that a check of the crate took in the gate, where several run beside each
-other on two cores. `tests/crates.py` writes this file.
+Functions; lines of code (`src`), of definitions (`specs`) and of proofs (`proofs`, skeletons included); wrong versions,
+and the rounds in which they are tried; the seconds that a check of the crate took in the gate, where several checks run
+at a time on two cores. `tests/crates.py` writes this file.
 
-| crate | what it is for | code | definitions | proofs | wrong versions | rounds | seconds |
-|---|---|---:|---:|---:|---:|---:|---:|
+| crate | what it is for | functions | code | definitions | proofs | wrong versions | rounds | seconds |
+|---|---|---:|---:|---:|---:|---:|---:|---:|
 """
 
 
@@ -38,7 +38,8 @@ def counts(crate):
     rounds = project.edit_files(crate.name)
     wrong = sum(len(project.wrong_versions(edit)) for edit in rounds)
     sizes = [lines(crate / folder, end) for folder, end in (("src", ".rt"), ("specs", ".antt"), ("proofs", ".antt"))]
-    return [*sizes, wrong, len(rounds)]
+    functions = sum(1 for function in project.functions() if function.crate == crate.name)
+    return [functions, *sizes, wrong, len(rounds)]
 
 
 def seconds_in(log):
@@ -64,7 +65,7 @@ def generated(seconds=None):
     if missing:
         raise Faults(f"docs/CRATES.md: no seconds for {', '.join(missing)}: run `rt ci` first, which leaves them in "
                      "target/log")
-    text, totals = head, [0] * 6
+    text, totals = head, [0] * 7
     for name in project.crates():
         crate = root / "crates" / name
         numbers = [*counts(crate), seconds[name]]
@@ -72,7 +73,7 @@ def generated(seconds=None):
         cells = [str(n) if n else "" for n in numbers[:-1]] + [str(numbers[-1])]
         text += f"| `{name}` | {purpose(crate)} | {' | '.join(cells)} |\n"
     text += "| all | | " + " | ".join([*(f"{n:,}" for n in totals[:-1]), str(totals[-1])]) + " |\n"
-    return {document: text + f"\nLines of proof for each line of code: {totals[2] / totals[0]:.1f}.\n"}
+    return {document: text + f"\nLines of proof for each line of code: {totals[3] / totals[1]:.1f}.\n"}
 
 
 def generated_anew():

@@ -24,7 +24,7 @@ docs = root / "docs"
 
 # Of each family: one of its crates, which tells its group in crates.txt; and what the family is.
 FAMILIES = {
-    "paper": ("paper", "document 01 as definitions; laws that the kit lacks"),
+    "paper": ("paper", "document 01 as definitions, believed; in lore proved laws on lists"),
     "leaves": ("wire", "bytes, checks, frames, ids, what a record says, images"),
     "walk": ("walk", "the search over the bits of ids, on fixed arrays"),
     "select": ("select", "the request that a search sends"),
@@ -32,7 +32,7 @@ FAMILIES = {
     "host": ("fahireky", "the client in lent buffers; every call exported"),
     "log": ("log_feed", "stored lines in, a discovery over them, its listing out"),
     "theory": ("theory", "what follows from the paper, and what is promised"),
-    "programs": ("bench_log", "the bench log, worked examples, a replay of stored runs"),
+    "programs": ("bench_log", "the bench log (it cites log_theory), worked examples, a replay"),
 }
 # Of each kind of crate: its colour, and its words in the legend.
 KINDS = {
@@ -637,7 +637,7 @@ def discovery_rows():
             right("the client", [front, place, begun], fill=DATA),
         ],
         [
-            step("walk_step::step", "goes down, climbs, turns; keeps an id that both children confirm"),
+            step("walk_step::step", "goes down, climbs, turns; keeps an id once it is confirmed"),
             step("host_state::apply", "in lent bytes; the front by host_state::save_front", 671, 190),
             step("client_record::told", "by value; the walk by client_record::walk_after", 881, 190),
         ],
@@ -681,13 +681,13 @@ def discovery():
         upright(told, client),
         upright(client, ask, taken("client_request::ask", "f", "p")),
         upright(ask, select, *(taken("select::write_select", *names) for names in (("seed", "bits"), ("count",)))),
-        upright(select, host, "the request's bytes", shown("wire", "Placed")),
+        upright(select, host, "the request's bytes"),
     ]
     boxes = [box for row in rows for box in row] + [box for _, labels in parts for box in labels]
     check_names(boxes)
     check_calls()
     boxes += legend([(CODE, "function", False), (DATA, "data", False), (WHITE, "outside", True)])
-    title = "One discovery: from the bytes heard to the next request"
+    title = "One discovery: from the bytes heard to the next request (data flow, not call order)"
     return Picture(title, 1000, bands[-1][1] + MARGIN, boxes, [arrow for arrow, _ in parts])
 
 

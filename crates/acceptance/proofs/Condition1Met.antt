@@ -117,8 +117,7 @@ pub asked-ready-met :
     × (request ready image (replicate 17 0xEE)
     ≡ record {
       answer = record { says = Granted 16; client = writing };
-      bytes = frameBytes
-          (demandFrame (writeRequest device 5 4) image) ++ (0xEE ∷ []);
+      bytes = frameBytes (demandFrame (writeRequest device 5 4) image) ++ (0xEE ∷ []);
     }))
 unfolding otherImage otherFor granting handing handed frameOf demandOf frameBytes frameBody frameHead le payloadOf
     chunk padding
@@ -126,8 +125,7 @@ asked-ready-met = (
   Condition1.asked-ready ready shorter (replicate 15 0xEE) second refl,
   (
     Condition1.asked-ready ready image (replicate 15 0xEE) second refl,
-    Condition1.asked-ready ready image
-        (replicate 17 0xEE) second refl,
+    Condition1.asked-ready ready image (replicate 17 0xEE) second refl,
   ),
 )
 
@@ -139,8 +137,7 @@ pub asked-closing-met :
     request (turned quietly (Ready parting)) [] (replicate 12 0xEE)
     ≡ record {
       answer = record { says = Closing 12; client = quietly };
-      bytes = frameBytes
-          (demandFrame (resetRequest true none) []);
+      bytes = frameBytes (demandFrame (resetRequest true none) []);
     }
 unfolding otherImage granting handing handed frameOf idle frameBytes frameBody frameHead le payloadOf
 asked-closing-met = Condition1.asked-ready (turned quietly (Ready parting)) [] (replicate 12 0xEE) parting refl

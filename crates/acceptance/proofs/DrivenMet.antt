@@ -253,8 +253,7 @@ second-handed : Hands handed first-five second-write
 unfolding read readSynced readSized rightCheck skipped number check crcFrom crcByte crcBit
 second-handed = record {
   sent = then writing-4 wrote;
-  later = then verifying verified
-      ∷ [];
+  later = then verifying verified ∷ [];
   cut = handed-is;
   frame = refl;
 }

@@ -78,8 +78,7 @@ module _ (S : List Id) (only : matching under S ≡ pod ∷ []) where
       let h : 8 ≤ length q = omega (
         arith,
         ap length (begins-splits under q e),
-        length-append under
-            (drop (length under) q),
+        length-append under (drop (length under) q),
         bits-length pod,
       ) in
       ap hear (garbling-clear k q ((seed + suc k) % 256) h n)

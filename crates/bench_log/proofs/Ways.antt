@@ -32,7 +32,6 @@ report-fits before after n r =
     omega (
       arith,
       ap (λ (p : Placed). p .len) (r .same),
-      ap (λ (p : Placed). length (p .bytes))
-          (r .same),
+      ap (λ (p : Placed). length (p .bytes)) (r .same),
       length-append (output (concat (r .fed))) (drop (length (output (concat (r .fed)))) before),
     )

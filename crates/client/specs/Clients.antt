@@ -139,8 +139,7 @@ stops c says at = over c says noId noTable at
 unfoldable pub onward : Client → Phase → Walk → ℕ → Told
 onward c p w at = record {
   says = Onward;
-  client = begun c (Ready p) (c .prefix)
-      (c .bits) w;
+  client = begun c (Ready p) (c .prefix) (c .bits) w;
   rest = at;
   progress = None;
   id = noId;

@@ -111,16 +111,14 @@ module _ (why : Purpose) (info : Info) where
     pub erased-on : (next : ℕ) → a ≡ At next
         → _≡_ {A = Next} (record {
           progress = Made (eraseProgress (paperInfo info) address) (info .capacity);
-          then = On
-              (Erasing why info next);
+          then = On (Erasing why info next);
         }) (erased why info address)
     unfolding erased
     erased-on next h = rw (sym e ∙ h)
 
     pub erased-last : (r : Then) → a ≡ Done → r ≡ cleared why info
         → _≡_ {A = Next} (record {
-          progress = Made (eraseProgress (paperInfo info) address)
-              (info .capacity);
+          progress = Made (eraseProgress (paperInfo info) address) (info .capacity);
           then = r;
         }) (erased why info address)
     unfolding erased
@@ -170,8 +168,7 @@ module _ (info : Info) (payload image : List ℕ) where
       le-ltb (length payload) 2 h,
       ex,
       ey,
-      ne-eqb (crcFrom 0xFFFF image) (field 0 2 payload)
-          (λ q. e (ex ∙ q ∙ sym ey)),
+      ne-eqb (crcFrom 0xFFFF image) (field 0 2 payload) (λ q. e (ex ∙ q ∙ sym ey)),
     )
 
 module _ (j : Job) (payload image : List ℕ) (r : Next) where

@@ -83,8 +83,7 @@ erased why info address =
     onErase (eraseAfter (paperInfo info) address)
     (λ next. record {
       progress = Made (eraseProgress (paperInfo info) address) (info .capacity);
-      then = On
-          (Erasing why info next);
+      then = On (Erasing why info next);
     })
     (record { progress = Made (eraseProgress (paperInfo info) address) (info .capacity); then = cleared why info })
 

@@ -146,7 +146,7 @@ fn hears(f: Front, p: Place, count: usize, search: Search, h: Heard, id: Id, at:
     }
 }
 
-// Handles the record of a phase's request. A request that is not awaited is never out, so no calls lead to its case.
+// Handles the record of a phase's request. The case `Leave` is not reached: such a request awaits no record.
 fn answered(f: Front, p: Place, count: usize, phase: Phase, image: &[u8], bytes: &[u8]) -> Verdict
     ensures { λ r. ⌜ ((t : Table) → t .count ≡ count
         → toldOf r (walkOf p t) ≡ answeredTo (clientOf f (walkOf p t)) phase (now (image .entry)) (now (bytes .entry)))

@@ -114,15 +114,13 @@ placing c p bytes buffer = go (ltb (length buffer) (length bytes))
 
     go : (b : Bool)
         → _≡_ {A = Asking} (record {
-          answer = granted c p
-              (cond b short done .answer);
+          answer = granted c p (cond b short done .answer);
           bytes = cond b short done .bytes;
         })
         (cond b (withheld c (ShortBuffer (length bytes)) buffer)
         (record {
           answer = record { says = handing p (length bytes); client = handed c p };
-          bytes = bytes
-              ++ drop (length bytes) buffer;
+          bytes = bytes ++ drop (length bytes) buffer;
         }))
     go true = refl
     go false = refl

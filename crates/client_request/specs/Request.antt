@@ -95,8 +95,7 @@ granting c p bytes buffer =
     cond (ltb (length buffer) (length bytes)) (withheld c (ShortBuffer (length bytes)) buffer)
     (record {
       answer = record { says = handing p (length bytes); client = handed c p };
-      bytes = bytes
-          ++ drop (length bytes) buffer;
+      bytes = bytes ++ drop (length bytes) buffer;
     })
 
 -- The request of a phase, when the image has the right length.

@@ -72,8 +72,7 @@ abbrev shr : ℕ → Linear
 shr k = record {
   of = λ x. x / 2 ^ k;
   apart = λ x y. xor-shr x y k;
-  fits = λ x h. lt-of-le-of-lt
-      (div-le-self x (2 ^ k)) h;
+  fits = λ x h. lt-of-le-of-lt (div-le-self x (2 ^ k)) h;
 }
 
 abbrev shl : ℕ → Linear

@@ -27,12 +27,12 @@ use Rattle.client_request.specs.Request.{Asking, request}
 use Rattle.host_state.specs.State as State
 use Rattle.host_state.specs.State.{loaded}
 use Rattle.host_buffers.specs.Codes.{Coded, writtenCode, writes, readUid, keyCode}
-use Rattle.host_buffers.specs.Hosts.{lent, lacks, Exported, toldBy, leaves, tells, starts, handed, asks, requests}
+use Rattle.host_buffers.specs.Hosts.{lent, shortCode, Exported, toldBy, leaves, tells, starts, handed, asks, requests}
 use Rattle.host_buffers.specs.Hosts.{shows, showsAttached, views, saidOf, hearsOut}
 use Rattle.host_buffers.proofs.Ways.{state-room, answer-room, lent-short, lent-enough}
 
 -- A state or an answer's buffer that is too short.
-module _ (s a : List ℕ) (k : ℕ) (e : k ≡ lacks (length s) (length a)) (n : k ≡ 0 → ⊥) where
+module _ (s a : List ℕ) (k : ℕ) (e : k ≡ shortCode (length s) (length a)) (n : k ≡ 0 → ⊥) where
   pub tells-short : (f : Client → Told) → record { code = k; state = s; answer = a } ≡ tells f s a
   unfolding tells
   tells-short f = lent-short (length s) (length a) k e (λ (code : ℕ). record { code = code; state = s; answer = a })
@@ -56,7 +56,7 @@ module _ (s a : List ℕ) (k : ℕ) (e : k ≡ lacks (length s) (length a)) (n :
 
 -- Both are long enough: the decision on the front, the place and the count is that of the call on the client in the
 -- state.
-module _ (s a : List ℕ) (k : ℕ) (f : Front) (e : k ≡ lacks (length s) (length a)) (z : k ≡ 0)
+module _ (s a : List ℕ) (k : ℕ) (f : Front) (e : k ≡ shortCode (length s) (length a)) (z : k ≡ 0)
     (ef : f ≡ frontOf (loaded s)) where
   enough : {A : Type 0} (short : ℕ → A) (x : A) → x ≡ lent (length s) (length a) short x
   enough short x = lent-enough (length s) (length a) short x (state-room (length s) (length a) k e z)
@@ -114,9 +114,9 @@ module _ (s a : List ℕ) (k : ℕ) (f : Front) (e : k ≡ lacks (length s) (len
         (asks (request (loaded s) image b) s a)
 
 -- A call without a state.
-module _ (X : Hearing) (a : List ℕ) (k n : ℕ) (en : n ≡ State.size) (e : k ≡ lacks n (length a)) where
-  unlent : k ≡ lacks State.size (length a)
-  unlent = e ∙ ap (λ (i : ℕ). lacks i (length a)) en
+module _ (X : Hearing) (a : List ℕ) (k n : ℕ) (en : n ≡ State.size) (e : k ≡ shortCode n (length a)) where
+  unlent : k ≡ shortCode State.size (length a)
+  unlent = e ∙ ap (λ (i : ℕ). shortCode i (length a)) en
 
   pub hears-short : (k ≡ 0 → ⊥) → record { code = k; bytes = a } ≡ hearsOut X a
   unfolding hearsOut

@@ -29,9 +29,9 @@ pub extern "C" fn fahireky_start_select(
     ensures { λ r. ⌜ record { code = r; state = now (state .exit); answer = now (answer .exit) }
         ≡ Export.startSelect (now (state .entry)) (now (prefix .entry)) bits (now (answer .entry)) ⌝ }
 {
-    let lack = host_buffers::lacks(state.len(), answer.len());
-    if lack != 0 {
-        return lack;
+    let short = host_buffers::short_code(state.len(), answer.len());
+    if short != 0 {
+        return short;
     }
     let f = host_state::load_front(state);
     host_buffers::started(client_start::open_select(f, prefix, bits), state, answer)
@@ -42,9 +42,9 @@ pub extern "C" fn fahireky_start_deselect(state: &mut [u8], answer: &mut [u8]) -
     ensures { λ r. ⌜ record { code = r; state = now (state .exit); answer = now (answer .exit) }
         ≡ Export.startDeselect (now (state .entry)) (now (answer .entry)) ⌝ }
 {
-    let lack = host_buffers::lacks(state.len(), answer.len());
-    if lack != 0 {
-        return lack;
+    let short = host_buffers::short_code(state.len(), answer.len());
+    if short != 0 {
+        return short;
     }
     let f = host_state::load_front(state);
     host_buffers::started(client_start::open_deselect(f), state, answer)
@@ -55,9 +55,9 @@ pub extern "C" fn fahireky_start_attach(state: &mut [u8], answer: &mut [u8]) -> 
     ensures { λ r. ⌜ record { code = r; state = now (state .exit); answer = now (answer .exit) }
         ≡ Export.startAttach (now (state .entry)) (now (answer .entry)) ⌝ }
 {
-    let lack = host_buffers::lacks(state.len(), answer.len());
-    if lack != 0 {
-        return lack;
+    let short = host_buffers::short_code(state.len(), answer.len());
+    if short != 0 {
+        return short;
     }
     let f = host_state::load_front(state);
     host_buffers::started(client_start::open_attach(f), state, answer)
@@ -72,9 +72,9 @@ pub extern "C" fn fahireky_start_attach_to(
     ensures { λ r. ⌜ record { code = r; state = now (state .exit); answer = now (answer .exit) }
         ≡ Export.startAttachTo (now (state .entry)) (now (prefix .entry)) (now (answer .entry)) ⌝ }
 {
-    let lack = host_buffers::lacks(state.len(), answer.len());
-    if lack != 0 {
-        return lack;
+    let short = host_buffers::short_code(state.len(), answer.len());
+    if short != 0 {
+        return short;
     }
     let f = host_state::load_front(state);
     host_buffers::started(client_start::open_attach_to(f, prefix), state, answer)
@@ -85,9 +85,9 @@ pub extern "C" fn fahireky_start_discover(state: &mut [u8], prefix: &[u8], answe
     ensures { λ r. ⌜ record { code = r; state = now (state .exit); answer = now (answer .exit) }
         ≡ Export.startDiscover (now (state .entry)) (now (prefix .entry)) (now (answer .entry)) ⌝ }
 {
-    let lack = host_buffers::lacks(state.len(), answer.len());
-    if lack != 0 {
-        return lack;
+    let short = host_buffers::short_code(state.len(), answer.len());
+    if short != 0 {
+        return short;
     }
     let f = host_state::load_front(state);
     host_buffers::started(client_start::open_discover(f, prefix), state, answer)
@@ -98,9 +98,9 @@ pub extern "C" fn fahireky_start_info(state: &mut [u8], answer: &mut [u8]) -> u6
     ensures { λ r. ⌜ record { code = r; state = now (state .exit); answer = now (answer .exit) }
         ≡ Export.startInfo (now (state .entry)) (now (answer .entry)) ⌝ }
 {
-    let lack = host_buffers::lacks(state.len(), answer.len());
-    if lack != 0 {
-        return lack;
+    let short = host_buffers::short_code(state.len(), answer.len());
+    if short != 0 {
+        return short;
     }
     let f = host_state::load_front(state);
     host_buffers::started(client_start::open_info(f), state, answer)
@@ -111,9 +111,9 @@ pub extern "C" fn fahireky_start_erase(state: &mut [u8], answer: &mut [u8]) -> u
     ensures { λ r. ⌜ record { code = r; state = now (state .exit); answer = now (answer .exit) }
         ≡ Export.startErase (now (state .entry)) (now (answer .entry)) ⌝ }
 {
-    let lack = host_buffers::lacks(state.len(), answer.len());
-    if lack != 0 {
-        return lack;
+    let short = host_buffers::short_code(state.len(), answer.len());
+    if short != 0 {
+        return short;
     }
     let f = host_state::load_front(state);
     host_buffers::started(client_start::open_erase(f), state, answer)
@@ -124,9 +124,9 @@ pub extern "C" fn fahireky_start_flash(state: &mut [u8], image: &[u8], answer: &
     ensures { λ r. ⌜ record { code = r; state = now (state .exit); answer = now (answer .exit) }
         ≡ Export.startFlash (now (state .entry)) (now (image .entry)) (now (answer .entry)) ⌝ }
 {
-    let lack = host_buffers::lacks(state.len(), answer.len());
-    if lack != 0 {
-        return lack;
+    let short = host_buffers::short_code(state.len(), answer.len());
+    if short != 0 {
+        return short;
     }
     let f = host_state::load_front(state);
     host_buffers::started(client_start::open_flash(f, image), state, answer)
@@ -142,9 +142,9 @@ pub extern "C" fn fahireky_start_reset(
     ensures { λ r. ⌜ record { code = r; state = now (state .exit); answer = now (answer .exit) }
         ≡ Export.startReset (now (state .entry)) bootloader «in_boot» (now (answer .entry)) ⌝ }
 {
-    let lack = host_buffers::lacks(state.len(), answer.len());
-    if lack != 0 {
-        return lack;
+    let short = host_buffers::short_code(state.len(), answer.len());
+    if short != 0 {
+        return short;
     }
     let f = host_state::load_front(state);
     host_buffers::started(
@@ -165,9 +165,9 @@ pub extern "C" fn fahireky_start_set_baud(
     ensures { λ r. ⌜ record { code = r; state = now (state .exit); answer = now (answer .exit) }
         ≡ Export.startSetBaud (now (state .entry)) baud bootloader «in_boot» (now (answer .entry)) ⌝ }
 {
-    let lack = host_buffers::lacks(state.len(), answer.len());
-    if lack != 0 {
-        return lack;
+    let short = host_buffers::short_code(state.len(), answer.len());
+    if short != 0 {
+        return short;
     }
     let f = host_state::load_front(state);
     host_buffers::started(
@@ -189,14 +189,13 @@ pub extern "C" fn fahireky_request(
       code = r;
       state = now (state .exit);
       buffer = now (buffer .exit);
-      answer = now
-          (answer .exit);
+      answer = now (answer .exit);
     } ≡ Export.request (now (state .entry)) (now (image .entry)) (now (buffer .entry))
         (now (answer .entry)) ⌝ }
 {
-    let lack = host_buffers::lacks(state.len(), answer.len());
-    if lack != 0 {
-        return lack;
+    let short = host_buffers::short_code(state.len(), answer.len());
+    if short != 0 {
+        return short;
     }
     let f = host_state::load_front(state);
     let p = host_state::load_place(state);
@@ -215,9 +214,9 @@ pub extern "C" fn fahireky_record(
     ensures { λ r. ⌜ record { code = r; state = now (state .exit); answer = now (answer .exit) }
         ≡ Export.record′ (now (state .entry)) (now (image .entry)) (now (bytes .entry)) (now (answer .entry)) ⌝ }
 {
-    let lack = host_buffers::lacks(state.len(), answer.len());
-    if lack != 0 {
-        return lack;
+    let short = host_buffers::short_code(state.len(), answer.len());
+    if short != 0 {
+        return short;
     }
     let f = host_state::load_front(state);
     let p = host_state::load_place(state);
@@ -230,9 +229,9 @@ pub extern "C" fn fahireky_link_failed(state: &mut [u8], answer: &mut [u8]) -> u
     ensures { λ r. ⌜ record { code = r; state = now (state .exit); answer = now (answer .exit) }
         ≡ Export.linkFailed (now (state .entry)) (now (answer .entry)) ⌝ }
 {
-    let lack = host_buffers::lacks(state.len(), answer.len());
-    if lack != 0 {
-        return lack;
+    let short = host_buffers::short_code(state.len(), answer.len());
+    if short != 0 {
+        return short;
     }
     let f = host_state::load_front(state);
     host_buffers::told(client_record::fails(f), state, answer)
@@ -244,9 +243,9 @@ pub extern "C" fn fahireky_attached(state: &[u8], answer: &mut [u8]) -> u64
     ensures { λ r. ⌜ record { code = r; bytes = now (answer .exit) }
         ≡ Export.attached (now (state .entry)) (now (answer .entry)) ⌝ }
 {
-    let lack = host_buffers::lacks(state.len(), answer.len());
-    if lack != 0 {
-        return lack;
+    let short = host_buffers::short_code(state.len(), answer.len());
+    if short != 0 {
+        return short;
     }
     let f = host_state::load_front(state);
     let id = f.id;
@@ -259,9 +258,9 @@ pub extern "C" fn fahireky_hear(bytes: &[u8], answer: &mut [u8]) -> u64
     ensures { λ r. ⌜ record { code = r; bytes = now (answer .exit) }
         ≡ Export.hear (now (bytes .entry)) (now (answer .entry)) ⌝ }
 {
-    let lack = host_buffers::lacks(host_state::size(), answer.len());
-    if lack != 0 {
-        return lack;
+    let short = host_buffers::short_code(host_state::size(), answer.len());
+    if short != 0 {
+        return short;
     }
     let x = hearing::hear(bytes);
     let h = x.heard;

@@ -38,8 +38,7 @@ put-of at n s b d room same e = record {
     arith,
     simp length-append at (sym same ∙ ap length e),
     length-take-le at b (omega arith),
-    length-drop
-        (at + n) b,
+    length-drop (at + n) b,
   );
   holds = e;
 }
@@ -118,8 +117,7 @@ module _ (a : List ℕ) (room : size ≤ length a) where
       list-sized : Sized list
       unfolding loadedTable
       list-sized = record {
-        bytes = length-take-le 1024 (drop 239 s)
-            (omega (arith, length-drop 239 s));
+        bytes = length-take-le 1024 (drop 239 s) (omega (arith, length-drop 239 s));
         lengths =
             length-take-le 64 (drop 1263 s) (omega (arith, length-drop 1263 s));
       }
@@ -130,8 +128,7 @@ module _ (a : List ℕ) (room : size ≤ length a) where
           length-take-le 1088 (drop 239 s) (omega (arith, length-drop 239 s)) in
           record {
             sized = sized;
-            holds = e₁
-                ∙ ap (λ (k : ℕ). take 83 a ++ take 1088 (drop 239 s) ++ drop (83 + k) a) sized;
+            holds = e₁ ∙ ap (λ (k : ℕ). take 83 a ++ take 1088 (drop 239 s) ++ drop (83 + k) a) sized;
           }
 
       list-in : tableIn part n ≡ list
@@ -166,11 +163,9 @@ module _ (a : List ℕ) (room : size ≤ length a) where
           omega (
             arith,
             l,
-            ap length e ∙ length-append (rowBytes (sorted list))
-                (drop 1088 part),
+            ap length e ∙ length-append (rowBytes (sorted list)) (drop 1088 part),
             length-drop 1088 part,
-            ap length
-                (part-all 83 d₁),
+            ap length (part-all 83 d₁),
             length-drop 83 d₁,
             put-length r pasted (omega arith),
           ) in

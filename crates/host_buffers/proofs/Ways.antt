@@ -38,22 +38,22 @@ use Rattle.host_state.specs.State.{savedTable, savedWalk, savedFront, saved, lo
 use Rattle.host_answer.specs.AnswerBytes as AnswerBytes
 use Rattle.host_answer.specs.AnswerBytes.{fronted, listed, shown}
 use Rattle.host_answer.proofs.Ways.{put-of}
-use Rattle.host_buffers.specs.Hosts.{codeOf, lent, lacks, toldBy, leaves, shows, saidOf}
+use Rattle.host_buffers.specs.Hosts.{codeOf, lent, shortCode, toldBy, leaves, shows, saidOf}
 
 -- A buffer that is too short, and buffers that are long enough.
 module _ (n m r need : ℕ) where
-  pub state-lacks : need ≡ State.size → n < need → r ≡ coded 16 need → r ≡ lacks n m
-  unfolding lacks lent
-  state-lacks e h q = q ∙ rw (e, lt-ltb n State.size (rw e at h))
+  pub state-short : need ≡ State.size → n < need → r ≡ coded 16 need → r ≡ shortCode n m
+  unfolding shortCode lent
+  state-short e h q = q ∙ rw (e, lt-ltb n State.size (rw e at h))
 
-  pub answer-lacks : (s : ℕ) → s ≡ State.size → need ≡ AnswerBytes.size → s ≤ n → m < need → r ≡ coded 16 need
-      → r ≡ lacks n m
-  unfolding lacks lent
-  answer-lacks s es e k h q = q ∙ rw (e, le-ltb n State.size (rw es at k), lt-ltb m AnswerBytes.size (rw e at h))
+  pub answer-short : (s : ℕ) → s ≡ State.size → need ≡ AnswerBytes.size → s ≤ n → m < need → r ≡ coded 16 need
+      → r ≡ shortCode n m
+  unfolding shortCode lent
+  answer-short s es e k h q = q ∙ rw (e, le-ltb n State.size (rw es at k), lt-ltb m AnswerBytes.size (rw e at h))
 
-  pub lacks-nothing : (s : ℕ) → s ≡ State.size → need ≡ AnswerBytes.size → s ≤ n → need ≤ m → 0 ≡ lacks n m
-  unfolding lacks lent
-  lacks-nothing s es e k h = rw (le-ltb n State.size (rw es at k), le-ltb m AnswerBytes.size (rw e at h))
+  pub none-short : (s : ℕ) → s ≡ State.size → need ≡ AnswerBytes.size → s ≤ n → need ≤ m → 0 ≡ shortCode n m
+  unfolding shortCode lent
+  none-short s es e k h = rw (le-ltb n State.size (rw es at k), le-ltb m AnswerBytes.size (rw e at h))
 
 -- What the code for short buffers says about the two lengths.
 module _ (b d : Bool) (x y k : ℕ) (e : k ≡ cond b x (cond d y 0)) where
@@ -80,9 +80,9 @@ module _ (b d : Bool) (x y k : ℕ) (e : k ≡ cond b x (cond d y 0)) where
       go false false eb ed = absurd (n
           (e ∙ ap (λ (t : Bool). cond t x (cond d y 0)) eb ∙ ap (λ (t : Bool). cond t y 0) ed))
 
-module _ (n m k : ℕ) (e : k ≡ lacks n m) where
+module _ (n m k : ℕ) (e : k ≡ shortCode n m) where
   both-fit : k ≡ 0 → (ltb n State.size ≡ false) × (ltb m AnswerBytes.size ≡ false)
-  unfolding lacks lent coded
+  unfolding shortCode lent coded
   both-fit z = neither (ltb n State.size) (ltb m AnswerBytes.size) (coded 16 State.size) (coded 16 AnswerBytes.size) k e
       (λ h. omega arith) (λ h. omega arith) z
 
@@ -94,7 +94,7 @@ module _ (n m k : ℕ) (e : k ≡ lacks n m) where
 
   module _ {A : Type 0} (short : ℕ → A) (enough : A) where
     pub lent-short : (k ≡ 0 → ⊥) → short k ≡ lent n m short enough
-    unfolding lacks lent
+    unfolding shortCode lent
     lent-short h = one-of (ltb n State.size) (ltb m AnswerBytes.size) (coded 16 State.size)
         (coded 16 AnswerBytes.size) k e short enough h
 

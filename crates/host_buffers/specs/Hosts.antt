@@ -37,8 +37,8 @@ unfoldable pub lent : {A : Type 0} → ℕ → ℕ → (ℕ → A) → A → A
 lent n m short enough = cond (ltb n State.size) (short (coded 16 State.size))
     (cond (ltb m AnswerBytes.size) (short (coded 16 AnswerBytes.size)) enough)
 
-unfoldable pub lacks : ℕ → ℕ → ℕ
-lacks n m = lent n m (λ code. code) 0
+unfoldable pub shortCode : ℕ → ℕ → ℕ
+shortCode n m = lent n m (λ code. code) 0
 
 -- The code, and the state and the answer's buffer after the call.
 pub record Exported : Type 0 where

@@ -20,11 +20,11 @@ ghost use Rattle.host_state.specs.State as State;
 ghost use Rattle.host_state.specs.State.{loaded};
 ghost use Rattle.host_answer.specs.AnswerBytes as Answer;
 ghost use Rattle.host_answer.specs.AnswerBytes.{listed};
-ghost use Rattle.host_buffers.specs.Hosts.{lacks, leaves, toldBy, shows, saidOf};
+ghost use Rattle.host_buffers.specs.Hosts.{shortCode, leaves, toldBy, shows, saidOf};
 
 // The code for a state or an answer's buffer of these lengths that is too short; 0 if both are long enough.
-pub fn lacks(state: usize, answer: usize) -> u64
-    ensures { λ r. ⌜ r ≡ lacks state answer ⌝ }
+pub fn short_code(state: usize, answer: usize) -> u64
+    ensures { λ r. ⌜ r ≡ shortCode state answer ⌝ }
 {
     let client = host_state::size();
     let whole = host_answer::size();

@@ -24,8 +24,7 @@ seeking = record {
   seed = 255;
   attached = true;
   id = idFrom (0xC1 ∷ 0x07 ∷ []);
-  turn = Waiting
-      (Select (Seeking true));
+  turn = Waiting (Select (Seeking true));
   prefix = idFrom (0xC1 ∷ []);
   bits = 0;
   walk = noWalk;

@@ -119,8 +119,7 @@ module _ (b : List ℕ) (hb : Bytes b) where
   array-fits : (n at : ℕ) → at + n ≤ length b → Array n (take n (drop at b))
   array-fits n at room = (
     length-take-le n (drop at b) (omega (arith, length-drop at b)),
-    bytes-take n (drop at b)
-        (bytes-drop at b hb),
+    bytes-take n (drop at b) (bytes-drop at b hb),
   )
 
   id-fits : (at : ℕ) → at + 17 ≤ length b → IdFits (loadedId at b)
@@ -131,8 +130,7 @@ module _ (b : List ℕ) (hb : Bytes b) where
   unfolding loadedTable
   table-fits at room = record {
     ids = array-fits 1024 at (omega arith);
-    lens = array-fits 64 (at + 1024)
-        (omega arith);
+    lens = array-fits 64 (at + 1024) (omega arith);
     count = field-below 8 (at + 1088) b hb;
   }
 

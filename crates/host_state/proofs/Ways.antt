@@ -36,8 +36,7 @@ module _ (b : List ℕ) where
       → y ≡ loadedId 69 b
       → _≡_ {A = Front} (record {
         seed = byte 0 b;
-        attached = flagged
-            (byte 1 b);
+        attached = flagged (byte 1 b);
         id = x;
         turn = t;
         prefix = y;

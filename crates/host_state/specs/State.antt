@@ -43,7 +43,8 @@ savedFront f = savedHead f ++ savedId (f .prefix) ++ (f .bits ∷ [])
 unfoldable pub saved : Client → List ℕ
 saved c = savedFront (frontOf c) ++ savedWalk (c .walk)
 
--- What is read from a place in some bytes.
+-- What is read from a place in some bytes. The state: seed at 0, whether an id is attached at 1, that id at 2 to 18, the
+-- turn at 19, the prefix at 69, its bits at 86, the walk from 87 on.
 unfoldable pub loadedId : ℕ → List ℕ → Id
 loadedId at b = record { bytes = take 16 (drop at b); len = byte (at + 16) b }
 
@@ -51,8 +52,7 @@ unfoldable pub loadedTable : ℕ → List ℕ → Table
 loadedTable at b = record {
   ids = take 1024 (drop at b);
   lens = take 64 (drop (at + 1024) b);
-  count = field
-      (at + 1088) 8 b;
+  count = field (at + 1088) 8 b;
 }
 
 unfoldable pub loadedWalk : ℕ → List ℕ → Walk

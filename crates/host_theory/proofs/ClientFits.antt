@@ -214,8 +214,7 @@ payload-short c (Select s) image =
     omega (
       arith,
       payload-length (nextSeed (c .seed)) (asked (asks c s .bits) (asks c s .count % 256)),
-      length-take
-          (asks c s .count % 256) (bitsOf (asks c s .bits) ++ replicate 127 false),
+      length-take (asks c s .count % 256) (bitsOf (asks c s .bits) ++ replicate 127 false),
     )
 payload-short c (Demand (Informing why)) image = omega arith
 payload-short c (Demand (Erasing why info address)) image = omega arith

@@ -192,8 +192,7 @@ module _ (info : Info) (hi : InfoFits info) where
               omega (
                 arith,
                 padded-small (length image) h,
-                leb-false (left (length image) offset)
-                    (chunk (info .«max_payload»)) e,
+                leb-false (left (length image) offset) (chunk (info .«max_payload»)) e,
               ),
               omega arith,
             ),

@@ -43,8 +43,7 @@ unfolding row
 row-fits t h i small = record {
   bytes = (
     row-whole t (sized-of t (h .ids .0) (h .lens .0)) i small,
-    bytes-take 16 (drop (i * 16) (t .ids))
-        (bytes-drop (i * 16) (t .ids) (h .ids .1)),
+    bytes-take 16 (drop (i * 16) (t .ids)) (bytes-drop (i * 16) (t .ids) (h .ids .1)),
   );
   len = byte-below (t .lens) i (h .lens .1);
 }

@@ -143,8 +143,7 @@ heldBy s c (x ∷ xs) = held s (x .answer) (made c (x .call))
 unfoldable pub readAs : Made → Answer
 readAs m = codeAnswer (
   record {
-    says = saysOf (m .told .says) (m .told .progress) (m .told .id)
-        (m .told .found);
+    says = saysOf (m .told .says) (m .told .progress) (m .told .id) (m .told .found);
     rest = m .told .rest;
     buffer = m .buffer;
   },

@@ -31,8 +31,7 @@ unfoldable pub loadedReset : ℕ → List ℕ → Reset
 loadedReset at b = record {
   bootloader = flagged (byte at b);
   given = flagged (byte (at + 1) b);
-  baud = byte
-      (at + 2) b;
+  baud = byte (at + 2) b;
 }
 
 unfoldable pub loadedFlat : ℕ → List ℕ → Flat

@@ -16,6 +16,5 @@ pub set-other-met : (bit (0xC1 ∷ 0x05 ∷ []) 8 ≡ true) × (bit (0xC1 ∷ 0x
 unfolding setBit bit
 set-other-met = (
   set-other (0xC1 ∷ 0x01 ∷ []) 10 8 (λ e. absurd (omega arith)),
-  set-other (0xC1 ∷ 0x01 ∷ []) 10 9
-      (λ e. absurd (omega arith)),
+  set-other (0xC1 ∷ 0x01 ∷ []) 10 9 (λ e. absurd (omega arith)),
 )

@@ -100,8 +100,7 @@ module _ (xb yb : List ℕ) (n m k : ℕ) (xlong : length xb ≡ 16) (ylong : le
     before-again h g le ge = rw (
       at xb n k xn xlong h,
       at yb m k ym ylong g,
-      eq-eqb (getD xb k 0) (getD yb k 0)
-          (omega arith),
+      eq-eqb (getD xb k 0) (getD yb k 0) (omega arith),
       le-ltb (getD xb k 0) (getD yb k 0) le,
     ) at q
 
@@ -126,7 +125,6 @@ module _ (xb yb : List ℕ) (n m k : ℕ) (xlong : length xb ≡ 16) (ylong : le
       before-no h g e = rw (
         at xb n k xn xlong h,
         at yb m k ym ylong g,
-        le-ltb (getD xb k 0) (getD yb k 0)
-            (omega arith),
+        le-ltb (getD xb k 0) (getD yb k 0) (omega arith),
         ne-eqb (getD xb k 0) (getD yb k 0) (λ z. omega arith),
       ) at all

@@ -63,8 +63,7 @@ module _ (i : Paper.Info) (a : ℕ) where
     next-erase n e k = rw (
       e,
       below-cons (i .eraseSize) (i .capacity) a (omega arith) (omega arith),
-      below-cons
-          (i .eraseSize) (i .capacity) (a + i .eraseSize) (omega arith) (omega arith),
+      below-cons (i .eraseSize) (i .capacity) (a + i .eraseSize) (omega arith) (omega arith),
     )
 
     pub last-erase : i .capacity ≤ a + i .eraseSize → Done ≡ eraseAfter i a
@@ -74,8 +73,7 @@ module _ (i : Paper.Info) (a : ℕ) where
         go : Dec (a < i .capacity) → Done ≡ eraseAfter i a
         go (yes l) = rw (
           below-cons (i .eraseSize) (i .capacity) a (omega arith) l,
-          below-nil (i .eraseSize)
-              (i .capacity) (a + i .eraseSize) k,
+          below-nil (i .eraseSize) (i .capacity) (a + i .eraseSize) k,
         )
         go (no l) = rw (below-nil (i .eraseSize) (i .capacity) a (omega arith))
 

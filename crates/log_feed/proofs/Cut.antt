@@ -154,8 +154,7 @@ module _ (xs : List ℕ) (i : ℕ) (w : Log) (buf : List ℕ) (room : i ≤ leng
   ended e = record {
     within = room;
     same = refl;
-    all = λ d. sym
-        (still (w .reader) (w .replay) buf e (drop i xs));
+    all = λ d. sym (still (w .reader) (w .replay) buf e (drop i xs));
     some = λ d. absurd (false≢true (sym d));
   }
 

@@ -69,8 +69,7 @@ pub data Stands : Replay → Next → ℕ → Type 0 where
   out : (seed : ℕ) (id : Option Id) (s : State) (j k : ℕ)
       → Fits (record { seed = seed; id = id; turn = waiting (selecting (walking s)) }) → j ≡ suc k % 65536
       → Stands (record {
-        client = clientOf
-            (record { seed = seed; id = id; turn = waiting (selecting (walking s)) });
+        client = clientOf (record { seed = seed; id = id; turn = waiting (selecting (walking s)) });
         stage = Running;
         selects = j;
         found =

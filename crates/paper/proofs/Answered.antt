@@ -80,8 +80,7 @@ pub answer-payload : (bytes payload : List ℕ) (end : ℕ) → answer bytes ≡
     × (take (length payload) (drop (end - (2 + length payload)) bytes) ≡ payload)
 answer-payload bytes payload end e = (
   omega (arith, start, f .ends, ap length same, answer-end bytes (ok payload) end e),
-  ap
-      (λ (x : ℕ). take (length payload) (drop x bytes)) start ∙ there,
+  ap (λ (x : ℕ). take (length payload) (drop x bytes)) start ∙ there,
 )
   where
     f : Found bytes (ok payload) end

@@ -67,8 +67,7 @@ module _ {at n : ℕ} {s b d : List ℕ} (room : at ≤ length b) (p : Put at n 
         arith,
         ap length (p .holds)
             ∙ length-append (take at b ++ s) (drop (at + n) b),
-        length-append
-            (take at b) s,
+        length-append (take at b) s,
         length-take-le at b room,
         length-drop (at + n) b,
         p .sized,

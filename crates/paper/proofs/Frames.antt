@@ -20,6 +20,5 @@ frame-length f = omega (
   arith,
   length-append (frameBody f) (le 2 (check (frameBody f))),
   body-length f,
-  le-length 2
-      (check (frameBody f)),
+  le-length 2 (check (frameBody f)),
 )

@@ -82,8 +82,7 @@ field-add (suc j) k at s =
     rw (
       suc-add j k,
       field-suc at (j + k) s,
-      field-add j k
-          (at + 1) s,
+      field-add j k (at + 1) s,
       field-suc at j s,
       next at j,
       pow-suc 256 j,

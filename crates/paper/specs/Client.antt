@@ -71,8 +71,7 @@ proceed c progress (report a b m) at = proceed c (some (a, b)) m at
 proceed c progress (ask q f) at =
     record {
       says = onward progress;
-      client = record
-          { seed = c .seed; id = c .id; image = c .image; left = ready q f };
+      client = record { seed = c .seed; id = c .id; image = c .image; left = ready q f };
       rest = at;
     }
 
@@ -166,8 +165,7 @@ demandFrame d image =
       status = status-Request;
       flags = d .flags;
       address = d .address;
-      payload = payloadOf
-          (d .payload) image;
+      payload = payloadOf (d .payload) image;
     }
 
 -- "asks for a request": its bytes, from the seed that a Select carries and the image lent.
@@ -209,8 +207,7 @@ grant c bytes seed q f buffer =
     (record {
       says = handing q (length bytes);
       client = handedOut c seed q f;
-      buffer = bytes
-          ++ drop (length bytes) buffer;
+      buffer = bytes ++ drop (length bytes) buffer;
     })
 
 -- "asking with none running or with a request unanswered"; "Order: 21, 20, 13, 16".

@@ -45,8 +45,7 @@ writeRequest info n offset =
       command = command-Write;
       flags = writeFlags info n offset;
       address = offset;
-      payload = piece offset
-          (writeSize info n offset);
+      payload = piece offset (writeSize info n offset);
     }
 
 -- "Verify has address = image length".

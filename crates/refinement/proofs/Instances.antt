@@ -97,8 +97,7 @@ abbrev confirming : State
 confirming = record {
   pre = bitsOf (0xC1 ∷ []);
   marks = [];
-  ids = (0xC1 ∷ 0x07 ∷ [])
-      ∷ [];
+  ids = (0xC1 ∷ 0x07 ∷ []) ∷ [];
   phase = mine (0xC1 ∷ 0x87 ∷ []);
 }
 

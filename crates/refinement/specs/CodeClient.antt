@@ -222,7 +222,6 @@ toldAs t = record {
 
 abbrev pub askedAs : Machine.Asked → Asking
 askedAs a = record {
-  answer = record
-      { says = shownSays (a .says) .says; client = clientOf (a .client) };
+  answer = record { says = shownSays (a .says) .says; client = clientOf (a .client) };
   bytes = a .buffer;
 }

@@ -68,8 +68,7 @@ asked-length bits count long h =
     omega (
       arith,
       length-take count (bitsOf bits ++ replicate 127 false),
-      length-append (bitsOf bits)
-          (replicate 127 false),
+      length-append (bitsOf bits) (replicate 127 false),
       bits-length bits,
       length-replicate 127 false,
     )

@@ -72,8 +72,7 @@ module _ (id buffer : List ℕ) where
   writes text h g e = rw (
     le-ltb 16 (length id) h,
     hexText-length id,
-    le-ltb (length buffer)
-        (2 * length id) g,
+    le-ltb (length buffer) (2 * length id) g,
     hexText-length id,
     e,
   )

@@ -309,8 +309,7 @@ abbrev writing : Machine.Client
 writing = record {
   seed = 255;
   id = some (0xC1 ∷ 0x07 ∷ []);
-  turn = waiting
-      (demanding (OperationMachine.writing 5 target 4 0));
+  turn = waiting (demanding (OperationMachine.writing 5 target 4 0));
 }
 
 abbrev wrote : List ℕ
@@ -334,8 +333,7 @@ abbrev confirming : State
 confirming = record {
   pre = bitsOf (0xC1 ∷ []);
   marks = [];
-  ids = (0xC1 ∷ 0x07 ∷ [])
-      ∷ [];
+  ids = (0xC1 ∷ 0x07 ∷ []) ∷ [];
   phase = mine (0xC1 ∷ 0x87 ∷ []);
 }
 

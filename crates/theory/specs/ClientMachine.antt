@@ -75,8 +75,7 @@ settle c progress (to ph) at = record { says = onward progress; client = turned 
 settle c progress (ends o) at =
     record {
       says = over progress o;
-      client = record
-          { seed = c .seed; id = idAfter o (c .id); turn = idle };
+      client = record { seed = c .seed; id = idAfter o (c .id); turn = idle };
       rest = at;
     }
 settle c progress (refuses n carries) at = record { says = refused n carries; client = turned c idle; rest = at }
@@ -142,8 +141,7 @@ grant c bytes seed ph buffer =
     cond (ltb (length buffer) (length bytes)) (withholds c 16 (length bytes ∷ []) buffer)
     (record {
       says = handing (OperationMachine.request ph) (length bytes);
-      client = record
-          { seed = seed; id = c .id; turn = handedOut ph };
+      client = record { seed = seed; id = c .id; turn = handedOut ph };
       buffer = bytes ++ drop (length bytes) buffer;
     })
 

@@ -96,8 +96,7 @@ module _ (p : Place) where
       → walkOf (record {
         path = q;
         depth = p .depth;
-        marks = set (p .marks)
-            (p .depth - 1) 2;
+        marks = set (p .marks) (p .depth - 1) 2;
         candidate = p .candidate;
       }) t ≡ turn (walkOf p t)
   unfolding turn

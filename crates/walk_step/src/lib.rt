@@ -198,7 +198,8 @@ fn going_other(p: Place, good: bool) -> Move
     })
 }
 
-// Whether a child confirms the candidate: nothing if it was silent, one if an id was heard, else false.
+// Whether a child confirms the candidate. The answer is the parameter `nothing` if nothing was heard, `one` if an id
+// was heard, and no otherwise.
 fn holds(h: Heard, nothing: bool, one: bool) -> bool
     ensures { λ r. ⌜ r ≡ onHeard h nothing one false false false ⌝ }
 {

@@ -1,5 +1,4 @@
-// The basics of the wire format: document 01's numbers, little-endian numbers in slices, bytes copied and filled, and
-// what a writer answers.
+// Document 01's numbers, little-endian numbers in slices, bytes copied and filled, and what a writer answers.
 pub mod arrays;
 
 ghost use mathlib.Core.Path.{_≡_};

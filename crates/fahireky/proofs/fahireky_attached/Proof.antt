@@ -5,8 +5,8 @@ use borrow.Author.Needs.{needs}
 use Rattle.fahireky.proofs.fahireky_attached.Statement.{statement}
 use Rattle.fahireky.proofs.fahireky_attached.Tie as tie
 
-lacks-requires : tie.Need-lacks-requires
-lacks-requires c κs = search needs
+short-code-requires : tie.Need-short-code-requires
+short-code-requires c κs = search needs
 
 returns : tie.Need-returns
 returns c = search (views-short, needs)
@@ -27,7 +27,7 @@ pub fahireky-attached-spec : {M : Type 1} → statement M
 fahireky-attached-spec =
     tie.close
     (tie.spec
-    lacks-requires
+    short-code-requires
     returns
     load-front-requires
     shows-requires

@@ -8,8 +8,8 @@ use Rattle.fahireky.proofs.fahireky_hear.Tie as tie
 size-requires : tie.Need-size-requires
 size-requires c κs = search needs
 
-lacks-requires : tie.Need-lacks-requires
-lacks-requires c κs = search needs
+short-code-requires : tie.Need-short-code-requires
+short-code-requires c κs = search needs
 
 returns : tie.Need-returns
 returns c = search (hears-short, needs)
@@ -34,7 +34,7 @@ fahireky-hear-spec =
     tie.close
     (tie.spec
     size-requires
-    lacks-requires
+    short-code-requires
     returns
     hear-requires
     said-of-requires

@@ -27,8 +27,7 @@ module _ (at : ℕ) (b : List ℕ) where
         «erase_size» = erase;
         «boot_version» = boot;
         «app_version» = app;
-        mode = byte
-            (at + 10) b;
+        mode = byte (at + 10) b;
         «boot_baud» = byte (at + 11) b;
         compat = compat;
         «max_payload» = most;

@@ -168,8 +168,7 @@ record-read c f image bytes = go (c .turn) (f .turn)
             (onSome o (fails (turned c (waiting ph)) (place (OperationMachine.request ph) bytes))
             (λ a. settle (record {
               seed = c .seed;
-              id = cleared (OperationMachine.request ph)
-                  (c .id);
+              id = cleared (OperationMachine.request ph) (c .id);
               turn = waiting ph;
             })
             (step ph a .progress) (step ph a .then) (place (OperationMachine.request ph) bytes))) .says)

@@ -60,8 +60,7 @@ from-machine r f code paper c p = record {
     machine = r .1;
     fits = f;
     is-code = ap (λ (x : Reply × Client). x .1) c;
-    is-paper = ap
-        (λ (x : Reply × Paper.Client). x .1) p;
+    is-paper = ap (λ (x : Reply × Paper.Client). x .1) p;
   };
 }
 
@@ -74,16 +73,14 @@ pub started-same : (code : Started) (paper : Paper.Told) → Answers (startedBy 
     → Same (opening code) paper
 started-same code paper a = record {
   says = ap (λ (r : Reply). r .says) (a .reply);
-  rest = ap (λ (r : Reply). r .rest)
-      (a .reply);
+  rest = ap (λ (r : Reply). r .rest) (a .reply);
   clients = a .clients;
 }
 
 told-same : (code : Told) (paper : Paper.Told) → Answers (toldBy code) (saidBy paper) → Same code paper
 told-same code paper a = record {
   says = ap (λ (r : Reply). r .says) (a .reply);
-  rest = ap (λ (r : Reply). r .rest)
-      (a .reply);
+  rest = ap (λ (r : Reply). r .rest) (a .reply);
   clients = a .clients;
 }
 
@@ -179,8 +176,7 @@ module _ (buffer : List ℕ) where
     unfolding driven sends ClientDriven.driven ClientDriven.sends
     round-drives = record {
       last = rw (← goes) (last (isOnward (code .says)));
-      sent = rw (← goes)
-          (sent (isOnward (code .says)));
+      sent = rw (← goes) (sent (isOnward (code .says)));
     }
       where
         last : (b : Bool)

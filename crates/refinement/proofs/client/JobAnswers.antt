@@ -149,8 +149,7 @@ module _ (seed : ℕ) (id : Option Id) (j : Job) (at : ℕ) where
           → ShowsNext (CodeJob.erased (purposeIn why) (codeInfo info) address)
           (record {
             progress = some (eraseProgress info address, info .capacity);
-            then = cond b
-                (working (erasing why info (address + info .eraseSize))) (OperationMachine.cleared why info);
+            then = cond b (working (erasing why info (address + info .eraseSize))) (OperationMachine.cleared why info);
           })
       go true e =
           rw (← next-erase info address size (address + info .eraseSize) refl

@@ -69,8 +69,7 @@ module _ (buffer : List ℕ) (big : room ≤ length buffer) (seed : ℕ) (byte :
   plays n talk h lent s same =
       let d = drives buffer rounds (opening s) (startWith n (ClientDriven.resting seed id) true talk) same in
       record {
-        stands = same-stands n seed id _ _ _ _ (d .last)
-            (driven-stands buffer big n seed id talk h rounds lent);
+        stands = same-stands n seed id _ _ _ _ (d .last) (driven-stands buffer big n seed id talk h rounds lent);
         sent = d .sent;
       }
 

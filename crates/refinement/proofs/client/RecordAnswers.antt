@@ -69,8 +69,7 @@ asking-bits s f a = go (s .phase) (f .held) a
       arith,
       w .0,
       w .1,
-      length-append (path (s .pre) (s .marks))
-          (nextBit (path (s .pre) (s .marks)) id ∷ []),
+      length-append (path (s .pre) (s .marks)) (nextBit (path (s .pre) (s .marks)) id ∷ []),
     )
     go (other id good) w a = omega
         (arith, w .0, w .1, length-append (path (s .pre) (s .marks)) (not (nextBit (path (s .pre) (s .marks)) id) ∷ []))

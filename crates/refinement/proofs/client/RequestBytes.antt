@@ -162,8 +162,7 @@ module _ (c : Machine.Client) where
           (record {
             answer = record {
               says = Code.handing (phaseIn ph) (length bytes);
-              client = Code.handed
-                  (clientOf (turned c (ready ph))) (phaseIn ph);
+              client = Code.handed (clientOf (turned c (ready ph))) (phaseIn ph);
             };
             bytes = bytes ++ drop (length bytes) buffer;
           })
@@ -171,13 +170,11 @@ module _ (c : Machine.Client) where
           (record {
             says = handing (OperationMachine.request ph) (length bytes);
             client = next;
-            buffer = bytes
-                ++ drop (length bytes) buffer;
+            buffer = bytes ++ drop (length bytes) buffer;
           }))
       go true = refl
       go false = λ i. record {
-        answer = record
-            { says = handing-sim ph (length bytes) i; client = handed-sim ph i };
+        answer = record { says = handing-sim ph (length bytes) i; client = handed-sim ph i };
         bytes =
             bytes ++ drop (length bytes) buffer;
       }

@@ -152,8 +152,7 @@ module _ (c : Client) (n : ℕ) where
   told-leaves t h = record {
     client = h .client;
     lost = h .lost;
-    whole = λ r e k. clash (keeps r) k
-        (h .ends r e);
+    whole = λ r e k. clash (keeps r) k (h .ends r e);
     seed = h .seed;
   }
 

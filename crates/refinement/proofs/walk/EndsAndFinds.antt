@@ -113,8 +113,7 @@ lists wire pre le d = go ((run wire 0 (discover pre)) .0) refl
     go (done ids) f = record {
       ids = ids;
       listed = kept-listed wire pre ids f;
-      walk = at
-          ∙ ap (λ r. nextOf (ended r)) f;
+      walk = at ∙ ap (λ r. nextOf (ended r)) f;
     }
     go (stopped c) f =
         let s : _≡_ {A = Goes} Done (Stopped (endOf c)) =

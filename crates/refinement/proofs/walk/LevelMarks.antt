@@ -17,8 +17,7 @@ length-levels pre (b ∷ marks) =
     omega (
       arith,
       length-append (levels pre marks) (cond b 2 1 ∷ []),
-      length-append (path pre marks)
-          (b ∷ []),
+      length-append (path pre marks) (b ∷ []),
       length-levels pre marks,
     )
 

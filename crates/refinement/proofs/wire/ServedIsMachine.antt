@@ -177,8 +177,7 @@ module _ (buffer : List ℕ) (room : 31 ≤ length buffer) (wire : Wire) (b : �
         (settle (record {
           seed = (b + suc k) % 256;
           id = idAt id (Walk.step s h);
-          turn = waiting
-              (selecting (walking s));
+          turn = waiting (selecting (walking s));
         }) none (walked (Walk.step s h)) (length (wire k bytes)))) heard-is
         ∙ ap toldAs (turn-settles ((b + suc k) % 256) (idAt id next) (waiting (selecting (walking s))) (walked next)
         (length (wire k bytes)))

@@ -89,8 +89,7 @@ loop-again c = (
   search needs,
   search needs,
   search (zero-more, needs),
-  search
-      (read-more, needs),
+  search (read-more, needs),
 )
 
 cast-t20 : tie.Need-cast-t20 Inv-loop μ-loop

@@ -54,15 +54,13 @@ module _ (buffer : List ℕ) (n : Option ℕ) where
     pub asked : request (client seed id (ready q f)) image buffer
         ≡ record {
           says = Paper.handing q (length bytes);
-          client = handedOut (client seed id (ready q f))
-              (seedAfter q seed) q f;
+          client = handedOut (client seed id (ready q f)) (seedAfter q seed) q f;
           buffer = bytes ++ drop (length bytes) buffer;
         }
     unfolding request grant
     asked = rw (
       lent-passes n image lent,
-      le-ltb (length buffer) (length bytes)
-          (omega (arith, asked-size q (seedAfter q seed) image)),
+      le-ltb (length buffer) (length bytes) (omega (arith, asked-size q (seedAfter q seed) image)),
     )
 
   -- The answer to the event after a request.
@@ -127,14 +125,12 @@ module _ (buffer : List ℕ) (n : Option ℕ) where
     driven-awaits (select s) f w fits =
         rw (
           asked (select s) f seed id (r .lent) (lends .0) fits,
-          told (select s) f (seedAfter (select s) seed) id w
-              (r .event) (lends .1),
+          told (select s) f (seedAfter (select s) seed) id w (r .event) (lends .1),
         )
     driven-awaits (demand d) f w fits =
         rw (
           asked (demand d) f seed id (r .lent) (lends .0) fits,
-          told (demand d) f (seedAfter (demand d) seed) id w
-              (r .event) (lends .1),
+          told (demand d) f (seedAfter (demand d) seed) id w (r .event) (lends .1),
         )
     driven-awaits (leave d) f w fits = absurd w
 
@@ -146,15 +142,13 @@ module _ (buffer : List ℕ) (n : Option ℕ) where
     sends-awaits (select s) f w fits =
         rw (
           asked (select s) f seed id (r .lent) (lends .0) fits,
-          told (select s) f (seedAfter (select s) seed) id w
-              (r .event) (lends .1),
+          told (select s) f (seedAfter (select s) seed) id w (r .event) (lends .1),
           front (bytesOf (select s) (seedAfter (select s) seed) (r .lent)) (some (r .event)),
         )
     sends-awaits (demand d) f w fits =
         rw (
           asked (demand d) f seed id (r .lent) (lends .0) fits,
-          told (demand d) f (seedAfter (demand d) seed) id w
-              (r .event) (lends .1),
+          told (demand d) f (seedAfter (demand d) seed) id w (r .event) (lends .1),
           front (bytesOf (demand d) (seedAfter (demand d) seed) (r .lent)) (some (r .event)),
         )
     sends-awaits (leave d) f w fits = absurd w
@@ -169,8 +163,7 @@ module _ (buffer : List ℕ) (n : Option ℕ) where
         rw (asked (leave d) f seed id (r .lent) (lends .0) fits)
         (λ i. record {
           says = closing (asked-size (leave d) seed (r .lent) i);
-          client = left-client d f o e seed id
-              i;
+          client = left-client d f o e seed id i;
           rest = 0;
         })
 
@@ -179,8 +172,7 @@ module _ (buffer : List ℕ) (n : Option ℕ) where
     unfolding sends goesOn
     sends-leaves d f fits = rw (
       asked (leave d) f seed id (r .lent) (lends .0) fits,
-      front
-          (bytesOf (leave d) seed (r .lent)) none,
+      front (bytesOf (leave d) seed (r .lent)) none,
     )
 
   module _ (seed : ℕ) (id : Option Id) where
@@ -230,8 +222,7 @@ module _ (buffer : List ℕ) (n : Option ℕ) where
     leaves-stood d f (return o) e h fits r rs lends past l p at =
         rw (
           driven-leaves (seedOver seed past) (idOver id past) r rs lends p at d f o e fits,
-          read-leave d
-              (r .event),
+          read-leave d (r .event),
           rest-leave d (r .event),
           e,
         ) (record { says = refl; rest = refl; client = refl })

@@ -128,8 +128,7 @@ settle-sim c lent l progress (to ph) at s e =
         seed = c .seed;
         id = c .id;
         image = sym e i;
-        left = Paper.ready (OperationMachine.request ph)
-            (λ a. resumed (step ph a));
+        left = Paper.ready (OperationMachine.request ph) (λ a. resumed (step ph a));
       };
       rest = at;
     })
@@ -245,13 +244,11 @@ grant-sim c ph bytes seed buffer = go (ltb (length buffer) (length bytes))
         (record {
           says = handing (OperationMachine.request ph) (length bytes);
           client = out;
-          buffer = bytes
-              ++ drop (length bytes) buffer;
+          buffer = bytes ++ drop (length bytes) buffer;
         })))
     go true = refl
     go false = λ i. record {
-      says = handing (OperationMachine.request ph)
-          (length bytes);
+      says = handing (OperationMachine.request ph) (length bytes);
       client = handed-sim c seed ph i;
       buffer = bytes ++ drop (length bytes) buffer;
     }

@@ -29,8 +29,7 @@ known-read s k f right h =
       le-ltb (length (drop k s)) 10 (omega (arith, room)),
       h .sized,
       le-ltb most n (h .small),
-      le-ltb
-          (length (drop k s)) (12 + n) room,
+      le-ltb (length (drop k s)) (12 + n) room,
       h .check,
     ) (go right)
   where

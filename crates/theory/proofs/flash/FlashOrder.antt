@@ -113,8 +113,7 @@ module _ (n : ℕ) where
   passed-still x past info h =
       record {
         image = h .image;
-        tells = told-still x past (info, h .image)
-            (h .tells);
+        tells = told-still x past (info, h .image) (h .tells);
         fits = h .fits;
         suits = h .suits;
         spans = h .spans;
@@ -256,8 +255,7 @@ module _ (n : ℕ) where
         may = record {
           info = info;
           passed = passed-still _ past info (h .passed);
-          cleared = append-nil (erased past)
-              ∙ h .cleared;
+          cleared = append-nil (erased past) ∙ h .cleared;
         };
         all = omega (arith, total);
         verified = (
@@ -265,8 +263,7 @@ module _ (n : ℕ) where
           record {
             payload = payload;
             accepted = refl;
-            long = ltb-false
-                (length payload) 2 l;
+            long = ltb-false (length payload) 2 l;
             right = sym (eqb-true _ _ (not-false _ e));
           },
         );
@@ -304,8 +301,7 @@ module _ (n : ℕ) where
         record {
           ordered = toErase (record {
             info = info;
-            passed = record
-                { image = image; tells = h .tells; fits = fits; suits = suits; spans = spans };
+            passed = record { image = image; tells = h .tells; fits = fits; suits = suits; spans = spans };
           }) refl;
           front = erasing-front info image x xs past h;
           few = λ a. omega (arith, h .none a);

@@ -112,8 +112,7 @@ module _ (n : ℕ) (image : List ℕ) (lent : length image ≡ n) (bytes : Bytes
         status = omega arith;
         flags = omega arith;
         address = l;
-        payload = bytes-le 2
-            (info .eraseSize);
+        payload = bytes-le 2 (info .eraseSize);
         short = omega (arith, le-length 2 (info .eraseSize));
       }
 
@@ -129,8 +128,7 @@ module _ (n : ℕ) (image : List ℕ) (lent : length image ≡ n) (bytes : Bytes
           arith,
           piece-length image o (writeSize info n o),
           write-size info n o,
-          chunk-most
-              (info .maxPayload),
+          chunk-most (info .maxPayload),
         );
       }
 

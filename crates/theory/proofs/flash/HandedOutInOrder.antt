@@ -163,8 +163,7 @@ module _ (n : ℕ) (image : List ℕ) (lent : length image ≡ n) (bytes : Bytes
           passes : (info : Info) → Passed n (Order.told past) info → Passed n (told before) info
           passes info p = record {
             image = p .image;
-            tells = t .tells
-                ∙ p .tells;
+            tells = t .tells ∙ p .tells;
             fits = p .fits;
             suits = p .suits;
             spans = p .spans;
@@ -174,8 +173,7 @@ module _ (n : ℕ) (image : List ℕ) (lent : length image ≡ n) (bytes : Bytes
           cleared may = record {
             info = may .info;
             passed = passes (may .info) (may .passed);
-            erases = t .erases
-                ∙ may .cleared;
+            erases = t .erases ∙ may .cleared;
           }
 
           may-erase : InOrder n past d → d .command ≡ command-Erase → Passes n before
@@ -242,8 +240,7 @@ module _ (buffer : List ℕ) (most : ℕ) (big : most ≤ length buffer) (n : �
         refl)
         (record {
           each = (now-in-turn, tt);
-          tallies = tallies-lost n (r .lent) (lent .0 .0) (lent .1) past d may seed
-              (r .event) before t e;
+          tallies = tallies-lost n (r .lent) (lent .0 .0) (lent .1) past d may seed (r .event) before t e;
         })
     round-handed (some a) e ih =
         let after = ih a (tallies-answered n (r .lent) (lent .0 .0) (lent .1) past d may seed (r .event) before t a e)

@@ -27,8 +27,7 @@ sound-sizes info s = go (ltb 0 (info .eraseSize)) refl (ltb 0 (info .capacity)) 
     go true e true f true g s = record {
       eraseSize = ltb-true 0 (info .eraseSize) e;
       capacity = ltb-true 0 (info .capacity) f;
-      maxPayload = leb-true 4
-          (info .maxPayload) g;
+      maxPayload = leb-true 4 (info .maxPayload) g;
     }
     go true e true f false g s = absurd (let n : _≡_ {A = ℕ} 0 1 = cc in omega arith)
     go true e false f d g s = absurd (let n : _≡_ {A = ℕ} 0 1 = cc in omega arith)

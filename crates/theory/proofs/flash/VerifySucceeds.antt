@@ -45,8 +45,7 @@ verify-only info a e = go (a .reply) refl e
               payload = payload;
               accepted = q;
               long = ltb-false (length payload) 2 eb;
-              right = sym
-                  (eqb-true _ _ (not-false _ ec));
+              right = sym (eqb-true _ _ (not-false _ ec));
             }
     go (device status) q e = absurd (let z : _≡_ {A = ℕ} 0 1 = cc in omega arith)
 
@@ -55,6 +54,5 @@ unfolding verdict accepted refuseIf _>>=_
 verify-if info a h = rw (
   h .accepted,
   le-ltb (length (h .payload)) 2 (h .long),
-  eq-eqb (check (a .image))
-      (field 0 2 (h .payload)) (sym (h .right)),
+  eq-eqb (check (a .image)) (field 0 2 (h .payload)) (sym (h .right)),
 )

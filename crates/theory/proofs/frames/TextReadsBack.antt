@@ -97,8 +97,7 @@ module _ (h l : ℕ) (text : List ℕ) (high : digit h < 16) (low : digit l < 16
   pair-read : (bs : List ℕ) → Read text bs → Read (h ∷ l ∷ text) ((digit h * 16 + digit l) ∷ bs)
   pair-read bs r = record {
     written = pair-written bs (r .written);
-    digits = omega
-        (arith, r .digits);
+    digits = omega (arith, r .digits);
     bytes = (omega arith, r .bytes);
   }
 

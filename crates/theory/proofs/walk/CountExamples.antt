@@ -24,32 +24,28 @@ rows =
       ids = (0x00 ∷ []) ∷ (0x01 ∷ []) ∷ [];
       bytes = 1;
       under = [];
-      found = (0x00 ∷ []) ∷ (0x01 ∷ [])
-          ∷ [];
+      found = (0x00 ∷ []) ∷ (0x01 ∷ []) ∷ [];
       takes = 8;
     }
     ∷ record {
       ids = (0x01 ∷ []) ∷ (0x03 ∷ []) ∷ [];
       bytes = 1;
       under = [];
-      found = (0x01 ∷ []) ∷ (0x03 ∷ [])
-          ∷ [];
+      found = (0x01 ∷ []) ∷ (0x03 ∷ []) ∷ [];
       takes = 9;
     }
     ∷ record {
       ids = (0x7f ∷ []) ∷ (0xff ∷ []) ∷ [];
       bytes = 1;
       under = [];
-      found = (0x7f ∷ []) ∷ (0xff ∷ [])
-          ∷ [];
+      found = (0x7f ∷ []) ∷ (0xff ∷ []) ∷ [];
       takes = 11;
     }
     ∷ record {
       ids = (0x00 ∷ []) ∷ (0x01 ∷ []) ∷ [];
       bytes = 1;
       under = bitsOf (0x00 ∷ []);
-      found = (0x00 ∷ [])
-          ∷ [];
+      found = (0x00 ∷ []) ∷ [];
       takes = 2;
     }
     ∷ record { ids = [] ∷ []; bytes = 0; under = []; found = [] ∷ []; takes = 2 }
@@ -77,8 +73,7 @@ pods-empty = record {
   distinct = (tt, tt);
   sized = (refl, tt);
   bytes = (tt, tt);
-  within16 = omega
-      arith;
+  within16 = omega arith;
 }
 
 pods-one : (a : ℕ) → a < 256 → Pods 1 ((a ∷ []) ∷ [])

@@ -35,8 +35,7 @@ Grows q ids (stopped r) c = Unit {0}
 none-grown : (q : Prefix) (ids : List Id) → length ids ≤ 64 → Grown q ids ids
 none-grown q ids le = record {
   new = [];
-  grown = sym
-      (append-nil ids);
+  grown = sym (append-nil ids);
   matched = tt;
   separate = tt;
   short = tt;

@@ -126,8 +126,7 @@ two-shorter q x y zs u = shorter q x y (u .matched .0) (u .matched .1 .0) (u .se
 pub two-sides : (q : Prefix) (x y : Id) (zs : List Id) → Under q (x ∷ y ∷ zs) → All (Side q) (x ∷ y ∷ zs)
 two-sides q x y zs u = (
   side q x (two-shorter q x y zs u) (u .matched .0),
-  others (y ∷ zs) (u .matched .1)
-      (u .separate .0),
+  others (y ∷ zs) (u .matched .1) (u .separate .0),
 )
   where
     others : (ys : List Id) → All (λ y. matches q y ≡ true) ys → All (Unlike x) ys → All (Side q) ys

@@ -60,8 +60,7 @@ module _ (pre : Prefix) where
       go : (b : Bool) → ltb (length (path pre marks)) 128 ≡ b
           → FitsNext (cond b (to pre (false ∷ marks) ids asked) (ended (stopped 12)))
       go true e = record {
-        depth = longer marks false 128
-            (ltb-true (length (path pre marks)) 128 e);
+        depth = longer marks false 128 (ltb-true (length (path pre marks)) 128 e);
         few = f;
         short = s;
         held = tt;
@@ -150,14 +149,12 @@ request-fits s t = go (s .phase) (t .held)
       arith,
       w .0,
       w .1,
-      length-append (path (s .pre) (s .marks))
-          (nextBit (path (s .pre) (s .marks)) id ∷ []),
+      length-append (path (s .pre) (s .marks)) (nextBit (path (s .pre) (s .marks)) id ∷ []),
     )
     go (other id good) w = omega (
       arith,
       w .0,
       w .1,
-      length-append (path (s .pre) (s .marks))
-          (not (nextBit (path (s .pre) (s .marks)) id) ∷ []),
+      length-append (path (s .pre) (s .marks)) (not (nextBit (path (s .pre) (s .marks)) id) ∷ []),
     )
     go leaving w = omega arith

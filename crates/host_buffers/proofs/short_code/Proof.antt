@@ -1,8 +1,8 @@
--- `host_buffers::lacks` meets its contract.
-use Rattle.host_buffers.proofs.Ways.{state-lacks, answer-lacks, lacks-nothing}
+-- `host_buffers::short_code` meets its contract.
+use Rattle.host_buffers.proofs.Ways.{state-short, answer-short, none-short}
 use borrow.Author.Needs.{needs}
-use Rattle.host_buffers.proofs.lacks.Statement.{statement}
-use Rattle.host_buffers.proofs.lacks.Tie as tie
+use Rattle.host_buffers.proofs.short_code.Statement.{statement}
+use Rattle.host_buffers.proofs.short_code.Tie as tie
 
 size-requires : tie.Need-size-requires
 size-requires c κs = search needs
@@ -14,19 +14,19 @@ coded-requires : tie.Need-coded-requires
 coded-requires c κs = search needs
 
 returns : tie.Need-returns
-returns c = search (state-lacks, needs)
+returns c = search (state-short, needs)
 
 coded-requires-2 : tie.Need-coded-requires-2
 coded-requires-2 c κs = search needs
 
 returns-2 : tie.Need-returns-2
-returns-2 c = search (answer-lacks, needs)
+returns-2 c = search (answer-short, needs)
 
 returns-3 : tie.Need-returns-3
-returns-3 c = search (lacks-nothing, needs)
+returns-3 c = search (none-short, needs)
 
-pub lacks-spec : {M : Type 1} → statement M
-lacks-spec =
+pub short-code-spec : {M : Type 1} → statement M
+short-code-spec =
     tie.close
     (tie.spec
     size-requires
