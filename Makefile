@@ -4,6 +4,7 @@
 #   make test        runs every test
 #   make install     installs the archive, the header and fahireky.pc under PREFIX (under DESTDIR, if set)
 #   make uninstall   removes them
+#   make tag         tags the version of the file VERSION, after comparing it with header, crate and changelog
 #
 # There is no `make clean`: target/ has the prover's results too, and these take long to compute.
 
@@ -18,7 +19,7 @@ include = $(DESTDIR)$(PREFIX)/include
 # The archive is built again only if one of these is newer.
 sources := crates.txt $(shell find crates -type f -not -path '*/must-fail*')
 
-.PHONY: all test install uninstall
+.PHONY: all test install uninstall tag
 
 all: $(archive)
 
@@ -40,3 +41,7 @@ install: $(archive)
 
 uninstall:
 	rm -f "$(lib)/libfahireky.a" "$(lib)/pkgconfig/fahireky.pc" "$(include)/fahireky.h"
+
+tag:
+	python3 tests/version.py
+	git tag -a "v$(version)" -m "Fahireky $(version)"

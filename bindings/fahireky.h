@@ -190,7 +190,7 @@ uint64_t fahireky_start_attach_to(uint8_t *state, size_t state_len, const uint8_
 
 /* Finds every pod whose id begins with a prefix, which may be empty. Refusal: 13.
  * Ends with FAHIREKY_OUTCOME_FOUND, after a deselect, so that no id is attached; or with FAHIREKY_OUTCOME_UNADDRESSED;
- * or with 12, 14 or 15. */
+ * or with 12, 14 or 15. With these four no deselect has been sent. */
 uint64_t fahireky_start_discover(uint8_t *state, size_t state_len, const uint8_t *prefix, size_t prefix_len,
                                  uint8_t *answer, size_t answer_len);
 

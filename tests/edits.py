@@ -23,7 +23,7 @@ document = root / "docs/WRONG-VERSIONS.md"
 head = """# Wrong versions
 
 Every wrong version of the code, the definitions and the theorems that was tried: in which function or theorem it is,
-which rule of the right version it breaks, and the fact at which the check refuses it. docs/CONTRACTS.md says which are
+which rule of the right version it breaks, and the fact at which the check refuses it. docs/LONG-RUNS.md says which are
 tried when, and has those that change code and contract together. `python3 tests/edits.py --table` writes this file from
 the logs of a check.
 """

@@ -8,7 +8,8 @@ version is
 
     version: LABEL
     # the rule that it breaks
-    proved: CRATE ..                     crates that must still be proved
+    proved: CRATE ..                     crates that must still be proved: every edited one, except that which refuses
+                                         it, where each edited file must be free of errors
     refused: crates/NAME/FILE THEOREM    where the check of NAME must refuse it: at that theorem, and not because
                                          another one was refused; there may be more such lines
     breaks: crates/NAME/FILE THEOREM     if given: what then is not admitted, since a theorem that it needs was refused
@@ -42,9 +43,10 @@ class Version:
         self.breaks = next((tuple(line.split()) for line in entry.all_of("breaks")), None)
 
     def incomplete(self):
-        """Whether something is not said: a crate that is edited must be proved."""
+        """Whether something is not said: a crate that is edited must be proved, or be the one that refuses it."""
         edited = {path.split("/")[1] for path, _, _ in self.edits}
-        return not (self.rule and self.refused and edited and edited <= set(self.proved))
+        refusing = {path.split("/")[1] for path, _ in self.refused}
+        return not (self.rule and self.refused and edited and self.proved and edited <= {*self.proved, *refusing})
 
     def apply(self, tree):
         """Makes the edits in a tree; gives what does not fit, or None."""
@@ -62,6 +64,10 @@ class Version:
         for at in self.refused:
             if at not in errors or lacking.search(errors[at]) or unfit.search(errors[at]):
                 return f"{self.label}: {at[1]} is not refused", None
+        edited = {path for path, _, _ in self.edits}
+        for path, theorem in errors:
+            if path in edited:
+                return f"{self.label}: {theorem} of {path}, which it edits, is not proved", None
         names = ", ".join(theorem for _, theorem in self.refused)
         if self.breaks and not falls(errors, self.breaks, self.refused):
             return f"{self.label}: {self.breaks[1]} does not fall with {names}", None

@@ -241,7 +241,7 @@ fn main() {
     println!("| memory | Rust | calls | crate |");
     println!("|---|---|---|---|");
     println!(
-        "| client at rest, bytes | {} and its heap | {} | {} |",
+        "| size of a client, bytes | {} and its heap | {} | {} |",
         size_of::<reference::Client<bench::Stored>>(),
         fahireky::STATE,
         size_of::<Client>()
