@@ -11,11 +11,12 @@
  *
  * Operations.
  *   1. Start one by a fahireky_start_ call.
- *   2. Get a request by fahireky_request, and send it.
+ *   2. Get a request by fahireky_request, and send it. If it is refused (16, 20 or 21), send nothing: mend the call and
+ *      repeat it.
  *   3. If the answer to that call says FAHIREKY_CLOSING, the operation has succeeded, and nothing is received.
  *   4. Otherwise receive, and pass the bytes to fahireky_record; if the link failed, call fahireky_link_failed instead.
- *   5. If the answer says FAHIREKY_ONWARD, go on with 2. Otherwise the operation has ended, with an outcome or with a
- *      refusal. Refusals 16, 20 and 21 do not end it.
+ *   5. FAHIREKY_ONWARD: go on with 2. FAHIREKY_ENDED: the operation has ended, with an outcome. FAHIREKY_REFUSED: it has
+ *      ended, unless the refusal is 16, 20 or 21.
  * The bytes after the frame that answered a request stay unread. The answer has the place where they begin
  * (FAHIREKY_AT_REST), and the caller puts them before the bytes of the next record. A Select reads the whole record.
  *
@@ -165,10 +166,10 @@ static inline const char *fahireky_refusal_text(unsigned number)
 
 /* Starting an operation.
  *
-  * Each of these returns a code. If the state or the answer buffer is too short, it is 16 with the length needed, and
+ * Each of these returns a code. If the state or the answer buffer is too short, it is 16 with the length needed, and
  * nothing is written. Otherwise it has no length, and the answer says FAHIREKY_ONWARD, or FAHIREKY_REFUSED: with 21 if
  * an operation is running, and with what else the call's comment lists. How the operation can end is listed after it;
- * 1 ends every operation whose link failed. */
+ * 1 ends every operation whose link failed while an answer was awaited. */
 
 /* Selects the pods whose ids begin with the first `bits` bits of a prefix. Refusal: 13.
  * Ends with FAHIREKY_OUTCOME_HEARD, or with 14. */
@@ -248,8 +249,8 @@ uint64_t fahireky_attached(const uint8_t *state, size_t state_len, uint8_t *answ
 
 /* Calls without a client. */
 
-/* Shows what a select hears in a record. Returns a code, with a length only for 16. The answer says FAHIREKY_ENDED, with
- * FAHIREKY_OUTCOME_HEARD.
+/* Shows what a select hears in a record. Returns a code, with a length only for 16. The answer says FAHIREKY_ENDED,
+ * with FAHIREKY_OUTCOME_HEARD.
  * Refusals: 14, 16. */
 uint64_t fahireky_hear(const uint8_t *record, size_t record_len, uint8_t *answer, size_t answer_len);
 

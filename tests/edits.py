@@ -22,10 +22,10 @@ from project import Faults, root
 document = root / "docs/WRONG-VERSIONS.md"
 head = """# Wrong versions
 
-Every wrong version of the code, the definitions and the theorems that was tried: in which function or theorem it is,
-which rule of the right version it breaks, and the fact at which the check refuses it. docs/LONG-RUNS.md says which are
-tried when, and has those that change code and contract together. `python3 tests/edits.py --table` writes this file from
-the logs of a check.
+The wrong versions of the code, the definitions and the theorems that were tried one by one: in which function or
+theorem each is, which rule of the right version it breaks, and the fact at which the check refuses it.
+docs/LONG-RUNS.md says which are tried when, and has those that change code and contract together.
+`python3 tests/edits.py --table` writes this file from the logs of a check.
 """
 unfit = re.compile(
     r"has no `Need-|has no `Tie`|expected type `tie\.Need-|is not in scope|is not a constructor|cannot be parsed|syntax"
