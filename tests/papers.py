@@ -4,6 +4,9 @@ python3 tests/papers.py
 
 A theorem is cited as `FILE.antt: NAME` in docs/THEOREMS.md, with several names after commas; a wrong version as
 `CRATE/LABEL`; a file by its path from crates/, tests/, docs/, bindings/ or oracle/ on.
+
+The notes in docs/landings are not read here: they are history, and name what was there then. `python3 tests/moved.py
+--compare` compares them with the commits that they name.
 """
 import re
 
