@@ -11,21 +11,23 @@ use Rattle.paper.specs.Attach as Attach
 use Rattle.paper.specs.Count.{All}
 use Rattle.paper.specs.Flash as Flash
 use Rattle.paper.specs.Flash.{informOnly, erase, flash, reset}
-use Rattle.paper.specs.Frame.{number, crcBit, crcByte, crcFrom, check, Frame, whole, frameBytes, skipped, rightCheck}
-use Rattle.paper.specs.Frame.{readSized, readSynced, read}
-use Rattle.paper.specs.Hearing.{Id, bitsOf}
+use Rattle.paper.specs.Frame.{number, crcBit, crcByte, crcFrom, check, Frame, whole, badCheck, frameBytes, skipped}
+use Rattle.paper.specs.Frame.{rightCheck, readSized, readSynced, read}
+use Rattle.paper.specs.Hearing.{Id, bitsOf, hear, garble}
 use Rattle.paper.proofs.Words.{Bytes}
 use Rattle.theory.specs.ClientMachine.{Brief}
 use Rattle.theory.specs.ClientDriven.{Round, Lends}
 use Rattle.theory.specs.FlashOrder.{Event, play, everything, told, writesAt, Kept, Stands, Allowed, Flashed, Fronts}
 use Rattle.theory.specs.FlashOrder.{Bounded, most, erasesMost, flashMost}
 use Rattle.theory.specs.HandedOut.{FlashOrder}
+use Rattle.theory.specs.OldCheck.{oldBytes}
 use Rattle.theory.proofs.flash.RequestsBounded as Bound
 use Rattle.theory.proofs.flash.WrittenBytes as Carries
 use Rattle.theory.proofs.flash.WrittenBytes.{CarriesIn}
 use Rattle.theory.proofs.flash.FlashOrder as Order
 use Rattle.theory.proofs.frames.FramesReadBack as FramesReadBack
 use Rattle.theory.proofs.frames.FramesReadBack.{Fits}
+use Rattle.theory.proofs.frames.OldCheckRefused as OldCheckRefused
 use Rattle.client.specs.declared.Client.{Client}
 use Rattle.client.specs.declared.Job.{Job}
 use Rattle.client.specs.declared.Job.the-variants.{Resetting}
@@ -43,6 +45,14 @@ use Rattle.refinement.proofs.client.OperationsAreTalk as Operations
 -- A frame that was written is read back whole, whatever bytes follow.
 pub frame-read : (f : Frame) → Fits f → (more : List ℕ) → read (frameBytes f ++ more) ≡ whole 0 f
 frame-read f fits more = FramesReadBack.read-written f fits more
+
+-- W-202 withdraws document 01's "A5 included". No check is right by both rules: a frame with the old check is read as
+-- one of bad check, and a record that begins with such a frame is heard as Garble, whatever bytes follow.
+pub old-frame-read : (f : Frame) → Fits f → (more : List ℕ) → read (oldBytes f ++ more) ≡ badCheck 0 f
+old-frame-read = OldCheckRefused.old-read
+
+pub old-frame-heard : (f : Frame) → Fits f → (more : List ℕ) → hear (oldBytes f ++ more) ≡ garble
+old-frame-heard = OldCheckRefused.old-heard
 
 -- Each operation is started on a client with none running and driven over any records and failed links. It then agrees
 -- with document 01's conversation: in the answer with its progress, the place where the unread rest begins, the seed,
@@ -146,7 +156,7 @@ abbrev resetting : Client
 resetting = turned fresh (Waiting (Demand (Resetting (record { bootloader = true; given = false; baud = 0 }))))
 
 abbrev reset-answered : List ℕ
-reset-answered = 0xA5 ∷ 0x04 ∷ 0x01 ∷ 0x00 ∷ 0x00 ∷ 0x00 ∷ 0x00 ∷ 0x00 ∷ 0x00 ∷ 0x00 ∷ 0x4C ∷ 0x25 ∷ []
+reset-answered = 0xA5 ∷ 0x04 ∷ 0x01 ∷ 0x00 ∷ 0x00 ∷ 0x00 ∷ 0x00 ∷ 0x00 ∷ 0x00 ∷ 0x00 ∷ 0x4E ∷ 0xC3 ∷ []
 
 pub reset-either-way : (x : List ℕ) → record′ resetting [] (reset-answered ++ x) ≡ record′ resetting [] reset-answered
 unfolding answer answerFrom read readSynced readSized rightCheck skipped number check crcFrom crcByte crcBit fresh

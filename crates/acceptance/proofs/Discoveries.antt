@@ -126,7 +126,7 @@ lists-met = Condition3.lists selectRoom room₃ 250 (omega arith) attached (omeg
 -- Two lists of calls that end with no operation running, each with one Select sent: a plain select that hears an id,
 -- and an attach whose link fails, with calls out of turn.
 abbrev tells-id : List ℕ
-tells-id = 0xA5 ∷ 0x05 ∷ 0x01 ∷ 0x00 ∷ 0x00 ∷ 0x00 ∷ 0x00 ∷ 0x00 ∷ 0x02 ∷ 0x00 ∷ 0xC1 ∷ 0x07 ∷ 0xF8 ∷ 0x10 ∷ []
+tells-id = 0xA5 ∷ 0x05 ∷ 0x01 ∷ 0x00 ∷ 0x00 ∷ 0x00 ∷ 0x00 ∷ 0x00 ∷ 0x02 ∷ 0x00 ∷ 0xC1 ∷ 0x07 ∷ 0xAE ∷ 0x8A ∷ []
 
 abbrev selected : List Call
 selected = Call.startSelect (0x05 ∷ []) 3 ∷ Call.request [] selectRoom ∷ Call.record′ [] tells-id ∷ []
@@ -198,7 +198,7 @@ answered says rest buffer seed =
     record { reply = record { says = says; rest = rest; buffer = buffer }; seed = seed; id = none }
 
 abbrev select-C1 : List ℕ
-select-C1 = 0xA5 ∷ 0x05 ∷ 0x00 ∷ 0x00 ∷ 0x00 ∷ 0x00 ∷ 0x00 ∷ 0x00 ∷ 0x03 ∷ 0x00 ∷ 0x01 ∷ 0x08 ∷ 0xC1 ∷ 0x8D ∷ 0x67 ∷ []
+select-C1 = 0xA5 ∷ 0x05 ∷ 0x00 ∷ 0x00 ∷ 0x00 ∷ 0x00 ∷ 0x00 ∷ 0x00 ∷ 0x03 ∷ 0x00 ∷ 0x01 ∷ 0x08 ∷ 0xC1 ∷ 0x7E ∷ 0x13 ∷ []
 
 pub agree-met :
     codeAnswers fresh unattached
@@ -213,9 +213,9 @@ agree-met = Calls.agree unattached unattached-good
 -- A log with one id, in three pieces: the id is heard at once, it is alone under both bits, and the deselect follows.
 abbrev log : List (List ℕ)
 log = (48 ∷ 49 ∷ 10 ∷ 97 ∷ 53 ∷ 48 ∷ 53 ∷ [])
-    ∷ (48 ∷ 49 ∷ 48 ∷ 48 ∷ 48 ∷ 48 ∷ 48 ∷ 48 ∷ 48 ∷ 48 ∷ 48 ∷ 48 ∷ 48 ∷ 49 ∷ 48 ∷ 48 ∷ 99 ∷ 49 ∷ 100 ∷ 102 ∷ 97 ∷ 57
+    ∷ (48 ∷ 49 ∷ 48 ∷ 48 ∷ 48 ∷ 48 ∷ 48 ∷ 48 ∷ 48 ∷ 48 ∷ 48 ∷ 48 ∷ 48 ∷ 49 ∷ 48 ∷ 48 ∷ 99 ∷ 49 ∷ 51 ∷ 55 ∷ 51 ∷ 54
     ∷ 10 ∷ 10 ∷ 97 ∷ 53 ∷ 48 ∷ 53 ∷ 48 ∷ 49 ∷ 48 ∷ 48 ∷ 48 ∷ [])
-    ∷ (48 ∷ 10 ∷ 48 ∷ 48 ∷ 48 ∷ 48 ∷ 48 ∷ 48 ∷ 48 ∷ 49 ∷ 48 ∷ 48 ∷ 99 ∷ 49 ∷ 100 ∷ 102 ∷ 97 ∷ 57 ∷ 10 ∷ 10 ∷ 10 ∷ 10
+    ∷ (48 ∷ 10 ∷ 48 ∷ 48 ∷ 48 ∷ 48 ∷ 48 ∷ 48 ∷ 48 ∷ 49 ∷ 48 ∷ 48 ∷ 99 ∷ 49 ∷ 51 ∷ 55 ∷ 51 ∷ 54 ∷ 10 ∷ 10 ∷ 10 ∷ 10
     ∷ []) ∷ []
 
 pub writes-met : text (Run.answer

@@ -72,7 +72,7 @@ pub exports-agree-met :
     ≡ answered (onward none) 0 [] 0
     ∷ answered (refused 21 []) 0 [] 0
     ∷ answered (granted 15) 0 ((0xA5 ∷ 0x05 ∷ 0x00 ∷ 0x00 ∷ 0x00 ∷ 0x00 ∷ 0x00 ∷ 0x00 ∷ 0x03 ∷ 0x00 ∷ 0x01 ∷ 0x08
-    ∷ 0xC1 ∷ 0x8D ∷ 0x67 ∷ []) ++ replicate 16 0) 1
+    ∷ 0xC1 ∷ 0x7E ∷ 0x13 ∷ []) ++ replicate 16 0) 1
     ∷ answered (refused 1 []) 0 [] 1
     ∷ answered (refused 21 []) 0 [] 1
     ∷ []

@@ -10,13 +10,14 @@ use Rattle.paper.specs.Answers.{ok, answerFrom, answer, sound, informed, spansT
 use Rattle.paper.specs.Answers.{chunk, padding, steps, apart, below, eraseAddresses}
 use Rattle.paper.specs.Flash.{accepted, transact, refuseIf, inform, eraseOne, eraseAll, prepare, repeated, persist}
 use Rattle.paper.specs.Flash.{writeWithin, offsets, writeAll, verify, informOnly, erase, flash, reset}
-use Rattle.paper.specs.Frame.{le, number, crcBit, crcByte, crcFrom, check, Frame, whole, frameHead, frameBody}
+use Rattle.paper.specs.Frame.{le, number, crcBit, crcByte, crcFrom, check, Frame, whole, badCheck, frameHead, frameBody}
 use Rattle.paper.specs.Frame.{frameBytes, skipped, rightCheck, readSized, readSynced, read, Info, infoOf}
-use Rattle.paper.specs.Hearing.{Id}
+use Rattle.paper.specs.Hearing.{Id, hear, garble}
 use Rattle.paper.specs.Talk.{_>>=_, each, knows}
 use Rattle.theory.specs.ClientDriven.{Round}
 use Rattle.theory.specs.FlashOrder.{Event, heard, failed, unanswered, readEvent, play, toldBy, toldIn, told, Flashed}
 use Rattle.theory.specs.FlashOrder.{Ended, most, erasesMost, flashMost}
+use Rattle.theory.proofs.frames.FramesReadBack.{Fits}
 use Rattle.image.specs.Images.{codeInfo}
 use Rattle.client.specs.declared.Client.{Client}
 use Rattle.client.specs.declared.Job.the-variants.{Writing}
@@ -44,22 +45,22 @@ device = record {
 -- Verify.
 abbrev pub informs : List ℕ
 informs = 0xA5 ∷ 0x00 ∷ 0x01 ∷ 0x00 ∷ 0x00 ∷ 0x00 ∷ 0x00 ∷ 0x00 ∷ 0x12 ∷ 0x00 ∷ 0x06 ∷ 0x00 ∷ 0x00 ∷ 0x00 ∷ 0x04 ∷ 0x00
-    ∷ 0x03 ∷ 0x00 ∷ 0x07 ∷ 0x00 ∷ 0x01 ∷ 0x02 ∷ 0xFF ∷ 0xFF ∷ 0xFF ∷ 0xFF ∷ 0x04 ∷ 0x00 ∷ 0x78 ∷ 0x99 ∷ []
+    ∷ 0x03 ∷ 0x00 ∷ 0x07 ∷ 0x00 ∷ 0x01 ∷ 0x02 ∷ 0xFF ∷ 0xFF ∷ 0xFF ∷ 0xFF ∷ 0x04 ∷ 0x00 ∷ 0x07 ∷ 0x51 ∷ []
 
 abbrev pub erased : List ℕ
-erased = 0xA5 ∷ 0x01 ∷ 0x01 ∷ 0x00 ∷ 0x00 ∷ 0x00 ∷ 0x00 ∷ 0x00 ∷ 0x00 ∷ 0x00 ∷ 0x80 ∷ 0x52 ∷ []
+erased = 0xA5 ∷ 0x01 ∷ 0x01 ∷ 0x00 ∷ 0x00 ∷ 0x00 ∷ 0x00 ∷ 0x00 ∷ 0x00 ∷ 0x00 ∷ 0x82 ∷ 0xB4 ∷ []
 
 abbrev pub wrote : List ℕ
-wrote = 0xA5 ∷ 0x02 ∷ 0x01 ∷ 0x00 ∷ 0x00 ∷ 0x00 ∷ 0x00 ∷ 0x00 ∷ 0x00 ∷ 0x00 ∷ 0xC4 ∷ 0x7F ∷ []
+wrote = 0xA5 ∷ 0x02 ∷ 0x01 ∷ 0x00 ∷ 0x00 ∷ 0x00 ∷ 0x00 ∷ 0x00 ∷ 0x00 ∷ 0x00 ∷ 0xC6 ∷ 0x99 ∷ []
 
 abbrev pub mismatched : List ℕ
-mismatched = 0xA5 ∷ 0x02 ∷ 0x03 ∷ 0x00 ∷ 0x00 ∷ 0x00 ∷ 0x00 ∷ 0x00 ∷ 0x00 ∷ 0x00 ∷ 0x62 ∷ 0xF0 ∷ []
+mismatched = 0xA5 ∷ 0x02 ∷ 0x03 ∷ 0x00 ∷ 0x00 ∷ 0x00 ∷ 0x00 ∷ 0x00 ∷ 0x00 ∷ 0x00 ∷ 0x60 ∷ 0x16 ∷ []
 
 abbrev pub verified : List ℕ
-verified = 0xA5 ∷ 0x03 ∷ 0x01 ∷ 0x00 ∷ 0x00 ∷ 0x00 ∷ 0x00 ∷ 0x00 ∷ 0x02 ∷ 0x00 ∷ 0x87 ∷ 0xBD ∷ 0xF7 ∷ 0x40 ∷ []
+verified = 0xA5 ∷ 0x03 ∷ 0x01 ∷ 0x00 ∷ 0x00 ∷ 0x00 ∷ 0x00 ∷ 0x00 ∷ 0x02 ∷ 0x00 ∷ 0x87 ∷ 0xBD ∷ 0xA1 ∷ 0xDA ∷ []
 
 abbrev pub was-reset : List ℕ
-was-reset = 0xA5 ∷ 0x04 ∷ 0x01 ∷ 0x00 ∷ 0x00 ∷ 0x00 ∷ 0x00 ∷ 0x00 ∷ 0x00 ∷ 0x00 ∷ 0x4C ∷ 0x25 ∷ []
+was-reset = 0xA5 ∷ 0x04 ∷ 0x01 ∷ 0x00 ∷ 0x00 ∷ 0x00 ∷ 0x00 ∷ 0x00 ∷ 0x00 ∷ 0x00 ∷ 0x4E ∷ 0xC3 ∷ []
 
 abbrev pub image : List ℕ
 image = 0x10 ∷ 0x21 ∷ 0x32 ∷ 0x43 ∷ 0x54 ∷ []
@@ -127,7 +128,7 @@ abbrev pub writing : Client
 writing = turned (resting 255 attached) (Waiting (Demand (Writing 5 (codeInfo device) 4 0)))
 
 abbrev echoed : List ℕ
-echoed = 0xA5 ∷ 0x00 ∷ 0x00 ∷ 0x00 ∷ 0x00 ∷ 0x00 ∷ 0x00 ∷ 0x00 ∷ 0x00 ∷ 0x00 ∷ 0x70 ∷ 0xFE ∷ wrote
+echoed = 0xA5 ∷ 0x00 ∷ 0x00 ∷ 0x00 ∷ 0x00 ∷ 0x00 ∷ 0x00 ∷ 0x00 ∷ 0x00 ∷ 0x00 ∷ 0x72 ∷ 0x18 ∷ wrote
 
 pub record-either-way-met : record′ writing image (echoed ++ (0xA5 ∷ 0x05 ∷ [])) ≡ record′ writing image echoed
 unfolding answer answerFrom read readSynced readSized rightCheck skipped number check crcFrom crcByte crcBit
@@ -145,7 +146,7 @@ abbrev selects-101 : Frame
 selects-101 = record { command = 5; status = 0; flags = 0; address = 0; payload = 0x01 ∷ 0x03 ∷ 0x05 ∷ [] }
 
 pub frame-read-met : read (0xA5 ∷ 0x05 ∷ 0x00 ∷ 0x00 ∷ 0x00 ∷ 0x00 ∷ 0x00 ∷ 0x00 ∷ 0x03 ∷ 0x00 ∷ 0x01 ∷ 0x03 ∷ 0x05
-    ∷ 0xBF ∷ 0x22 ∷ 0x99 ∷ []) ≡ whole 0 selects-101
+    ∷ 0x4C ∷ 0x56 ∷ 0x99 ∷ []) ≡ whole 0 selects-101
 unfolding frameBytes frameBody frameHead le check crcFrom crcByte crcBit
 frame-read-met =
     Condition2.frame-read selects-101
@@ -158,3 +159,33 @@ frame-read-met =
       short = omega arith;
     })
     (0x99 ∷ [])
+
+-- A Select's reply of no payload: its bytes; then the same with the old check, and a stray byte after it.
+abbrev selected : Frame
+selected = record { command = 5; status = 1; flags = 0; address = 0; payload = [] }
+
+selected-fits : Fits selected
+selected-fits = record {
+  command = omega arith;
+  status = omega arith;
+  flags = omega arith;
+  address = omega arith;
+  payload = tt;
+  short = omega arith;
+}
+
+pub selected-bytes : frameBytes selected
+    ≡ 0xA5 ∷ 0x05 ∷ 0x01 ∷ 0x00 ∷ 0x00 ∷ 0x00 ∷ 0x00 ∷ 0x00 ∷ 0x00 ∷ 0x00 ∷ 0x6D ∷ 0x28 ∷ []
+unfolding frameBytes frameBody frameHead le check crcFrom crcByte crcBit
+selected-bytes = refl
+
+abbrev selected-before : List ℕ
+selected-before = 0xA5 ∷ 0x05 ∷ 0x01 ∷ 0x00 ∷ 0x00 ∷ 0x00 ∷ 0x00 ∷ 0x00 ∷ 0x00 ∷ 0x00 ∷ 0x6F ∷ 0xCE ∷ 0x99 ∷ []
+
+pub old-frame-read-met : read selected-before ≡ badCheck 0 selected
+unfolding frameBody frameHead le check crcFrom crcByte crcBit
+old-frame-read-met = Condition2.old-frame-read selected selected-fits (0x99 ∷ [])
+
+pub old-frame-heard-met : hear selected-before ≡ garble
+unfolding frameBody frameHead le check crcFrom crcByte crcBit
+old-frame-heard-met = Condition2.old-frame-heard selected selected-fits (0x99 ∷ [])

@@ -26,7 +26,7 @@ room : AnswerBytes.size ≤ length answer
 room = omega (arith, length-replicate {A = ℕ} (AnswerBytes.size + 1) 0xEE)
 
 abbrev replied : List ℕ
-replied = 0xA5 ∷ 0x05 ∷ 0x01 ∷ 0x00 ∷ 0x00 ∷ 0x00 ∷ 0x00 ∷ 0x00 ∷ 0x02 ∷ 0x00 ∷ 0xC1 ∷ 0x07 ∷ 0xF8 ∷ 0x10 ∷ []
+replied = 0xA5 ∷ 0x05 ∷ 0x01 ∷ 0x00 ∷ 0x00 ∷ 0x00 ∷ 0x00 ∷ 0x00 ∷ 0x02 ∷ 0x00 ∷ 0xC1 ∷ 0x07 ∷ 0xAE ∷ 0x8A ∷ []
 
 pub tells-saved-met : tells (λ c. record′ c [] replied) state answer ≡ leaves (record′ seeking [] replied) state answer
 tells-saved-met = tells-saved seeking seeking-fits (0x99 ∷ []) answer room (λ c. record′ c [] replied)

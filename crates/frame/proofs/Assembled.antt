@@ -8,12 +8,12 @@ use lib.ListN.{length, take, drop}
 use lib.Seq.{take-at, drop-at, drop-drop}
 use borrow.Author.Tests.{lt-ltb, le-ltb}
 use borrow.Rule.Slice.PartMut.{putMid}
-use Rattle.paper.specs.Frame.{le, check, Frame, frameHead, frameBody, frameBytes}
+use Rattle.paper.specs.Frame.{le, Frame, frameHead, frameBody, frameCheck, frameBytes}
 use Rattle.lore.proofs.Parts.{part-all, mid-all}
 use Rattle.paper.proofs.Frames.{head-length, body-length, frame-length}
 use Rattle.wire.specs.declared.Placed.the-variants.{Done, Short}
 use Rattle.frame.specs.declared.Head.{Head}
-use Rattle.frame.specs.Writing.{frameOf, tagOf, headOf, placed}
+use Rattle.frame.specs.Writing.{frameOf, tagOf, headOf, placed, sealed}
 
 twelve : (n : ℕ) → n + 10 + 2 ≡ n + 12
 twelve n = omega arith
@@ -66,10 +66,10 @@ module _ (h : Head) (load buf : List ℕ) (n : ℕ) (en : length load ≡ n) whe
         ∙ ap (λ (k : ℕ). drop k buf) (twelve n)
 
     pub assembled : n + 12 ≤ length buf
-        → d₃ ≡ take (n + 10) filled ++ le 2 (check (take (n + 10) filled)) ++ drop (n + 10 + 2) filled
+        → d₃ ≡ sealed (n + 10) filled
         → record { answer = Done (n + 12); bytes = d₃ } ≡ placed (frameBytes f) buf
-    unfolding placed frameBytes
+    unfolding placed sealed frameBytes
     assembled room e₃ =
         rw (frame-is, le-ltb (length buf) (n + 12) room)
         (ap (λ (l : List ℕ). record { answer = Done (n + 12); bytes = l })
-        (e₃ ∙ ap₂ (λ (x y : List ℕ). x ++ le 2 (check x) ++ y) front back))
+        (e₃ ∙ ap₂ (λ (x y : List ℕ). x ++ le 2 (frameCheck x) ++ y) front back))

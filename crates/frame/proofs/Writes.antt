@@ -9,14 +9,14 @@ use lib.Seq.{take-append-seam, drop-append-seam, drop-drop}
 use borrow.Author.Tests.{lt-ltb, le-ltb}
 use borrow.Rule.Slice.PartMut.{putMid}
 use Rattle.paper.specs.Frame.{le, crcFrom, check, Frame, most, frameBytes}
-use Rattle.lore.proofs.Parts.{part-all, mid-all}
+use Rattle.lore.proofs.Parts.{part-all, part-between, mid-all}
 use Rattle.frame.proofs.Assembled.{too-short, assembled}
 use Rattle.wire.specs.declared.Placed.{Placed}
 use Rattle.wire.specs.declared.Placed.the-variants as Placed
 use Rattle.wire.specs.declared.Written.{Written}
 use Rattle.wire.specs.declared.Written.the-variants as Written
 use Rattle.frame.specs.declared.Head.{Head}
-use Rattle.frame.specs.Writing.{frameOf, tagOf, headOf, placed, answerOf, outcome, written}
+use Rattle.frame.specs.Writing.{frameOf, tagOf, headOf, placed, sealed, answerOf, outcome, written}
 
 module _ (h : Head) (n : ℕ) (b d₁ d₂ d₃ : List ℕ) where
   pub headed : d₁ ≡ tagOf h ++ drop 4 b → d₂ ≡ take 4 d₁ ++ le 4 (h .address) ++ drop 8 d₁
@@ -37,10 +37,11 @@ module _ (p dst d₁ d₂ : List ℕ) (pad : ℕ) (e₁ : d₁ ≡ p ++ drop (le
       ∙ ap (λ (r : List ℕ). replicate pad 0xFF ++ r) (drop-drop pad (length p) dst))
       ∙ sym (append-assoc p (replicate pad 0xFF) (drop (length p + pad) dst))
 
-pub sealed : (b d : List ℕ) (n c : ℕ) → c ≡ crcFrom 0xFFFF (take n b) → d ≡ take n b ++ le 2 c ++ drop (n + 2) b
-    → d ≡ take n b ++ le 2 (check (take n b)) ++ drop (n + 2) b
-unfolding check
-sealed b d n c ec ed = rw (← ec) ed
+pub seals : (b d : List ℕ) (n c : ℕ) → c ≡ crcFrom 0xFFFF (take (n - 1) (drop 1 b))
+    → d ≡ take n b ++ le 2 c ++ drop (n + 2) b
+    → d ≡ sealed n b
+unfolding sealed check
+seals b d n c ec ed = rw (← part-between 1 n b, ← ec) ed
 
 -- A frame whose payload is bytes and padding.
 module _ (h : Head) (p : List ℕ) (pad : ℕ) (buf : List ℕ) where
@@ -59,9 +60,7 @@ module _ (h : Head) (p : List ℕ) (pad : ℕ) (buf : List ℕ) where
 
   pub wrote : (d₁ d₂ d₃ : List ℕ) → length p + pad + 12 ≤ length buf → d₁ ≡ headOf h (length p + pad) ++ drop 10 buf
       → d₂ ≡ load ++ drop (length p + pad) (take (length d₁ - 10) (drop 10 d₁))
-      → d₃ ≡ take (length p + pad + 10) (putMid 10 (length d₁ - 10) d₁ d₂)
-      ++ le 2 (check (take (length p + pad + 10) (putMid 10 (length d₁ - 10) d₁ d₂)))
-      ++ drop (length p + pad + 10 + 2) (putMid 10 (length d₁ - 10) d₁ d₂)
+      → d₃ ≡ sealed (length p + pad + 10) (putMid 10 (length d₁ - 10) d₁ d₂)
       → record { answer = Placed.Done (length p + pad + 12); bytes = d₃ } ≡ placed (frameBytes f) buf
   wrote d₁ d₂ d₃ room e₁ e₂ e₃ = assembled h load buf (length p + pad) load-length d₁ d₂ d₃ e₁ e₂ room e₃
 

@@ -1,10 +1,10 @@
 -- A frame from its head and payload, and what a frame's writer answers and leaves in the buffer.
-use Prim.Native.Nat.{ℕ}
+use Prim.Native.Nat.{ℕ, _+_}
 use mathlib.Core.Bool.{cond}
 use mathlib.Core.List.{List, [], _∷_, _++_}
 use lib.Dec.{ltb}
-use lib.ListN.{length, drop}
-use Rattle.paper.specs.Frame.{le, Frame, most, frameBytes}
+use lib.ListN.{length, take, drop}
+use Rattle.paper.specs.Frame.{le, Frame, most, frameCheck, frameBytes}
 use Rattle.wire.specs.declared.Placed.{Placed}
 use Rattle.wire.specs.declared.Placed.the-variants as Placed
 use Rattle.wire.specs.declared.Written.{Written}
@@ -55,6 +55,10 @@ answerOf p = onPlaced p Written.Done Written.Short
 
 abbrev pub outcome : Placing → Outcome
 outcome p = record { answer = answerOf (p .answer); bytes = p .bytes }
+
+-- The buffer with a frame's check written after the frame's first n bytes.
+unfoldable pub sealed : ℕ → List ℕ → List ℕ
+sealed n buffer = take n buffer ++ le 2 (frameCheck (take n buffer)) ++ drop (n + 2) buffer
 
 -- A payload of over 1,024 bytes is too long for any buffer.
 unfoldable pub written : Frame → List ℕ → Outcome

@@ -4,9 +4,9 @@ use wire::Written;
 ghost use mathlib.Core.Path.{_≡_};
 ghost use mathlib.Core.List.{_++_};
 ghost use Prim.Native.Nat.{_+_, _≤_};
-ghost use lib.ListN.{length, take, drop, replicate};
-ghost use Rattle.paper.specs.Frame.{le, check, frameBytes};
-ghost use Rattle.frame.specs.Writing.{frameOf, tagOf, headOf, placed, answerOf, written};
+ghost use lib.ListN.{length, drop, replicate};
+ghost use Rattle.paper.specs.Frame.{frameBytes};
+ghost use Rattle.frame.specs.Writing.{frameOf, tagOf, headOf, placed, sealed, answerOf, written};
 
 // A frame's fields without its payload.
 pub struct Head {
@@ -48,13 +48,13 @@ pub fn put_padded(dst: &mut [u8], bytes: &[u8], pad: usize)
     wire::fill(&mut dst[n..], pad, 0xFF);
 }
 
-// Writes the check of the first n bytes after them.
+// Writes the check of a frame after its first n bytes, which end with its payload.
 pub fn seal(buf: &mut [u8], n: usize)
+    requires { ⌜ 10 ≤ n ⌝ }
     requires { ⌜ n + 2 ≤ length (now buf) ⌝ }
-    ensures { λ _. ⌜ now (buf .exit)
-        ≡ take n (now (buf .entry)) ++ le 2 (check (take n (now (buf .entry)))) ++ drop (n + 2) (now (buf .entry)) ⌝ }
+    ensures { λ _. ⌜ now (buf .exit) ≡ sealed n (now (buf .entry)) ⌝ }
 {
-    let c = crc::crc16(crc::START, &buf[..n]);
+    let c = crc::crc16(crc::START, &buf[1..n]);
     wire::put16(buf, n, c);
 }
 

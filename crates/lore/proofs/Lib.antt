@@ -2,3 +2,4 @@ pub mod Choice
 pub mod Copy
 pub mod Lists
 pub mod Parts
+pub mod Xor

@@ -1,1 +1,1 @@
-// Laws about lists and choices that several crates need and the kit does not have. No code.
+// Laws about lists, choices and XOR that several crates need and the kit does not have. No code.

@@ -3,7 +3,7 @@ use Prim.Native.Nat.{ℕ, _+_}
 use mathlib.Core.Path.{_≡_, refl, _∙_, ap}
 use native.Mathlib.Omega.{arith}
 use lib.ListN.{length, length-append}
-use Rattle.paper.specs.Frame.{le, check, Frame, size, frameHead, frameBody, frameBytes}
+use Rattle.paper.specs.Frame.{le, Frame, size, frameHead, frameBody, frameCheck, frameBytes}
 use Rattle.paper.proofs.Words.{le-length}
 
 pub head-length : (f : Frame) → length (frameHead f) ≡ 10
@@ -18,7 +18,7 @@ pub frame-length : (f : Frame) → length (frameBytes f) ≡ size f
 unfolding frameBytes
 frame-length f = omega (
   arith,
-  length-append (frameBody f) (le 2 (check (frameBody f))),
+  length-append (frameBody f) (le 2 (frameCheck (frameBody f))),
   body-length f,
-  le-length 2 (check (frameBody f)),
+  le-length 2 (frameCheck (frameBody f)),
 )

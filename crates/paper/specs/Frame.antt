@@ -1,5 +1,5 @@
--- Document 01, "Bench frame": numbers in bytes, how a frame is written, its check, how a frame is read, and the Info
--- payload.
+-- Document 01, "Bench frame", with document 02's W-202: numbers in bytes, how a frame is written, its check, how a
+-- frame is read, and the Info payload.
 use Prim.Native.Nat.{ℕ, zero, suc, _+_, _*_, _/_, _%_}
 use mathlib.Core.Bool.{Bool, cond}
 use mathlib.Core.List.{List, [], _∷_, _++_}
@@ -68,9 +68,13 @@ crcFrom c (b ∷ bs) = crcFrom (crcByte c b) bs
 unfoldable pub check : List ℕ → ℕ
 check bytes = crcFrom 0xFFFF bytes
 
--- "the last 2 the check of all bytes before it, A5 included".
+-- W-202: "the check covers bytes 1 up to the end of the payload": the check of a frame, from its bytes up to there.
+abbrev pub frameCheck : List ℕ → ℕ
+frameCheck body = check (drop 1 body)
+
+-- "from 10 the payload; the last 2 the check": all bytes of a frame.
 unfoldable pub frameBytes : Frame → List ℕ
-frameBytes f = frameBody f ++ le 2 (check (frameBody f))
+frameBytes f = frameBody f ++ le 2 (frameCheck (frameBody f))
 
 -- "Commands: Info 0".
 abbrev pub command-Info : ℕ
@@ -147,9 +151,9 @@ fields n bytes = record {
   payload = take n (drop 10 bytes);
 }
 
--- "the check of all bytes before it, A5 included": whether the check after n bytes of payload is right.
+-- "A wrong check: bad check": whether the check after n bytes of payload is right.
 unfoldable pub rightCheck : ℕ → List ℕ → Bool
-rightCheck n bytes = eqb (check (take (10 + n) bytes)) (field (10 + n) 2 bytes)
+rightCheck n bytes = eqb (frameCheck (take (10 + n) bytes)) (field (10 + n) 2 bytes)
 
 -- "Then a length over 1,024: too long. Then bytes missing: short. A wrong check: bad check, fields still read. Else
 -- whole."

@@ -1,1 +1,1 @@
-// Document 01 as definitions, which a reader has to trust. No code.
+// Documents 01 and 02 as definitions, which a reader has to trust. No code.

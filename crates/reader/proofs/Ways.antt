@@ -10,7 +10,7 @@ use lib.ListN.{length, getD, take, drop, length-drop, drop-of-length-le}
 use lib.Seq.{drop-cons, drop-drop, length-take-le}
 use lib.Dec.{eqb, ltb}
 use borrow.Author.Tests.{eq-eqb, ne-eqb, le-ltb}
-use Rattle.lore.proofs.Parts.{part-all}
+use Rattle.lore.proofs.Parts.{part-all, part-between}
 use Rattle.paper.specs.Frame as Paper
 use Rattle.paper.specs.Frame.{field, byte, skipped, check, crcFrom, rightCheck, readSized, readSynced, read, short}
 use Rattle.paper.specs.Frame.{tooLong, badCheck, whole}
@@ -42,10 +42,10 @@ module _ (s : List ℕ) (i : ℕ) (e : i + skipped (drop i s) ≡ skipped s) whe
       none : skipped (drop i s) ≡ 0
       none = rw (drop-of-length-le s {i = i} h)
 
-pub checked : (s : List ℕ) (n c w : ℕ) → c ≡ crcFrom 0xFFFF (take (10 + n) s) → w ≡ field (10 + n) 2 s
+pub checked : (s : List ℕ) (n c w : ℕ) → c ≡ crcFrom 0xFFFF (take (10 + n - 1) (drop 1 s)) → w ≡ field (10 + n) 2 s
     → eqb c w ≡ rightCheck n s
 unfolding rightCheck check
-checked s n c w ec ew = rw (ec, ew)
+checked s n c w ec ew = rw (ec, ew, part-between 1 (10 + n) s)
 
 pub fields-read : (s : List ℕ) (base n a : ℕ) → a ≡ field 4 4 s
     → record {

@@ -61,7 +61,7 @@ fn right_check(s: &[u8], n: usize) -> bool
     ensures { λ r. ⌜ r ≡ rightCheck n (now (s .entry)) ⌝ }
 {
     let e = 10 + n;
-    let c = crc::crc16(crc::START, &s[..e]);
+    let c = crc::crc16(crc::START, &s[1..e]);
     c == wire::get16(s, e)
 }
 

@@ -14,7 +14,7 @@ use lib.ListN.{List·getD-append}
 use lib.Seq.{take-all, take-suc, length-take-le, drop-at, drop-drop, getD-take, getD-append-add, set-append-left}
 use borrow.Author.Tests.{eq-eqb, ne-eqb}
 use borrow.Rule.Slice.PartMut.{putMid}
-use Rattle.paper.specs.Frame.{le, check, frameBytes}
+use Rattle.paper.specs.Frame.{frameBytes}
 use Rattle.paper.specs.Hearing.{bit, bitsOf, packed, selectPayload, selectFrame}
 use Rattle.paper.specs.Walk.{_▹_}
 use Rattle.paper.proofs.Bits.{bits-length, bits-at}
@@ -24,7 +24,7 @@ use Rattle.ids.specs.Ids.{bitOf, withOne, setBit}
 use Rattle.ids.proofs.Shift.{one-shl, or-shl}
 use Rattle.ids.proofs.Pack.{pack-one}
 use Rattle.frame.specs.declared.Head.{Head}
-use Rattle.frame.specs.Writing.{headOf, placed}
+use Rattle.frame.specs.Writing.{headOf, placed, sealed}
 use Rattle.frame.proofs.Assembled.{too-short, assembled}
 use Rattle.wire.specs.declared.Placed.the-variants.{Done, Short}
 use Rattle.select.specs.Selects.{asked, bytesFor}
@@ -190,9 +190,7 @@ module _ (seed : ℕ) (bits : List ℕ) (count : ℕ) (long : length bits ≡ 16
 
     pub select-wrote : (d₁ d₂ d₃ : List ℕ) → 2 + n + 12 ≤ length buf → d₁ ≡ headOf head (2 + n) ++ drop 10 buf
         → d₂ ≡ selectPayload seed (asked bits count) ++ drop (2 + bytesFor count) (take (length d₁ - 10) (drop 10 d₁))
-        → d₃ ≡ take (2 + n + 10) (putMid 10 (length d₁ - 10) d₁ d₂)
-        ++ le 2 (check (take (2 + n + 10) (putMid 10 (length d₁ - 10) d₁ d₂)))
-        ++ drop (2 + n + 10 + 2) (putMid 10 (length d₁ - 10) d₁ d₂)
+        → d₃ ≡ sealed (2 + n + 10) (putMid 10 (length d₁ - 10) d₁ d₂)
         → record { answer = Done (2 + n + 12); bytes = d₃ }
         ≡ placed (frameBytes (selectFrame seed (asked bits count))) buf
     select-wrote d₁ d₂ d₃ room e₁ e₂ e₃ =

@@ -5,16 +5,17 @@ use mathlib.Core.List.{List, [], _∷_, _++_}
 use mathlib.Core.Option.{none, some}
 use mathlib.Core.Path.{_≡_, refl, ap}
 use native.Mathlib.Omega.{arith}
-use lib.ListN.{length, replicate}
+use lib.ListN.{length, take, replicate}
 use Rattle.paper.proofs.Words.{Bytes}
 use Rattle.paper.proofs.Chunks.{chunk-least}
+use Rattle.paper.specs.Answers as Answers
 use Rattle.paper.specs.Answers.{ok, answered, answerFrom, answer, sound, spansTooFar, steps, apart, below}
 use Rattle.paper.specs.Answers.{eraseAddresses, chunk}
 use Rattle.paper.specs.Client as Paper
 use Rattle.paper.specs.Count.{matching, heardOf, honest, All, Distinct, Pods, selects}
 use Rattle.paper.specs.Flash.{infoRequest, transact, inform, erase}
-use Rattle.paper.specs.Frame.{le, number, crcBit, crcByte, crcFrom, check, Frame, whole, frameHead, frameBody}
-use Rattle.paper.specs.Frame.{frameBytes, skipped, rightCheck, readSized, readSynced, read, Info}
+use Rattle.paper.specs.Frame.{le, number, crcBit, crcByte, crcFrom, check, Frame, whole, badCheck, frameHead, frameBody}
+use Rattle.paper.specs.Frame.{frameCheck, frameBytes, skipped, rightCheck, readSized, readSynced, read, Info}
 use Rattle.paper.specs.Hearing.{Id, Prefix, bit, bitsOf, counting, begins, before, one, unaddressed, garble, frames}
 use Rattle.paper.specs.Hearing.{repliesHeard, hear}
 use Rattle.paper.specs.Talk.{return, Answered, knows, _>>=_}
@@ -35,7 +36,8 @@ use Rattle.theory.proofs.walk.FindsExactly.{discover-apart}
 use Rattle.theory.proofs.walk.StatesFit as StatesFit
 use Rattle.theory.proofs.walk.StatesFit.{step-fits, start-fits}
 use Rattle.theory.proofs.flash.VerifySucceeds.{verdict, verify-only, verify-if}
-use Rattle.theory.proofs.frames.FramesReadBack.{Fits, read-written, written-read, fits-read}
+use Rattle.theory.proofs.frames.FramesReadBack.{Fits, bytes-take, read-written, written-read, fits-read}
+use Rattle.theory.proofs.frames.OldCheckRefused.{checks-differ, old-read, old-heard, old-answered}
 use Rattle.theory.proofs.frames.RecordsHeard.{hear-reply, hear-ok, hear-unsupported, hear-other, hear-echo}
 use Rattle.theory.proofs.frames.RecordsHeard.{frames-fuel, answer-fuel, answer-reply, answer-echo}
 use Rattle.theory.proofs.flash.EraseAddresses.{addresses-fit, capacity-fits, addresses-below}
@@ -80,7 +82,7 @@ replying-fits status h = record {
 }
 
 abbrev replied : List ℕ
-replied = 0xA5 ∷ 0x05 ∷ 0x01 ∷ 0x00 ∷ 0x00 ∷ 0x00 ∷ 0x00 ∷ 0x00 ∷ 0x02 ∷ 0x00 ∷ 0xC1 ∷ 0x07 ∷ 0xF8 ∷ 0x10 ∷ []
+replied = 0xA5 ∷ 0x05 ∷ 0x01 ∷ 0x00 ∷ 0x00 ∷ 0x00 ∷ 0x00 ∷ 0x00 ∷ 0x02 ∷ 0x00 ∷ 0xC1 ∷ 0x07 ∷ 0xAE ∷ 0x8A ∷ []
 
 replied-bytes : Bytes replied
 replied-bytes = (
@@ -123,7 +125,7 @@ asking-fits = record {
 }
 
 abbrev asked : List ℕ
-asked = 0xA5 ∷ 0x05 ∷ 0x00 ∷ 0x00 ∷ 0x00 ∷ 0x00 ∷ 0x00 ∷ 0x00 ∷ 0x03 ∷ 0x00 ∷ 0x01 ∷ 0x03 ∷ 0x05 ∷ 0xBF ∷ 0x22 ∷ []
+asked = 0xA5 ∷ 0x05 ∷ 0x00 ∷ 0x00 ∷ 0x00 ∷ 0x00 ∷ 0x00 ∷ 0x00 ∷ 0x03 ∷ 0x00 ∷ 0x01 ∷ 0x03 ∷ 0x05 ∷ 0x4C ∷ 0x56 ∷ []
 
 pub read-written-met : read (replied ++ (0x99 ∷ [])) ≡ whole 0 (replying 1)
 unfolding frameBytes frameBody frameHead le check crcFrom crcByte crcBit
@@ -196,6 +198,27 @@ hear-other-met = hear-other (replying 7) (replying-fits 7 (omega arith)) (omega 
 pub hear-echo-met : hear (asked ++ replied) ≡ hear replied
 unfolding frameBytes frameBody frameHead le check crcFrom crcByte crcBit
 hear-echo-met = hear-echo asking asking-fits replied refl
+
+-- The same reply with the old check, and a stray byte after it.
+abbrev replied-before : List ℕ
+replied-before = 0xA5 ∷ 0x05 ∷ 0x01 ∷ 0x00 ∷ 0x00 ∷ 0x00 ∷ 0x00 ∷ 0x00 ∷ 0x02 ∷ 0x00 ∷ 0xC1 ∷ 0x07 ∷ 0xF8 ∷ 0x10
+    ∷ 0x99 ∷ []
+
+pub checks-differ-met : 0x10F8 ≡ frameCheck (take 12 replied) → ⊥
+unfolding check crcFrom crcByte crcBit
+checks-differ-met = checks-differ (take 12 replied) (bytes-take 12 replied replied-bytes) refl
+
+pub old-read-met : read replied-before ≡ badCheck 0 (replying 1)
+unfolding frameBody frameHead le check crcFrom crcByte crcBit
+old-read-met = old-read (replying 1) (replying-fits 1 (omega arith)) (0x99 ∷ [])
+
+pub old-heard-met : hear replied-before ≡ garble
+unfolding frameBody frameHead le check crcFrom crcByte crcBit
+old-heard-met = old-heard (replying 1) (replying-fits 1 (omega arith)) (0x99 ∷ [])
+
+pub old-answered-met : answer replied-before ≡ answered (Answers.device 3) 14
+unfolding frameBody frameHead le check crcFrom crcByte crcBit
+old-answered-met = old-answered (replying 1) (replying-fits 1 (omega arith)) (0x99 ∷ []) (λ e. absurd (omega arith))
 
 pub frames-fuel-met : frames 14 replied ≡ frames 4096 replied
 frames-fuel-met = frames-fuel 14 4096 replied (omega arith) (omega arith)
@@ -313,7 +336,7 @@ writing = record {
 }
 
 abbrev wrote : List ℕ
-wrote = 0xA5 ∷ 0x02 ∷ 0x01 ∷ 0x00 ∷ 0x00 ∷ 0x00 ∷ 0x00 ∷ 0x00 ∷ 0x00 ∷ 0x00 ∷ 0xC4 ∷ 0x7F ∷ []
+wrote = 0xA5 ∷ 0x02 ∷ 0x01 ∷ 0x00 ∷ 0x00 ∷ 0x00 ∷ 0x00 ∷ 0x00 ∷ 0x00 ∷ 0x00 ∷ 0xC6 ∷ 0x99 ∷ []
 
 writing-fits : ClientsFit.Fits writing
 unfolding sound
@@ -429,14 +452,14 @@ own-most-met = own-most uneven 3 [] apart-met (omega arith, (omega arith, (omega
 -- An erase: the answers to its Info and to its first Erase are heard together, or one after the other.
 abbrev informs : List ℕ
 informs = 0xA5 ∷ 0x00 ∷ 0x01 ∷ 0x00 ∷ 0x00 ∷ 0x00 ∷ 0x00 ∷ 0x00 ∷ 0x12 ∷ 0x00 ∷ 0x06 ∷ 0x00 ∷ 0x00 ∷ 0x00 ∷ 0x04 ∷ 0x00
-    ∷ 0x03 ∷ 0x00 ∷ 0x07 ∷ 0x00 ∷ 0x01 ∷ 0x02 ∷ 0xFF ∷ 0xFF ∷ 0xFF ∷ 0xFF ∷ 0x04 ∷ 0x00 ∷ 0x78 ∷ 0x99 ∷ []
+    ∷ 0x03 ∷ 0x00 ∷ 0x07 ∷ 0x00 ∷ 0x01 ∷ 0x02 ∷ 0xFF ∷ 0xFF ∷ 0xFF ∷ 0xFF ∷ 0x04 ∷ 0x00 ∷ 0x07 ∷ 0x51 ∷ []
 
 abbrev told : List ℕ
 told = 0x06 ∷ 0x00 ∷ 0x00 ∷ 0x00 ∷ 0x04 ∷ 0x00 ∷ 0x03 ∷ 0x00 ∷ 0x07 ∷ 0x00 ∷ 0x01 ∷ 0x02 ∷ 0xFF ∷ 0xFF ∷ 0xFF ∷ 0xFF
     ∷ 0x04 ∷ 0x00 ∷ []
 
 abbrev erased : List ℕ
-erased = 0xA5 ∷ 0x01 ∷ 0x01 ∷ 0x00 ∷ 0x00 ∷ 0x00 ∷ 0x00 ∷ 0x00 ∷ 0x00 ∷ 0x00 ∷ 0x80 ∷ 0x52 ∷ []
+erased = 0xA5 ∷ 0x01 ∷ 0x01 ∷ 0x00 ∷ 0x00 ∷ 0x00 ∷ 0x00 ∷ 0x00 ∷ 0x00 ∷ 0x00 ∷ 0x82 ∷ 0xB4 ∷ []
 
 abbrev hears : List ℕ → Round
 hears bytes = record { image = []; buffer = replicate 14 0; heard = bytes }

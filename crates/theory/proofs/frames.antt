@@ -3,4 +3,5 @@ pub mod IdBits
 pub mod CheckParts
 pub mod FramesReadBack
 pub mod RecordsHeard
+pub mod OldCheckRefused
 pub mod TextReadsBack

@@ -1,6 +1,4 @@
 -- `reader::right_check` meets its contract.
-use native.Mathlib.Omega.{arith}
-use lib.ListN.{length-take}
 use Rattle.reader.proofs.Ways.{checked}
 use borrow.Author.Needs.{needs}
 use Rattle.reader.proofs.right_check.Statement.{statement}
@@ -9,8 +7,14 @@ use Rattle.reader.proofs.right_check.Tie as tie
 add-e : tie.Need-add-e
 add-e c = search needs
 
-slice-aggregate-crc16 : tie.Need-slice-aggregate-crc16
-slice-aggregate-crc16 c = simp length-take (omega arith)
+sub-crc16 : tie.Need-sub-crc16
+sub-crc16 c = search needs
+
+part-crc16-start : tie.Need-part-crc16-start
+part-crc16-start c = search needs
+
+part-crc16-end : tie.Need-part-crc16-end
+part-crc16-end c = search needs
 
 crc16-requires : tie.Need-crc16-requires
 crc16-requires c κs = search needs
@@ -23,4 +27,12 @@ returns c = search (checked, needs)
 
 pub right-check-spec : {M : Type 1} → statement M
 right-check-spec =
-    tie.close (tie.spec add-e slice-aggregate-crc16 crc16-requires get16-requires returns)
+    tie.close
+    (tie.spec
+    add-e
+    sub-crc16
+    part-crc16-start
+    part-crc16-end
+    crc16-requires
+    get16-requires
+    returns)

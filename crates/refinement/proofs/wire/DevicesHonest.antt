@@ -7,8 +7,8 @@ use lib.ListN.{length, take}
 use lib.Seq.{take-append-le}
 use Rattle.paper.specs.Client.{bytesOf}
 use Rattle.paper.specs.Count.{matching, heardOf, All, Pods}
-use Rattle.paper.specs.Frame.{le, check, read, readSynced, skipped, frameHead, frameBody, frameBytes, command-Select}
-use Rattle.paper.specs.Frame.{status-Ok}
+use Rattle.paper.specs.Frame.{le, read, readSynced, skipped, frameHead, frameBody, frameCheck, frameBytes}
+use Rattle.paper.specs.Frame.{command-Select, status-Ok}
 use Rattle.paper.specs.Hearing.{Id, Prefix, bitsOf, garble, selectPayload, packed, clean, frames, hear, selectFrame}
 use Rattle.paper.specs.Talk.{select}
 use Rattle.paper.proofs.Bits.{bits-length}
@@ -34,7 +34,7 @@ bits-in q seed =
     n = (length q + 7) / 8
 
     tail : List ℕ
-    tail = le 2 (check (frameBody (selectFrame seed q)))
+    tail = le 2 (frameCheck (frameBody (selectFrame seed q)))
 
 stray : hear (0 ∷ []) ≡ garble
 unfolding hear frames clean read readSynced skipped

@@ -9,11 +9,11 @@ use lib.ListN.{length, take, drop, length-append, length-drop, take-append-drop}
 use lib.Seq.{take-at, drop-at, take-add, drop-drop, length-take-le}
 use lib.Dec.{eqb, lit<}
 use borrow.Author.Tests.{le-ltb, eq-eqb, eqb-true}
-use Rattle.paper.proofs.Frames.{body-length, frame-length}
-use Rattle.paper.proofs.Readings.{Read, read-known}
+use Rattle.paper.proofs.Frames.{body-length}
+use Rattle.paper.proofs.Readings.{Read, framed, read-known}
 use Rattle.paper.proofs.Words.{Bytes, le-length, number-le, le-number}
-use Rattle.paper.specs.Frame.{le, number, byte, field, check, Frame, size, most, frameHead, frameBody, frameBytes}
-use Rattle.paper.specs.Frame.{fields, rightCheck, skipped, readSized, readSynced, read, whole}
+use Rattle.paper.specs.Frame.{le, number, byte, field, Frame, size, most, frameHead, frameBody, frameCheck, frameBytes}
+use Rattle.paper.specs.Frame.{fields, rightCheck, skipped, readSized, readSynced, read, badCheck, whole}
 use Rattle.theory.proofs.frames.CheckParts.{check-fits}
 
 -- A frame whose fields fit the bytes that they are written in.
@@ -55,13 +55,18 @@ number-fits [] h = omega arith
 number-fits (x ∷ xs) h = rw (pow-suc 256 (length xs)) (omega (arith, number-fits xs (h .1), h .0))
 
 -- The frame that is read, from what is known of the bytes.
-read-made : (s : List ℕ) (n : ℕ) → skipped s ≡ 0 → field 8 2 s ≡ n → n ≤ most → 12 + n ≤ length s
-    → rightCheck n s ≡ true → read s ≡ whole 0 (fields n s)
+read-made : (s : List ℕ) (n : ℕ) (b : Bool) → skipped s ≡ 0 → field 8 2 s ≡ n → n ≤ most → 12 + n ≤ length s
+    → rightCheck n s ≡ b → read s ≡ framed b 0 (fields n s)
 unfolding read readSynced readSized
-read-made s n e en small room right =
+read-made s n b e en small room right =
     rw (e, en, le-ltb (length s) 10 (omega arith), le-ltb most n small, le-ltb (length s) (12 + n) room, right)
+    (go b)
+  where
+    go : (b : Bool) → cond b (whole 0 (fields n s)) (badCheck 0 (fields n s)) ≡ framed b 0 (fields n s)
+    go true = refl
+    go false = refl
 
-body-bytes : (f : Frame) → Fits f → Bytes (frameBody f)
+pub body-bytes : (f : Frame) → Fits f → Bytes (frameBody f)
 unfolding frameBody frameHead
 body-bytes f h =
     bytes-append (frameHead f) (f .payload)
@@ -70,57 +75,69 @@ body-bytes f h =
     (bytes-le 2 (length (f .payload))))
     (h .payload)
 
-module _ (f : Frame) (h : Fits f) (more : List ℕ) where
+-- A frame with any check c.
+module _ (f : Frame) (h : Fits f) (c : ℕ) (two : c < 256 ^ 2) (more : List ℕ) where
   abbrev written : List ℕ
-  written = frameBytes f ++ more
+  written = frameBody f ++ le 2 c ++ more
 
   abbrev n : ℕ
   n = length (f .payload)
 
   -- The body, then the check and what follows.
-  written-parts : written ≡ frameBody f ++ (le 2 (check (frameBody f)) ++ more)
-  unfolding frameBytes
-  written-parts = append-assoc (frameBody f) (le 2 (check (frameBody f))) more
+  written-parts : written ≡ frameBody f ++ (le 2 c ++ more)
+  written-parts = append-assoc (frameBody f) (le 2 c) more
 
   written-synced : skipped written ≡ 0
-  unfolding skipped frameBytes frameBody frameHead
+  unfolding skipped frameBody frameHead
   written-synced = refl
 
   written-sized : field 8 2 written ≡ n
-  unfolding frameBytes frameBody frameHead le
+  unfolding frameBody frameHead le
   written-sized = number-le 2 (length (f .payload)) (omega (arith, h .short))
 
   written-payload : take n (drop 10 written) ≡ f .payload
-  unfolding frameBytes frameBody frameHead le
-  written-payload =
-      ap (take n) (append-assoc (f .payload) (le 2 (check (frameBody f))) more)
-      ∙ take-at (f .payload) (le 2 (check (frameBody f)) ++ more) n refl
+  unfolding frameBody frameHead le
+  written-payload = ap (take n) (append-assoc (f .payload) (le 2 c) more) ∙ take-at (f .payload) (le 2 c ++ more) n refl
 
   written-fields : fields n written ≡ f
-  unfolding frameBytes frameBody frameHead le
+  unfolding frameBody frameHead le
   written-fields =
       ap₂ (λ (a : ℕ) (p : List ℕ). record
       { command = f .command; status = f .status; flags = f .flags; address = a; payload = p })
       (number-le 4 (f .address) (h .address))
       written-payload
 
-  written-checked : rightCheck n written ≡ true
+  written-checked : rightCheck n written ≡ eqb (frameCheck (frameBody f)) c
   unfolding rightCheck
   written-checked =
-      eq-eqb _ _
-      (ap check (ap (take (10 + n)) written-parts ∙ take-at (frameBody f) after (10 + n) (body-length f))
-      ∙ sym
+      ap₂ eqb
+      (ap frameCheck
+      (ap (take (10 + n)) written-parts ∙ take-at (frameBody f) (le 2 c ++ more) (10 + n) (body-length f)))
       (ap (λ (t : List ℕ). number (take 2 t))
-      (ap (drop (10 + n)) written-parts ∙ drop-at (frameBody f) after (10 + n) (body-length f))
-      ∙ ap number (take-at (le 2 (check (frameBody f))) more 2 (le-length 2 (check (frameBody f))))
-      ∙ number-le 2 (check (frameBody f)) (check-fits (frameBody f) (body-bytes f h))))
-    where
-      after : List ℕ
-      after = le 2 (check (frameBody f)) ++ more
+      (ap (drop (10 + n)) written-parts ∙ drop-at (frameBody f) (le 2 c ++ more) (10 + n) (body-length f))
+      ∙ ap number (take-at (le 2 c) more 2 (le-length 2 c))
+      ∙ number-le 2 c two)
 
-  pub read-written : read (frameBytes f ++ more) ≡ whole 0 f
-  read-written = read-made written n written-synced written-sized (h .short)
-      (omega (arith, length-append (frameBytes f) more, frame-length f)) written-checked ∙ ap (whole 0) written-fields
+  pub read-checked : (b : Bool) → eqb (frameCheck (frameBody f)) c ≡ b
+      → read (frameBody f ++ le 2 c ++ more) ≡ framed b 0 f
+  read-checked b e =
+      read-made written n b written-synced written-sized (h .short)
+      (omega (
+        arith,
+        ap length written-parts,
+        length-append (frameBody f) (le 2 c ++ more),
+        body-length f,
+        length-append (le 2 c) more,
+        le-length 2 c,
+      )) (written-checked ∙ e)
+      ∙ ap (framed b 0) written-fields
+
+pub read-written : (f : Frame) → Fits f → (more : List ℕ) → read (frameBytes f ++ more) ≡ whole 0 f
+unfolding frameBytes
+read-written f h more =
+    read-checked f h (frameCheck (frameBody f))
+    (check-fits (drop 1 (frameBody f)) (bytes-drop 1 (frameBody f) (body-bytes f h))) more true
+    (eq-eqb (frameCheck (frameBody f)) (frameCheck (frameBody f)) refl)
 
 -- The byte after those skipped is A5.
 synced : (s : List ℕ) → skipped s < length s → byte 0 (drop (skipped s) s) ≡ 0xA5
@@ -192,7 +209,7 @@ module _ (n : ℕ) (t : List ℕ) (h : Bytes t) (room : 12 + n ≤ length t) whe
   fields-bytes : byte 0 t ≡ 0xA5 → field 8 2 t ≡ n → rightCheck n t ≡ true → frameBytes (fields n t) ≡ take (12 + n) t
   unfolding frameBytes rightCheck
   fields-bytes e en right =
-      ap (λ (x : List ℕ). x ++ le 2 (check x)) (fields-body e en)
+      ap (λ (x : List ℕ). x ++ le 2 (frameCheck x)) (fields-body e en)
       ∙ ap (λ (x : ℕ). take (10 + n) t ++ le 2 x) (eqb-true _ _ right)
       ∙ ap (λ (x : List ℕ). take (10 + n) t ++ x) (le-field (10 + n) 2 t h (omega arith))
       ∙ sym (take-add (10 + n) 2 t)
