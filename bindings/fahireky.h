@@ -41,9 +41,9 @@
 extern "C" {
 #endif
 
-#define FAHIREKY_VERSION "0.1.0"
+#define FAHIREKY_VERSION "0.2.0"
 #define FAHIREKY_VERSION_MAJOR 0
-#define FAHIREKY_VERSION_MINOR 1
+#define FAHIREKY_VERSION_MINOR 2
 #define FAHIREKY_VERSION_PATCH 0
 
 #define FAHIREKY_STATE 1352   /* bytes of a state */
@@ -270,7 +270,8 @@ uint64_t fahireky_parse_uid(const uint8_t *text, size_t text_len, uint8_t *id, s
 /* Returns the compatibility key at the end of an image, with bit 32 set; 0 if the image has none. */
 uint64_t fahireky_image_compat(const uint8_t *image, size_t image_len);
 
-/* Returns the check of some bytes: CRC-16/IBM-3740 from a start value, which is 0xFFFF for a whole frame or image. */
+/* Returns the CRC-16/IBM-3740 of some bytes, carried on from `start`; begin with 0xFFFF. The check of an image is that
+ * of all its bytes, the check of a frame that of bytes 1 up to the end of its payload. */
 uint16_t fahireky_crc16(uint16_t start, const uint8_t *bytes, size_t len);
 
 /* Return FAHIREKY_STATE and FAHIREKY_ANSWER as the archive that is linked has them. */

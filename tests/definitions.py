@@ -3,15 +3,15 @@
 python3 tests/definitions.py           compares every answer; each branch of each definition must be taken
 python3 tests/definitions.py --table   the same, and writes docs/COVERAGE.md
 
-The Rust's answers are those of tests/oracle. Where document 01 goes beyond the Rust, or a definition is no part of a
-client, there are the logs of tests/logs and the cases below, each beside document 01's sentence. tests/antt.py, which
+The Rust's answers are those of tests/oracle. Where documents 01 and 02 go beyond the Rust, or a definition is no part
+of a client, there are the logs of tests/logs and the cases below, each beside its sentence. tests/antt.py, which
 reads and runs the definitions, is tested on a table of examples that is proved.
 """
 import struct
 
 import project
 from antt import NIL, Fun, Paper, apply, deep, force, listed, plain, shorten
-from bench import CRC_MISMATCH, ERASE, INFO, OK, SELECT, VERIFY, WRITE, bits_of, frame
+from bench import CRC_MISMATCH, ERASE, INFO, OK, SELECT, VERIFY, WRITE, bits_of, check, frame
 from project import Faults, root
 
 stored = root / "tests/oracle"
@@ -236,8 +236,8 @@ def info(capacity=4, erase_size=4, compat=0xFFFFFFFF, max_payload=4):
 
 
 def of_the_paper(paper):
-    """Document 01's sentences where it goes beyond the Rust, and its examples. The first string of each case is the
-    sentence."""
+    """Sentences of documents 01 and 02 where they go beyond the Rust, and their examples. The first string of each case
+    is the sentence."""
     def ends(sentence, operation, records, n, carries=()):
         player = Player(paper)
         player.play([operation.hex(), *("00" + r.hex() for r in records)])
@@ -311,6 +311,10 @@ def of_the_paper(paper):
     yield equal("A wrong check: bad check, fields still read. Else whole",
                 (read(b"\0\0" + checked + b"\0"), ("Frame.whole", 2, fields)),
                 (read(checked[:-1] + b"\0"), ("Frame.badCheck", 0, fields)))
+    old = frame(1, 2, b"abc", flags=3, address=0x87654321, check_of=check)
+    yield equal("the check covers bytes 1 up to the end of the payload",
+                (of("Frame.frameBytes", {**fields, "payload": listed(fields["payload"])}), list(checked)),
+                (read(old), ("Frame.badCheck", 0, fields)))
     ids = [[1, 0], [1], [], [0, 2], [1, 0, 0]]
     yield equal("sort by bytes, a shorter id before one that it begins",
                 (of("Walk.sort", listed([listed(i) for i in ids])), sorted(ids)))
@@ -334,8 +338,8 @@ def of_the_paper(paper):
 HEAD = """# What the examples take of the paper's definitions
 
 Written by `tests/definitions.py --table`, which runs the text of `crates/paper/specs` on the Rust's stored answers
-(`tests/oracle`) and on other examples: the stored logs (`tests/logs`), and cases beside document 01's sentences where
-it goes beyond the Rust. Each answer is compared. A branch is a clause, an arm of a choice (`cond`, `refuseIf`,
+(`tests/oracle`) and on other examples: the stored logs (`tests/logs`), and cases beside sentences of documents 01 and
+02 where they go beyond the Rust. Each answer is compared. A branch is a clause, an arm of a choice (`cond`, `refuseIf`,
 `onSome`, `onReading`, `onLeft`, `unlessEcho`), or a way that `&&` or `||` comes out; it counts where its value is
 wanted, and once for an example.
 

@@ -1,5 +1,5 @@
-"""Bench logs, and what the program bench_log must print for them, by an implementation of document 01 that shares no
-code with the Rattle crates.
+"""Bench logs, and what the program bench_log must print for them, by an implementation of documents 01 and 02 that
+shares no code with the Rattle crates.
 
 python3 tests/logs.py --make              writes tests/logs/NAME.in and NAME.out, and one of them to crates/bench_log,
                                           where `rt check` runs the program on it
@@ -10,7 +10,7 @@ import struct
 import subprocess
 
 import project
-from bench import OK, REQUEST, SELECT, UNSUPPORTED, bits_of, check, frame
+from bench import OK, REQUEST, SELECT, UNSUPPORTED, bits_of, check, frame, frame_check
 from project import root
 
 folder = root / "tests/logs"
@@ -29,7 +29,7 @@ def hear(record):
         if n > 1024 or len(record) - at < 12 + n:
             return ("garble",)
         body = record[at:at + 10 + n]
-        if struct.unpack_from("<H", record, at + 10 + n)[0] != check(body):
+        if struct.unpack_from("<H", record, at + 10 + n)[0] != frame_check(body):
             return ("garble",)
         if body[2] != REQUEST:
             replies.append((body[2], body[10:]))
@@ -215,6 +215,7 @@ def logs():
     yield "unaddressed", log(b"", always(frame(SELECT, UNSUPPORTED, b"")))
     yield "an_id_of_17_bytes", log(b"", always(reply(bytes(17))))
     yield "an_id_of_17_bytes_with_noise", log(b"", always(reply(bytes(17)), b"\x00"))
+    yield "a_reply_with_the_old_check", b"01\n" + frame(SELECT, OK, b"", check_of=check).hex().encode() + b"\n\n"
     yield "two_clean_replies", log(b"\x00" * 16, always(reply(b"\x01"), reply(b"\x02")))
     yield "a_long_frame", log(b"\x00" * 16, always(frame(SELECT, OK, bytes(1024))))
     yield "empty_input", b""

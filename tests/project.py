@@ -17,7 +17,7 @@ import sys
 from collections import namedtuple
 
 root = pathlib.Path(__file__).resolve().parent.parent
-documents = root / "../shared/documents"  # beside the repository and not in it: document 01, and client.rs in src/
+documents = root / "../shared/documents"  # beside the repository: documents 01 and 02, and client.rs in src/
 
 
 class Faults(Exception):

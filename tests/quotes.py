@@ -1,20 +1,23 @@
-"""The paper quotes document 01.
+"""The paper quotes documents 01 and 02.
 
-python3 tests/quotes.py             each definition of crates/paper/specs has above it what it renders
-python3 tests/quotes.py --compare   each quotation stands in document 01
+python3 tests/quotes.py             each definition of crates/paper/specs has above it what it renders, and none quotes
+                                    what a request has withdrawn
+python3 tests/quotes.py --compare   each quotation stands in its document
 
 What a definition renders is a quotation in double quotes (of a sentence, or of a section's name), or the words "Of the
-next" where it only serves the one below it. A quotation stands in one paragraph of document 01, its pieces between
-` .. ` in their order, once lines are joined and markdown's marks dropped. Document 01 is not in this repository, but in
-../shared/documents beside it; without it --compare fails.
+next" where it only serves the one below it. A quotation after a request's number, as in `W-202: "the check covers"`,
+stands in the paragraph of that request in document 02, any other in a paragraph of document 01: its pieces between
+` .. ` in their order, once lines are joined and markdown's marks dropped. The documents are not in this repository, but
+in ../shared/documents beside it; without them --compare fails.
 """
 import re
 
 import project
 from project import Faults, root
 
-source = project.documents / "01-scope.md"
-quoted = re.compile(r'"([^"]+)"')
+sources = {"01": project.documents / "01-scope.md", "02": project.documents / "02-change-requests.md"}
+withdrawn = {"W-202": "A5 included"}  # words of document 01 that a request of document 02 takes back
+quoted = re.compile(r'(?:(W-\d+): )?"([^"]+)"')
 definition = re.compile(r"(?:unfoldable |abbrev )?pub (?:data |record )?(?!mod )(\S+)")
 
 
@@ -35,7 +38,8 @@ def stands(quotation, paragraph):
 
 
 def quotations():
-    """Of each definition, the file's name, its own, and what it quotes; None where that is missing."""
+    """Of each definition, the file's name, its own, and what it quotes: the request or "", and the words; None where
+    that is missing."""
     for file in sorted((root / "crates/paper/specs").rglob("*.antt")):
         lines = file.read_text().split("\n")
         yield from ((file.name, "its first line", quotation) for quotation in quoted.findall(lines[0]))
@@ -53,20 +57,41 @@ def quotations():
                 yield file.name, name[1], None
 
 
+def paragraphs(document):
+    if not sources[document].exists():
+        raise Faults(f"document {document} is not in ../shared/documents: its quotations are not compared")
+    return [joined(part) for part in re.split(r"\n\s*\n", sources[document].read_text())]
+
+
+def faults_of_definitions(every):
+    """A definition that quotes nothing, or what a request has withdrawn."""
+    for file, name, quotation in every:
+        if quotation is None:
+            yield f"{file}: {name} has no quotation above it"
+            continue
+        for request, words in withdrawn.items():
+            if words in quotation[1]:
+                yield f"{file}: {name}: {request} has withdrawn: {words}"
+
+
+def faults_of_quotations(found):
+    """A quotation that is not in its document."""
+    scope, requests = paragraphs("01"), paragraphs("02")
+    for file, name, (request, words) in found:
+        among = [part for part in requests if part.startswith(f"{request}. ")] if request else scope
+        if not any(stands(words, part) for part in among):
+            yield f"{file}: {name}: not in {request or 'document 01'}: {words}"
+
+
 def main(words):
     if words not in ([], ["--compare"]):
         raise Faults(__doc__)
     every = list(quotations())
     found = [quotation for quotation in every if quotation[2]]
-    if not words:
-        faults = [f"{file}: {name} has no quotation above it" for file, name, quotation in every if not quotation]
-        return project.finish(faults, f"{len(found)} quotations of document 01, {len(faults)} faults", found)
-    if not source.exists():
-        raise Faults(f"document 01 is not in ../shared/documents: {len(found)} quotations are not compared")
-    paragraphs = [joined(part) for part in re.split(r"\n\s*\n", source.read_text())]
-    faults = [f"{file}: {name}: not in document 01: {quotation}" for file, name, quotation in found
-              if not any(stands(quotation, paragraph) for paragraph in paragraphs)]
-    return project.finish(faults, f"{len(found)} quotations compared with document 01, {len(faults)} faults", found)
+    faults = list(faults_of_quotations(found) if words else faults_of_definitions(every))
+    of_02 = sum(1 for _, _, (request, _) in found if request)
+    counted = f"{len(found) - of_02} quotations of document 01 and {of_02} of document 02"
+    return project.finish(faults, f"{counted}{' compared' if words else ''}, {len(faults)} faults", found)
 
 
 if __name__ == "__main__":

@@ -18,6 +18,7 @@ def examples():
         f"check of 123456789: {check(b'123456789'):04x}\n"
         + example("Info request", INFO, REQUEST, b"", "nothing")
         + example("Select reply, Ok", SELECT, OK, b"abc", "one 616263")
+        + example("Select reply, Ok, of the empty id", SELECT, OK, b"", "one ")
         + example("Select reply, Unsupported", SELECT, UNSUPPORTED, b"", "unaddressed")
         + example("Write of one byte, padded", WRITE, REQUEST, b"a\xff\xff\xff", "nothing")
         + example("reply of another status", SELECT, 7, b"", "garble")

@@ -179,11 +179,11 @@ static struct pod pods[PODS] = {
     {.id = {0xF0, 0x00, 0x00, 0x01}},
 };
 
-/* Appends a frame: a pod's answer. */
+/* Appends a frame, a pod's answer. Its check leaves out byte 0, which is A5. */
 static void answer(struct record *record, uint8_t command, uint8_t status, const uint8_t *payload, uint8_t len)
 {
     const uint8_t head[HEAD] = {0xA5, command, status, [8] = len};
-    uint16_t crc = fahireky_crc16(fahireky_crc16(0xFFFF, head, sizeof head), payload, len);
+    uint16_t crc = fahireky_crc16(fahireky_crc16(0xFFFF, head + 1, sizeof head - 1), payload, len);
     const uint8_t check[CHECK] = {(uint8_t)crc, (uint8_t)(crc >> 8)};
     append(record, head, sizeof head);
     append(record, payload, len);

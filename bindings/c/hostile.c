@@ -135,7 +135,7 @@ static size_t frame(uint8_t *out, uint8_t command, uint8_t status, const uint8_t
         memcpy(out + 10, payload, n);
     else
         scatter(out + 10, n);
-    uint16_t c = check(0xFFFF, out, 10 + n);
+    uint16_t c = check(0xFFFF, out + 1, 9 + n);
     out[10 + n] = (uint8_t)c;
     out[11 + n] = (uint8_t)(c >> 8);
     return 12 + n;

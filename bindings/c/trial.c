@@ -337,7 +337,7 @@ static void judge_request(const uint8_t *frame, uint64_t code)
     must(n >= 12 && n <= FAHIREKY_REQUEST && n <= call.len[OUTPUT], "the request's length", code);
     must(frame[0] == 0xA5 && frame[1] <= 5 && frame[2] == 0 && number_at(frame + 8, 2) == n - 12, "the request's head",
          code);
-    must(number_at(frame + n - 2, 2) == check(0xFFFF, frame, n - 2), "the request's check", code);
+    must(number_at(frame + n - 2, 2) == check(0xFFFF, frame + 1, n - 3), "the request's check", code);
 }
 
 /* No operation is running in a state. */

@@ -22,7 +22,7 @@
 //! #         };
 //! #         let head = [0xA5, request[1], 1, 0, 0, 0, 0, 0, payload.len() as u8, 0];
 //! #         let answer = [&head[..], &payload].concat();
-//! #         let check = fahireky::crc16(0xFFFF, &answer).to_le_bytes();
+//! #         let check = fahireky::crc16(0xFFFF, &answer[1..]).to_le_bytes();
 //! #         Ok([request, &answer, &check].concat())
 //! #     }
 //! # }
@@ -121,7 +121,8 @@ pub fn hear(record: &[u8]) -> Result<Heard, Refusal> {
     raw::hear(record)
 }
 
-/// The checksum of frames and images, CRC-16/IBM-3740, carried on from a start: 0xFFFF for a whole frame or image.
+/// The CRC-16/IBM-3740 of some bytes, carried on from `start`; begin with 0xFFFF. The checksum of an image is that of
+/// all its bytes, the checksum of a frame that of bytes 1 up to the end of its payload.
 pub fn crc16(start: u16, bytes: &[u8]) -> u16 {
     raw::crc16(start, bytes)
 }

@@ -5,7 +5,7 @@ use fahireky::{Client, Heard, Id, Next, Outcome, Refusal, Request, STATE};
 fn reply(status: u8, payload: &[u8]) -> Vec<u8> {
     let mut frame = vec![0xA5, 5, status, 0, 0, 0, 0, 0, payload.len() as u8, 0];
     frame.extend(payload);
-    frame.extend(fahireky::crc16(0xFFFF, &frame).to_le_bytes());
+    frame.extend(fahireky::crc16(0xFFFF, &frame[1..]).to_le_bytes());
     frame
 }
 

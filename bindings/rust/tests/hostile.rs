@@ -38,7 +38,7 @@ fn frame(command: u8, status: u8, payload: &[u8]) -> Vec<u8> {
     let n = (payload.len() as u16).to_le_bytes();
     let mut frame = vec![0xA5, command, status, 0, 0, 0, 0, 0, n[0], n[1]];
     frame.extend(payload);
-    frame.extend(fahireky::crc16(0xFFFF, &frame).to_le_bytes());
+    frame.extend(fahireky::crc16(0xFFFF, &frame[1..]).to_le_bytes());
     frame
 }
 
@@ -175,7 +175,7 @@ impl Side {
         let n = told.map_or(0, |r| r.len);
         assert_eq!(buffer[n..], room[n..]);
         if told.is_ok() {
-            assert_eq!(fahireky::crc16(0xFFFF, &buffer[..n - 2]).to_le_bytes(), buffer[n - 2..n]);
+            assert_eq!(fahireky::crc16(0xFFFF, &buffer[1..n - 2]).to_le_bytes(), buffer[n - 2..n]);
             self.request = buffer[..n].to_vec();
         }
     }

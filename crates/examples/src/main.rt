@@ -50,6 +50,7 @@ fn main() {
     show::print(b"\n");
     print_frame(b"Info request: ", 0, 0, b"", 0);
     print_frame(b"Select reply, Ok: ", 5, 1, b"abc", 0);
+    print_frame(b"Select reply, Ok, of the empty id: ", 5, 1, b"", 0);
     print_frame(b"Select reply, Unsupported: ", 5, 2, b"", 0);
     print_frame(b"Write of one byte, padded: ", 2, 0, b"a", 3);
     print_frame(b"reply of another status: ", 5, 7, b"", 0);

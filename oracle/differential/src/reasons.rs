@@ -1,5 +1,5 @@
 //! When a refusal that document 01 adds to the Rust's is due, read from the bytes: the requests sent and the records
-//! handed in. The reader here is written from document 01; it is neither the port's nor the Rust's.
+//! handed in. The reader here is written from documents 01 and 02; it is neither the port's nor the Rust's.
 
 use crate::run::{End, Operation, Rust, Trace};
 
@@ -27,7 +27,7 @@ fn frame(bytes: &[u8]) -> Option<Frame<'_>> {
         skipped: skipped > 0,
         status: from[2],
         payload: &from[10..end],
-        whole: number(written) == check(&from[..end]),
+        whole: number(written) == check(&from[1..end]),
         after: &from[end + 2..],
     })
 }

@@ -47,13 +47,13 @@ impl Random {
     }
 }
 
-/// A frame of document 01.
+/// A frame: "the check covers bytes 1 up to the end of the payload".
 pub fn frame(command: u8, status: u8, flags: u8, address: u32, payload: &[u8]) -> Vec<u8> {
     let mut bytes = vec![0xA5, command, status, flags];
     bytes.extend(address.to_le_bytes());
     bytes.extend((payload.len() as u16).to_le_bytes());
     bytes.extend(payload);
-    let check = crc16(CRC_INIT, &bytes);
+    let check = crc16(CRC_INIT, &bytes[1..]);
     bytes.extend(check.to_le_bytes());
     bytes
 }

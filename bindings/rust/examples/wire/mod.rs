@@ -9,11 +9,11 @@ const BLOCK: usize = 512;
 /// What it reports of itself; it takes payloads of 64 bytes.
 const INFO: [u8; 18] = [0, 0x10, 0, 0, 0, 2, 1, 0, 2, 0, 0, 0xFF, 0xFF, 0xFF, 0xFF, 0xFF, 64, 0];
 
-/// A frame from a pod, with its check.
+/// A frame from a pod. Its check leaves out byte 0, which is A5.
 pub fn reply(command: u8, status: u8, payload: &[u8]) -> Vec<u8> {
     let mut frame = vec![0xA5, command, status, 0, 0, 0, 0, 0, payload.len() as u8, 0];
     frame.extend(payload);
-    frame.extend(fahireky::crc16(0xFFFF, &frame).to_le_bytes());
+    frame.extend(fahireky::crc16(0xFFFF, &frame[1..]).to_le_bytes());
     frame
 }
 

@@ -1,5 +1,5 @@
-//! Stands in for `tinyboot_protocol`: document 01's bench frame, its check, and the numbers of commands, statuses
-//! and flags.
+//! Stands in for `tinyboot_protocol`: document 01's bench frame, its check by document 02, and the numbers of commands,
+//! statuses and flags.
 #![allow(non_upper_case_globals)]
 
 /// An unset compatibility key.
@@ -171,7 +171,7 @@ pub mod frame {
             let mut bytes = Vec::with_capacity(12 + n);
             bytes.extend_from_slice(&self.head());
             bytes.extend_from_slice(unsafe { &self.data.raw[..n] });
-            bytes.extend_from_slice(&crc16(CRC_INIT, &bytes).to_le_bytes());
+            bytes.extend_from_slice(&crc16(CRC_INIT, &bytes[1..]).to_le_bytes());
             let mut left = bytes.as_slice();
             while !left.is_empty() {
                 let sent = w.write(left)?;
@@ -198,7 +198,7 @@ pub mod frame {
             self.len = n;
             let payload = unsafe { &mut self.data.raw[..n as usize] };
             fill(r, payload)?;
-            let check = crc16(crc16(CRC_INIT, &head), payload);
+            let check = crc16(crc16(CRC_INIT, &head[1..]), payload);
             let mut last = [0u8; 2];
             fill(r, &mut last)?;
             if u16::from_le_bytes(last) == check { Ok(Status::Ok) } else { Ok(Status::CrcMismatch) }
