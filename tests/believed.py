@@ -489,16 +489,16 @@ statements through the definitions that they need. Lines are those of types and 
 statement needs, or only a proof uses, is not here; nor are the files of acceptance that show values which meet a
 premise.
 
-@## Document 01
+@## Documents 01 and 02
 
-TOTAL. They are believed to say what document 01 says: each stands under the sentence
+TOTAL. They are believed to say what the documents say: each stands under the sentence
 that it renders, and `tests/definitions.py` runs them on the Rust's answers.
 
 @## What is said of the code
 
 TOTAL. No contract of the code cites them. They are believed to say what they are
-named for: how a client is driven and what a wire answers, how an answer is read as document 01's, what order and bound
-mean.
+named for: how a client is driven and what a wire answers, how an answer is read as document 01's, what order and
+bound mean, and the old check.
 
 @## What the code does
 

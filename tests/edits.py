@@ -52,18 +52,25 @@ class Wrong:
         return "::".join(self.place or ())
 
     def find(self, edits):
-        """Makes the edits one after the other, as rt does, and finds the one place in which they stand."""
-        path, places = root / "crates" / self.crate / self.file, set()
-        text = path.read_text() if path.exists() else ""
+        """Makes the edits one after the other, as rt does, and finds the one place in which they stand. A function's
+        own proof may follow an edit of the function."""
+        texts, places = {}, set()
         for file, old, new in edits:
-            if file != self.file or text.count(old) != 1:
+            path = root / "crates" / self.crate / file
+            text = texts.get(file, path.read_text() if path.exists() else "")
+            if text.count(old) != 1:
                 self.faults.append(f"in {file} this does not stand once: {old}")
                 return
-            places.add(enclosing(text, text.index(old), self.crate, file))
-            text = text.replace(old, new)
-        if len(places) > 1:
-            self.faults.append("its edits are in several functions or theorems")
+            if file == self.file:
+                places.add(enclosing(text, text.index(old), self.crate, file))
+            texts[file] = text.replace(old, new)
         self.place = places.pop()
+        if places or not texts.keys() <= {self.file, self.proof()}:
+            self.faults.append("its edits are in several functions, theorems or files")
+
+    def proof(self):
+        """The file of its function's proof."""
+        return f"proofs/{'/'.join(self.place or ())}/Proof.antt"
 
     def judge(self, log):
         """Finds the fact at which it was refused; None if there is none."""
@@ -74,7 +81,7 @@ class Wrong:
         elif self.file.startswith("proofs/"):
             own = [e for e in errors if e[0] == self.file and self.is_of_it(e)]
         else:
-            own = [e for e in errors if e[0] == f"proofs/{'/'.join(self.place)}/Proof.antt"]
+            own = [e for e in errors if e[0] == self.proof()]
             made = rf"(?m)^fn {self.crate}::{self.place_name()}: no proof: .*`search` does not close (`[^`]*`)"
             if not own and (closes := re.search(made, log)):
                 self.fact = closes[1]

@@ -24,7 +24,7 @@ docs = root / "docs"
 
 # Of each family: one of its crates, which tells its group in crates.txt; and what the family is.
 FAMILIES = {
-    "paper": ("paper", "document 01 as definitions, believed; in lore proved laws on lists"),
+    "paper": ("paper", "documents 01 and 02 as definitions, believed; in lore proved laws"),
     "leaves": ("wire", "bytes, checks, frames, ids, what a record says, images"),
     "walk": ("walk", "the search over the bits of ids, on fixed arrays"),
     "select": ("select", "the request that a search sends"),
