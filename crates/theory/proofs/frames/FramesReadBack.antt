@@ -1,4 +1,5 @@
--- A written frame is read back, whatever bytes follow it; and a frame read whole has the bytes that writing it gives.
+-- A frame with any check is read back, whatever bytes follow it: whole if the check is right, else of bad check. And a
+-- frame read whole has the bytes that writing it gives.
 use Prim.Native.Nat.{ℕ, zero, suc, _+_, _/_, _^_, _<_, _≤_}
 use mathlib.Core.Bool.{Bool, true, false, cond}
 use mathlib.Core.List.{List, [], _∷_, _++_, append-assoc}
