@@ -6,7 +6,7 @@ ghost use Rattle.bench_log.specs.Reports.{Reports};
 use libc::{STDIN_FILENO, STDOUT_FILENO};
 use log_feed::events::Log;
 
-#[derive(Drop)]
+#[derive(Clone, Copy)]
 struct Pumped {
     more: bool,
     log: Log,

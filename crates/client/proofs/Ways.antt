@@ -28,7 +28,7 @@ use Rattle.client.specs.declared.Says.TheVariants.{Onward, Refused}
 use Rattle.client.specs.declared.Front.{Front}
 use Rattle.client.specs.declared.Opening.{Opening}
 use Rattle.client.specs.declared.Touch.{Touch}
-use Rattle.client.specs.declared.Touch.TheVariants.{Same, Gives, Clears}
+use Rattle.client.specs.declared.Touch.TheVariants.{Same}
 use Rattle.client.specs.declared.Change.{Change}
 use Rattle.client.specs.declared.Verdict.{Verdict}
 use Rattle.client.specs.Numbers.{number_of, changes_no_state}

@@ -1,5 +1,7 @@
 // The client's record, its front (the client without its walk), and the answers of its calls.
 // A call is decided on the front. The decision says what is answered and how the walk changes.
+#![tactic(auto)]
+
 ghost use Rattle.std.specs.Prelude.{◌≡◌, cond};
 ghost use Rattle.walk_table.specs.Rows.{no_table, giving};
 ghost use Rattle.walk.specs.declared.Walk.{Walk};
@@ -17,7 +19,7 @@ use walk_table::{Entry, Table};
 
 // What a Select is for. Probing: a plain select. Parting: a deselect. Seeking: an attach. Backing: the deselect of an
 // attach that heard garble. Walking: a discovery. The flag of an attach says whether a prefix was given.
-#[derive(Drop)]
+#[derive(Clone, Copy)]
 pub enum Search {
     Probing,
     Parting,
@@ -27,7 +29,7 @@ pub enum Search {
 }
 
 // What an Info is for. Tell: its own answer. Clear: an erase. Load: a flash of an image of n bytes.
-#[derive(Drop)]
+#[derive(Clone, Copy)]
 pub enum Purpose {
     Tell,
     Clear,
@@ -35,7 +37,7 @@ pub enum Purpose {
 }
 
 // A reset into the bootloader or the app, with the baud to store if one is given.
-#[derive(Drop)]
+#[derive(Clone, Copy)]
 pub struct Reset {
     pub bootloader: bool,
     pub given: bool,
@@ -44,7 +46,7 @@ pub struct Reset {
 
 // What a request with one answer is for. An Erase has its address. A Write has the image's length, its offset, and how
 // often it was repeated.
-#[derive(Drop)]
+#[derive(Clone, Copy)]
 pub enum Job {
     Informing(Purpose),
     Erasing(Purpose, Info, u32),
@@ -54,7 +56,7 @@ pub enum Job {
 }
 
 // The request that is next, or out. Demand: one with one answer. Leave: a Reset whose reply is not awaited.
-#[derive(Drop)]
+#[derive(Clone, Copy)]
 pub enum Phase {
     Select(Search),
     Demand(Job),
@@ -62,7 +64,7 @@ pub enum Phase {
 }
 
 // Idle: no operation runs. Ready: its next request can be asked for. Waiting: its request is out.
-#[derive(Drop)]
+#[derive(Clone, Copy)]
 pub enum Turn {
     Idle,
     Ready(Phase),
@@ -70,7 +72,7 @@ pub enum Turn {
 }
 
 // The client. The prefix and the bit count are those of a plain select or an attach, the walk that of a discovery.
-#[derive(Drop)]
+#[derive(Clone, Copy)]
 pub struct Client {
     pub seed: u8,
     pub attached: bool,
@@ -82,7 +84,7 @@ pub struct Client {
 }
 
 // The refusals. Numbers.antt has their numbers in document 01. The prefix that 9 and 10 carry is a field of the answer.
-#[derive(Drop)]
+#[derive(Clone, Copy)]
 pub enum Refusal {
     Io,
     Device(u8),
@@ -109,7 +111,7 @@ pub enum Refusal {
 
 // What an operation ends with. Attached says whether the pod has an id. The id heard or attached, and the ids found,
 // are fields of the answer.
-#[derive(Drop)]
+#[derive(Clone, Copy)]
 pub enum Outcome {
     Quiet,
     Heard(Heard),
@@ -120,7 +122,7 @@ pub enum Outcome {
 }
 
 // The progress that a reply made: how much is done, and of how much.
-#[derive(Drop)]
+#[derive(Clone, Copy)]
 pub enum Progress {
     None,
     Made(u64, u64),
@@ -128,7 +130,7 @@ pub enum Progress {
 
 // What a call says. Granted: a request of n bytes is in the buffer, and its reply is awaited. Closing: a request is in
 // the buffer, and the operation has ended. Onward: the operation goes on. Over: it has ended.
-#[derive(Drop)]
+#[derive(Clone, Copy)]
 pub enum Says {
     Granted(usize),
     Closing(usize),
@@ -138,7 +140,7 @@ pub enum Says {
 }
 
 // The answer to a start, or to asking for a request.
-#[derive(Drop)]
+#[derive(Clone, Copy)]
 pub struct Started {
     pub says: Says,
     pub client: Client,
@@ -146,7 +148,7 @@ pub struct Started {
 
 // The answer to a record: where its unread rest begins, the progress made, and the id or prefix and the ids that belong
 // to it.
-#[derive(Drop)]
+#[derive(Clone, Copy)]
 pub struct Told {
     pub says: Says,
     pub client: Client,
@@ -157,7 +159,7 @@ pub struct Told {
 }
 
 // The client without its walk. A contract on a front holds for the client with any walk.
-#[derive(Drop)]
+#[derive(Clone, Copy)]
 pub struct Front {
     pub seed: u8,
     pub attached: bool,
@@ -169,7 +171,7 @@ pub struct Front {
 
 // A start or a request, decided without the walk: whether the walk begins anew, and under which prefix. Where no
 // discovery begins, the prefix is empty and the new walk all zero.
-#[derive(Drop)]
+#[derive(Clone, Copy)]
 pub struct Opening {
     pub says: Says,
     pub front: Front,
@@ -179,7 +181,7 @@ pub struct Opening {
 
 // How a record changes the walk. Same: not at all. Moves: to another place. Keeps: to another place, with one more
 // entry. Gives: it ends, and its list is returned. Clears: it ends.
-#[derive(Drop)]
+#[derive(Clone, Copy)]
 pub enum Touch {
     Same,
     Moves,
@@ -189,7 +191,7 @@ pub enum Touch {
 }
 
 // The same, with the place that the walk moves to and the entry to keep.
-#[derive(Drop)]
+#[derive(Clone, Copy)]
 pub struct Change {
     pub touch: Touch,
     pub place: Place,
@@ -197,7 +199,7 @@ pub struct Change {
 }
 
 // A record, decided without the list. The id is the id or prefix that belongs to the answer.
-#[derive(Drop)]
+#[derive(Clone, Copy)]
 pub struct Verdict {
     pub says: Says,
     pub front: Front,
@@ -208,7 +210,7 @@ pub struct Verdict {
 }
 
 // The attached id, if there is one.
-#[derive(Drop)]
+#[derive(Clone, Copy)]
 pub struct Attached {
     pub any: bool,
     pub id: Id,

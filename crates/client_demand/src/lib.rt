@@ -1,4 +1,6 @@
 // Writes each request with one answer, and the Reset, as a frame at the front of the buffer.
+#![tactic(auto)]
+
 ghost use Rattle.std.specs.Prelude.{◌≡◌, cond, [], length};
 ghost use Rattle.paper.specs.Client.{demand_frame};
 ghost use Rattle.paper.specs.Frame.{frame_bytes};

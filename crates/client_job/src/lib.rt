@@ -7,7 +7,7 @@ use client::{Job, Outcome, Progress, Purpose, Refusal};
 use image::{Erase, Info, Informed};
 
 // What is next: another job, the end of the operation, or a refusal.
-#[derive(Drop)]
+#[derive(Clone, Copy)]
 pub enum Then {
     On(Job),
     Over(Outcome),
@@ -15,7 +15,7 @@ pub enum Then {
 }
 
 // The progress made, and what is next.
-#[derive(Drop)]
+#[derive(Clone, Copy)]
 pub struct Next {
     pub progress: Progress,
     pub then: Then,

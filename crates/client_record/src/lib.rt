@@ -193,7 +193,7 @@ pub fn fails(f: Front) -> Verdict
 }
 
 // The walk after a change, and the list that is returned.
-#[derive(Drop)]
+#[derive(Clone, Copy)]
 struct After {
     walk: Walk,
     found: Table,

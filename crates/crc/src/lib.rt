@@ -1,4 +1,6 @@
 // The check: CRC-16/IBM-3740.
+#![tactic(auto)]
+
 ghost use Rattle.std.specs.Prelude.{◌≡◌};
 ghost use Rattle.paper.specs.Frame.{crc_byte, crc_from};
 

@@ -12,9 +12,7 @@ use Rattle.paper.specs.Frame.{le, crc_from, check, Frame, most, frame_bytes}
 use Rattle.lore.proofs.Parts.{part-all, part-between, mid-all}
 use Rattle.frame.proofs.Assembled.{too_short, assembled}
 use Rattle.wire.specs.declared.Placed.{Placed}
-use Rattle.wire.specs.declared.Placed.TheVariants as Placed
 use Rattle.wire.specs.declared.Written.{Written}
-use Rattle.wire.specs.declared.Written.TheVariants as Written
 use Rattle.frame.specs.declared.Head.{Head}
 use Rattle.frame.specs.Writing.{frame_of, tag_of, head_of, placed, sealed, answer_of, outcome, written}
 

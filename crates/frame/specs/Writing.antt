@@ -2,9 +2,7 @@
 use Rattle.std.specs.Prelude.{ℕ, ◌+◌, cond, List, [], ◌∷◌, ◌++◌, ltb, length, take, drop}
 use Rattle.paper.specs.Frame.{le, Frame, most, frame_check, frame_bytes}
 use Rattle.wire.specs.declared.Placed.{Placed}
-use Rattle.wire.specs.declared.Placed.TheVariants as Placed
 use Rattle.wire.specs.declared.Written.{Written}
-use Rattle.wire.specs.declared.Written.TheVariants as Written
 use Rattle.frame.specs.declared.Head.{Head}
 
 abbrev pub frame_of : Head → List ℕ → Frame

@@ -1,4 +1,6 @@
 // The writer of bench frames: the head, the payload through the part of the buffer from byte 10 on, and the check.
+#![tactic(auto)]
+
 ghost use Rattle.std.specs.Prelude.{◌≡◌, ◌++◌, ◌+◌, ◌≤◌, length, drop, replicate};
 ghost use Rattle.paper.specs.Frame.{frame_bytes};
 ghost use Rattle.frame.specs.Writing.{frame_of, tag_of, head_of, placed, sealed, answer_of, written};
@@ -6,7 +8,7 @@ ghost use Rattle.frame.specs.Writing.{frame_of, tag_of, head_of, placed, sealed,
 use wire::{Placed, Written};
 
 // A frame's fields without its payload.
-#[derive(Drop)]
+#[derive(Clone, Copy)]
 pub struct Head {
     pub command: u8,
     pub status: u8,

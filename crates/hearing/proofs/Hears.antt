@@ -9,9 +9,6 @@ use native.Mathlib.Nat.{add-zero}
 use lib.ListN.{length, take, drop, length-drop, drop_of_length-le}
 use mir.Syntax.{w64}
 use mir.Val.{Fits}
-use types.Run.{OneOf, miss}
-use denote.Enum.Declared.{tag_of}
-use Rattle.reader.specs.contracts.Reading.{the_type}
 use lib.Seq.{drop-drop}
 use lib.Dec.{eqb}
 use borrow.Author.Tests.{ne_eqb}
@@ -86,14 +83,14 @@ stands-concluded (more-replies p q ps) = refl
 
 -- Any reading other than a whole frame, in the form of the code's test.
 abbrev pub Unfit : Reading → Type 0
-Unfit x = OneOf (0 ∷ 1 ∷ 2 ∷ []) (tag_of the_type x)
+Unfit x = (f : Frame) → x ≡ Whole f → ⊥
 
 unfit-unclean : (at : ℕ) (y : Paper.Reading) → Unfit (shown_from at y) → clean y ≡ none
 unfolding clean
 unfit-unclean at short u = refl
 unfit-unclean at too_long u = refl
 unfit-unclean at (bad_check k f) u = refl
-unfit-unclean at (whole k f) u = absurd (miss (0 ∷ 1 ∷ 2 ∷ []) 3 tt u)
+unfit-unclean at (whole k f) u = absurd (u _ refl)
 
 -- It makes no difference whether a frame is counted with those seen or with those to come.
 counted : (p : Paper.Frame) (seen : List Paper.Frame) (o : Option (List Paper.Frame))

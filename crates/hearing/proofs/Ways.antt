@@ -11,7 +11,6 @@ use Rattle.ids.specs.declared.Id.{Id}
 use Rattle.ids.specs.Ids.{no_id, id_from}
 use Rattle.reader.specs.declared.Frame.{Frame}
 use Rattle.hearing.specs.declared.Heard.{Heard}
-use Rattle.hearing.specs.declared.Heard.TheVariants as Heard
 use Rattle.hearing.specs.declared.Heard.TheVariants.{Nothing, TooLong, Unaddressed, Garble}
 use Rattle.hearing.specs.declared.Hearing.{Hearing}
 use Rattle.hearing.specs.declared.Replies.{Replies}

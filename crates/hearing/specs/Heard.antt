@@ -7,11 +7,9 @@ use Rattle.paper.specs.Answers.{lost, answered, ok, device}
 use Rattle.ids.specs.Ids.{no_id, id_from}
 use Rattle.reader.specs.declared.Frame.{Frame}
 use Rattle.hearing.specs.declared.Heard.{Heard}
-use Rattle.hearing.specs.declared.Heard.TheVariants as Heard
 use Rattle.hearing.specs.declared.Heard.TheVariants.{Nothing, TooLong, Unaddressed, Garble}
 use Rattle.hearing.specs.declared.Hearing.{Hearing}
 use Rattle.hearing.specs.declared.Replies.{Replies}
-use Rattle.hearing.specs.declared.Replies.TheVariants as Replies
 use Rattle.hearing.specs.declared.Replies.TheVariants.{None, Several}
 use Rattle.hearing.specs.declared.Answered.{Answered}
 use Rattle.hearing.specs.declared.Answered.TheVariants.{Lost, Device, Ok}

@@ -1,4 +1,6 @@
 // Reading a record: what a Select hears in it, the frame that answers any other request, and the unread rest.
+#![tactic(auto)]
+
 ghost use Rattle.std.specs.Prelude.{◌≡◌, ◌+◌, ◌≤◌, length, take, drop};
 ghost use Rattle.paper.specs.Hearing.{hear};
 ghost use Rattle.paper.specs.Answers.{answer, rest};
@@ -9,7 +11,7 @@ use ids::Id;
 use reader::{Frame, Reading};
 
 // What one Select heard. An id over 16 bytes is TooLong.
-#[derive(Drop)]
+#[derive(Clone, Copy)]
 pub enum Heard {
     Nothing,
     One,
@@ -19,14 +21,14 @@ pub enum Heard {
 }
 
 // What one Select heard, with the id for One and no id otherwise.
-#[derive(Drop)]
+#[derive(Clone, Copy)]
 pub struct Hearing {
     pub heard: Heard,
     pub id: Id,
 }
 
 // The replies among the frames read so far.
-#[derive(Drop)]
+#[derive(Clone, Copy)]
 pub enum Replies {
     None,
     One(Frame),
@@ -35,7 +37,7 @@ pub enum Replies {
 
 // The answer to a request other than a Select. Lost: no frame answers. Device: a status other than Ok (3 for a bad
 // check), and the end of the frame. Ok: where the payload begins, its length, and the end of the frame.
-#[derive(Drop)]
+#[derive(Clone, Copy)]
 pub enum Answered {
     Lost,
     Device(u8, usize),

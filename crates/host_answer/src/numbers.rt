@@ -9,7 +9,7 @@ use image::{Compat, Info};
 
 // `number` is 0, or document 01's number. `says`, `outcome` and `heard` say which answer it is. The rest is what it
 // carries.
-#[derive(Drop)]
+#[derive(Clone, Copy)]
 pub struct Note {
     pub number: u8,
     pub says: u8,
@@ -24,7 +24,7 @@ pub struct Note {
 }
 
 // The progress made, if any.
-#[derive(Drop)]
+#[derive(Clone, Copy)]
 pub struct Gain {
     pub made: bool,
     pub done: u64,

@@ -10,7 +10,7 @@ use image::Info;
 
 // The fields of any turn. A field that a turn does not have is zero. A Select has `search` and `given`, a Select of a
 // walk also `step` and `other`. A request with one answer has the fields from `job` to `retries`. A Reset has `reset`.
-#[derive(Drop)]
+#[derive(Clone, Copy)]
 pub struct Flat {
     pub turn: u8,
     pub kind: u8,

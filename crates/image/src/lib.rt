@@ -1,4 +1,6 @@
 // The device information and the rules on images: key, chunk, padding, size, erase addresses.
+#![tactic(auto)]
+
 pub mod info_bytes;
 pub mod writes;
 
@@ -8,7 +10,7 @@ ghost use Rattle.paper.specs.Answers.{padding};
 ghost use Rattle.image.specs.Images.{shown_info, paper_info, shown_key, erase_after};
 
 // The device information, as in the reply to an Info request.
-#[derive(Drop)]
+#[derive(Clone, Copy)]
 pub struct Info {
     pub capacity: u32,
     pub erase_size: u16,
@@ -21,21 +23,21 @@ pub struct Info {
 }
 
 // The device information in a payload. BadInfo is refusal 5.
-#[derive(Drop)]
+#[derive(Clone, Copy)]
 pub enum Informed {
     Sound(Info),
     BadInfo,
 }
 
 // The compatibility key of an image, if it has one.
-#[derive(Drop)]
+#[derive(Clone, Copy)]
 pub enum Compat {
     Key(u32),
     Missing,
 }
 
 // The address of the next Erase, or Done after the last.
-#[derive(Drop)]
+#[derive(Clone, Copy)]
 pub enum Erase {
     At(u32),
     Done,

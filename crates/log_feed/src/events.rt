@@ -6,7 +6,7 @@ use log_lines::{Event, Place, Reader};
 use log_run::{Replay, Stage};
 
 // The state of a log: its reader and its run.
-#[derive(Drop)]
+#[derive(Clone, Copy)]
 pub struct Log {
     pub reader: Reader,
     pub replay: Replay,

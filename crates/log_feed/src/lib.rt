@@ -11,7 +11,7 @@ use log_listing::Answer;
 use log_run::Stage;
 
 // The log after a part of a piece, how far the piece was read, and whether it is done.
-#[derive(Drop)]
+#[derive(Clone, Copy)]
 struct Span {
     pub log: Log,
     pub at: usize,

@@ -3,7 +3,7 @@ ghost use Rattle.std.specs.Prelude.{◌≡◌, take, drop};
 ghost use Rattle.log_lines.specs.Reading.{turn, step, keep, halts, feed};
 
 // Where in a line the reader is. Start: at its start. Even: after whole bytes. Odd: after a byte's first digit.
-#[derive(Drop)]
+#[derive(Clone, Copy)]
 pub enum Place {
     Start,
     Even,
@@ -12,7 +12,7 @@ pub enum Place {
 
 // What a character is. Half: the first digit of a byte. Whole: the second, with the value of the byte. Line: the end of
 // a line. Empty: an empty line. Bad: a bad character.
-#[derive(Drop)]
+#[derive(Clone, Copy)]
 pub enum Turn {
     Half(u8),
     Whole(u8),
@@ -22,7 +22,7 @@ pub enum Turn {
 }
 
 // An event of the reader. More: none yet. Line: the end of a line. Empty: an empty line. Bad: a bad character.
-#[derive(Drop)]
+#[derive(Clone, Copy)]
 pub enum Event {
     More,
     Line,
@@ -31,7 +31,7 @@ pub enum Event {
 }
 
 // The first len bytes of the buffer are those read so far. If over is set, there was no room for a byte.
-#[derive(Drop)]
+#[derive(Clone, Copy)]
 pub struct Reader {
     pub place: Place,
     pub len: usize,
@@ -39,14 +39,14 @@ pub struct Reader {
 }
 
 // The reader after one character, and the event.
-#[derive(Drop)]
+#[derive(Clone, Copy)]
 pub struct Step {
     pub reader: Reader,
     pub event: Event,
 }
 
 // The reader after a piece, how far it read, and the event.
-#[derive(Drop)]
+#[derive(Clone, Copy)]
 pub struct Fed {
     pub reader: Reader,
     pub at: usize,

@@ -8,7 +8,7 @@ use ids::Id;
 use walk_table::Table;
 
 // The answer of a run: its number, how many Selects were handed out, and the ids found.
-#[derive(Drop)]
+#[derive(Clone, Copy)]
 pub struct Answer {
     pub code: u8,
     pub selects: u16,

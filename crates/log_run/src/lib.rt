@@ -8,7 +8,7 @@ use log_listing::Answer;
 use walk_table::Table;
 
 // First: line one is not read yet. Running: a Select is out. Ended: the run has ended with a number.
-#[derive(Drop)]
+#[derive(Clone, Copy)]
 pub enum Stage {
     First,
     Running,
@@ -16,7 +16,7 @@ pub enum Stage {
 }
 
 // A run: its client, its stage, how many Selects were handed out, and the ids found.
-#[derive(Drop)]
+#[derive(Clone, Copy)]
 pub struct Replay {
     pub client: Client,
     pub stage: Stage,

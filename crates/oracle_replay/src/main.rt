@@ -10,7 +10,7 @@ use log_lines::{Event, Place, Reader};
 use walk_table::Table;
 
 // The client, whether the next line is an operation, and the length of the image that is flashed.
-#[derive(Drop)]
+#[derive(Clone, Copy)]
 struct Run {
     client: Client,
     opens: bool,
@@ -258,7 +258,7 @@ fn reader() -> Reader {
     }
 }
 
-#[derive(Drop)]
+#[derive(Clone, Copy)]
 struct State {
     run: Run,
     reader: Reader,
@@ -318,7 +318,7 @@ fn feed(state: State, page: &[u8], n: usize, buf: &mut [u8], image: &mut [u8]) -
     s
 }
 
-#[derive(Drop)]
+#[derive(Clone, Copy)]
 struct Pumped {
     more: bool,
     state: State,

@@ -1,10 +1,12 @@
 // The reader of bench frames: it finds the next A5 from a place of a record on, and reads the frame there.
+#![tactic(auto)]
+
 ghost use Rattle.std.specs.Prelude.{◌≡◌, ◌+◌, ◌≤◌, ◌<◌, ◌^◌, length, drop};
 ghost use Rattle.paper.specs.Frame.{skipped, right_check, read_sized, read_synced, read};
 ghost use Rattle.reader.specs.Shown.{fields_at, shown_from};
 
 // A frame's fields, and the places in the record where its payload begins and where the frame ends.
-#[derive(Drop)]
+#[derive(Clone, Copy)]
 pub struct Frame {
     pub command: u8,
     pub status: u8,
@@ -15,7 +17,7 @@ pub struct Frame {
     pub end: usize,
 }
 
-#[derive(Drop)]
+#[derive(Clone, Copy)]
 pub enum Reading {
     Short,
     TooLong,

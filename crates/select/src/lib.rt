@@ -1,4 +1,6 @@
 // The writer of a Select: seed, bit count and prefix bits, through the part of the buffer from byte 10 on.
+#![tactic(auto)]
+
 ghost use Rattle.std.specs.Prelude.{◌≡◌, cond, [], ◌∷◌, ◌++◌, ◌+◌, ◌/◌, ◌%◌, ◌≤◌, ◌<◌, length, drop, eqb};
 ghost use Rattle.paper.specs.Frame.{frame_bytes};
 ghost use Rattle.paper.specs.Hearing.{packed, select_payload, select_frame};

@@ -1,4 +1,6 @@
 // Ids as hexadecimal text, written and read.
+#![tactic(auto)]
+
 ghost use Rattle.std.specs.Prelude.{◌≡◌, ◌++◌, ◌+◌, ◌*◌, ◌≤◌, ◌<◌, length, drop};
 ghost use Rattle.paper.specs.Text.{hex_digit, digit, hex_text, parse_uid};
 ghost use Rattle.text.specs.Texts.{written, parsed, bad_text};
@@ -7,14 +9,14 @@ use ids::Id;
 use wire::Written;
 
 // Whether a text is an id. BadText is refusal 22.
-#[derive(Drop)]
+#[derive(Clone, Copy)]
 pub enum Parse {
     Uid,
     BadText,
 }
 
 // The answer, and the id; no id with BadText.
-#[derive(Drop)]
+#[derive(Clone, Copy)]
 pub struct Parsed {
     pub answer: Parse,
     pub id: Id,

@@ -1,5 +1,7 @@
 // The walk of a discovery in fixed arrays: its moves from prefix to prefix, and the bits that its next Select asks for.
 // Both depend on the walk's place only, which is the walk without its list.
+#![tactic(auto)]
+
 ghost use Rattle.std.specs.Prelude.{◌≡◌, ◌≤◌, ◌<◌, length};
 ghost use Rattle.walk_table.specs.declared.Table.{Table};
 ghost use Rattle.walk_table.specs.Rows.{no_table};
@@ -11,7 +13,7 @@ use walk_table::Table;
 
 // A walk: the bits of the current prefix and their number, a mark for each level, the ids found, and the id that is
 // being confirmed.
-#[derive(Drop)]
+#[derive(Clone, Copy)]
 pub struct Walk {
     pub path: [u8; ids::MAX_BYTES],
     pub depth: usize,
@@ -21,7 +23,7 @@ pub struct Walk {
 }
 
 // The walk without its list. A contract on a place holds for the walk there with any list.
-#[derive(Drop)]
+#[derive(Clone, Copy)]
 pub struct Place {
     pub path: [u8; ids::MAX_BYTES],
     pub depth: usize,
@@ -31,7 +33,7 @@ pub struct Place {
 
 // What a Select of the walk asks for. Asked: the path. Mine: the candidate's own child. Other: its other child, with
 // whether the candidate was heard again in its own. Leaving: the deselect at the end.
-#[derive(Drop)]
+#[derive(Clone, Copy)]
 pub enum Phase {
     Asked,
     Mine,
@@ -40,7 +42,7 @@ pub enum Phase {
 }
 
 // The bits of a Select, and how many. Bits after the first 128 are zero.
-#[derive(Drop)]
+#[derive(Clone, Copy)]
 pub struct Ask {
     pub bits: [u8; ids::MAX_BYTES],
     pub count: usize,

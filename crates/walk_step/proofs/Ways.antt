@@ -23,7 +23,6 @@ use Rattle.walk.specs.declared.Phase.TheVariants.{Asked, Mine, Other, Leaving}
 use Rattle.walk.specs.Moves.{walk_of, holding, mark, lower, turn, climb}
 use Rattle.walk.proofs.Ways.{deep}
 use Rattle.walk_step.specs.declared.End.{End}
-use Rattle.walk_step.specs.declared.End.TheVariants as End
 use Rattle.walk_step.specs.declared.Way.TheVariants as Way
 use Rattle.walk_step.specs.declared.Going.{Going}
 use Rattle.walk_step.specs.declared.Move.{Move}

@@ -5,7 +5,6 @@ use Rattle.walk.specs.declared.Phase.{Phase}
 use Rattle.walk.specs.Moves.{walk_of, finding, no_walk}
 use Rattle.walk_step.specs.declared.End.{End}
 use Rattle.walk_step.specs.declared.Way.{Way}
-use Rattle.walk_step.specs.declared.Way.TheVariants as Way
 use Rattle.walk_step.specs.declared.Move.{Move}
 use Rattle.walk_step.specs.Steps.{Done, Next, going, stopped}
 

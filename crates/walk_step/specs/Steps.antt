@@ -1,5 +1,5 @@
 -- The walk's step on its record. The names are those of the machine in crates/theory/specs/WalkMachine.antt.
-use Rattle.std.specs.Prelude.{ℕ, ◌*◌, Bool, true, false, ◌&&◌, cond, length, take, ltb, leb, eqb}
+use Rattle.std.specs.Prelude.{◌*◌, Bool, false, ◌&&◌, cond, length, take, ltb, leb, eqb}
 use Rattle.paper.specs.Hearing.{bits_of, begins}
 use Rattle.paper.specs.Walk.{same_id}
 use Rattle.ids.specs.declared.Id.{Id}

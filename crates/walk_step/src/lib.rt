@@ -1,5 +1,7 @@
 // One step of the walk, from what a Select heard: the walk goes on, keeps an id and goes on, is done, or ends early.
 // A step depends on how many ids the list holds, and not on the list.
+#![tactic(auto)]
+
 ghost use Rattle.std.specs.Prelude.{◌≡◌, false, ◌≤◌};
 ghost use Rattle.hearing.specs.Heard.{on_heard};
 ghost use Rattle.walk_table.specs.declared.Table.{Table};
@@ -15,7 +17,7 @@ use walk::{Phase, Place};
 use walk_table::Entry;
 
 // How a walk ends early: document 01's refusals 12, 14 and 15, and its outcome 23.
-#[derive(Drop)]
+#[derive(Clone, Copy)]
 pub enum End {
     DuplicateUid,
     LongId,
@@ -24,14 +26,14 @@ pub enum End {
 }
 
 // How a walk goes on: what its next Select is for, and its place.
-#[derive(Drop)]
+#[derive(Clone, Copy)]
 pub struct Going {
     pub phase: Phase,
     pub place: Place,
 }
 
 // How a step ends. On: the walk goes on. Keeps: it keeps an id and goes on. Done: it is done. Stopped: it ends early.
-#[derive(Drop)]
+#[derive(Clone, Copy)]
 pub enum Way {
     On(Phase),
     Keeps(Phase),
@@ -40,7 +42,7 @@ pub enum Way {
 }
 
 // The result of a step: how it ends, the next place, and the entry to keep. A field that does not apply is zero.
-#[derive(Drop)]
+#[derive(Clone, Copy)]
 pub struct Move {
     pub way: Way,
     pub place: Place,

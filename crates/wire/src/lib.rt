@@ -1,4 +1,6 @@
 // Document 01's numbers, little-endian numbers in slices, bytes copied and filled, and what a writer answers.
+#![tactic(auto)]
+
 pub mod arrays;
 
 ghost use Rattle.std.specs.Prelude.{◌≡◌, cond, [], ◌∷◌, ◌++◌, ◌+◌, ◌≤◌, ◌<◌, length, take, drop, replicate};
@@ -38,7 +40,7 @@ pub const BAUD: u8 = 2;
 
 // What a writer answers. Done: how many bytes it wrote at the front of the buffer. Short: the buffer is too short, with
 // the length needed. TooLong: the input is too long for any buffer.
-#[derive(Drop)]
+#[derive(Clone, Copy)]
 pub enum Written {
     Done(usize),
     Short(usize),
@@ -46,7 +48,7 @@ pub enum Written {
 }
 
 // What the writer of a request answers: the same without TooLong.
-#[derive(Drop)]
+#[derive(Clone, Copy)]
 pub enum Placed {
     Done(usize),
     Short(usize),
