@@ -18,7 +18,6 @@ use Rattle.client.specs.declared.Progress.TheVariants.{None, Made}
 use Rattle.client.specs.declared.Purpose.{Purpose}
 use Rattle.client.specs.declared.Purpose.TheVariants.{Clear, Load}
 use Rattle.client.specs.declared.Refusal.{Refusal}
-use Rattle.client.specs.declared.Refusal.TheVariants as Refusal
 use Rattle.client.specs.Clients.{on_purpose, on_job}
 use Rattle.client_job.specs.declared.Then.{Then}
 use Rattle.client_job.specs.declared.Then.TheVariants.{On, Over, Refused}

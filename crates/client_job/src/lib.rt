@@ -1,4 +1,6 @@
 // What an operation does after the reply to a request with one answer.
+#![tactic(auto)]
+
 ghost use Rattle.std.specs.Prelude.{◌≡◌};
 ghost use Rattle.client_job.specs.Job.{quietly, refusing, erases, judged, prepared, informed, writes, cleared};
 ghost use Rattle.client_job.specs.Job.{erased, wrote, repeated, verified, accepted, declined};

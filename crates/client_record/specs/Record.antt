@@ -10,7 +10,6 @@ use Rattle.walk.specs.declared.Walk.{Walk}
 use Rattle.walk.specs.declared.Phase as Walk
 use Rattle.hearing.specs.Heard.{is_long}
 use Rattle.walk_step.specs.declared.End.{End}
-use Rattle.walk_step.specs.declared.End.TheVariants as End
 use Rattle.walk_step.specs.Steps as Steps
 use Rattle.walk_step.specs.Steps.{Goes, On, Done, Stopped}
 use Rattle.client_record.specs.Answer.{tells}

@@ -1,6 +1,8 @@
 // Handling the record heard after a request, or a failed link.
 // `decide` and `fails` need only the client's front, the walk's place and how many ids the list holds. `record` and
 // `link_failed` do the same for a client by value.
+#![tactic(auto)]
+
 pub mod answer;
 
 ghost use Rattle.std.specs.Prelude.{◌≡◌, true, false};

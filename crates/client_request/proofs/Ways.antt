@@ -4,7 +4,6 @@ use Rattle.ids.specs.declared.Id.{Id}
 use Rattle.ids.specs.Ids.{id_of, no_id}
 use Rattle.walk_table.specs.declared.Table.{Table}
 use Rattle.wire.specs.declared.Placed.{Placed}
-use Rattle.wire.specs.declared.Placed.TheVariants as Placed
 use Rattle.frame.specs.Writing.{Placing, placed}
 use Rattle.paper.specs.Frame.{frame_bytes}
 use Rattle.paper.specs.Hearing.{select_frame}
@@ -14,7 +13,7 @@ use Rattle.walk.specs.declared.Walk.{Walk}
 use Rattle.walk.specs.declared.Place.{Place}
 use Rattle.walk.specs.declared.Ask.{Ask}
 use Rattle.walk.proofs.Ways.{begin-none}
-use Rattle.walk.specs.Moves.{place_of, walk_of, no_walk, begin}
+use Rattle.walk.specs.Moves.{place_of, walk_of, no_walk}
 use Rattle.client.specs.declared.Phase.{Phase}
 use Rattle.client.specs.declared.Phase.TheVariants.{Select, Demand, Leave}
 use Rattle.client.specs.declared.Search.{Search}

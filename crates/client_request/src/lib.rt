@@ -1,5 +1,7 @@
 // Asking for the next request, which is written to the front of the buffer.
 // `ask` decides it on the client's front and the walk's place. `request` does the same for a client by value.
+#![tactic(auto)]
+
 ghost use Rattle.std.specs.Prelude.{◌≡◌};
 ghost use Rattle.paper.specs.Frame.{frame_bytes};
 ghost use Rattle.frame.specs.Writing.{placed};

@@ -2,7 +2,7 @@
 use Prim.Native.Nat.{ℕ, ◌*◌, ◌<◌, ◌≤◌}
 use mathlib.Core.Bool.{Bool, true, false}
 use mathlib.Core.List.{List}
-use mathlib.Core.Path.{◌≡◌, refl, ◌∙◌, ap}
+use mathlib.Core.Path.{◌≡◌, ◌∙◌, ap}
 use lib.ListN.{length}
 use borrow.Author.Tests.{lt-ltb, le-ltb}
 use Rattle.ids.specs.declared.Id.{Id}
@@ -10,7 +10,7 @@ use Rattle.ids.specs.Ids.{no_id, id_from}
 use Rattle.walk.specs.declared.Walk.{Walk}
 use Rattle.walk.specs.declared.Phase.TheVariants.{Asked}
 use Rattle.walk.proofs.Ways.{begin-none}
-use Rattle.walk.specs.Moves.{no_walk, begin}
+use Rattle.walk.specs.Moves.{begin}
 use Rattle.client.specs.declared.Phase.{Phase}
 use Rattle.client.specs.declared.Phase.TheVariants.{Select}
 use Rattle.client.specs.declared.Search.TheVariants.{Probing, Parting, Seeking, Walking}

@@ -1,5 +1,7 @@
 // Starting an operation: a call out of turn is refused first, then bad arguments.
 // `open_..` decides a start on the client's front. `start_..` does the same for a client by value.
+#![tactic(auto)]
+
 ghost use Rattle.std.specs.Prelude.{◌≡◌};
 ghost use Rattle.walk.specs.declared.Walk.{Walk};
 ghost use Rattle.walk.specs.Moves.{begin};

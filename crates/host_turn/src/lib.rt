@@ -1,5 +1,7 @@
 // A turn as numbers and flags of fixed widths, and back.
 // Any numbers give some turn, and the numbers of a turn give that turn back.
+#![tactic(auto)]
+
 ghost use Rattle.std.specs.Prelude.{◌≡◌};
 ghost use Rattle.host_turn.specs.Turns.{no_reset, jobless, selecting, demanding, leaving, tag_of, size_of};
 ghost use Rattle.host_turn.specs.Turns.{walking_of, search_flat, job_flat, phase_flat, flat_of, purpose_of, step_of};

@@ -1,0 +1,18 @@
+-- Answers to the goals of `host_turn::phase_of`.
+use Rattle.host_turn.proofs.Ways.{other-case}
+use Rattle.host_turn.specs.Turns.{phase_of}
+use Rattle.lore.proofs.Choice.{ways}
+use borrow.Author.Rules.{rules}
+use Rattle.host_turn.proofs.phase_of.Goals as goal
+
+pub returns-in-1 : goal.returns-in-1
+unfolding phase_of
+returns-in-1 c = search (other-case, ways, rules)
+
+pub returns-in-2 : goal.returns-in-2
+unfolding phase_of
+returns-in-2 c = search (other-case, ways, rules)
+
+pub returns-in_default : goal.returns-in_default
+unfolding phase_of
+returns-in_default c = search (other-case, ways, rules)
