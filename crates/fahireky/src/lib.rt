@@ -1,31 +1,25 @@
-// Every call of the client over numbers and byte slices, for a host to link.
+// Every call of the client over numbers and byte slices, as the crate `fahireky_c` exports it.
 // The client is kept in a buffer that the host lends, and each answer is written to another.
+#![tactic(auto)]
+
 ghost use Rattle.std.specs.Prelude.{◌≡◌};
 ghost use Rattle.host_buffers.specs.Exports as Export;
 
 use client::{Outcome, Says};
 
-#[unsafe(no_mangle)]
-pub extern "C" fn fahireky_state_size() -> usize
+pub fn fahireky_state_size() -> usize
     ensures { result ≡ Export.state_size }
 {
     host_state::size()
 }
 
-#[unsafe(no_mangle)]
-pub extern "C" fn fahireky_answer_size() -> usize
+pub fn fahireky_answer_size() -> usize
     ensures { result ≡ Export.answer_size }
 {
     host_answer::size()
 }
 
-#[unsafe(no_mangle)]
-pub extern "C" fn fahireky_start_select(
-    state: &mut [u8],
-    prefix: &[u8],
-    bits: usize,
-    answer: &mut [u8],
-) -> u64
+pub fn fahireky_start_select(state: &mut [u8], prefix: &[u8], bits: usize, answer: &mut [u8]) -> u64
     ensures { record { code = result; state = state.new; answer = answer.new }
         ≡ Export.start_select state.old prefix.now bits answer.old }
 {
@@ -37,8 +31,7 @@ pub extern "C" fn fahireky_start_select(
     host_buffers::started(client_start::open_select(f, prefix, bits), state, answer)
 }
 
-#[unsafe(no_mangle)]
-pub extern "C" fn fahireky_start_deselect(state: &mut [u8], answer: &mut [u8]) -> u64
+pub fn fahireky_start_deselect(state: &mut [u8], answer: &mut [u8]) -> u64
     ensures { record { code = result; state = state.new; answer = answer.new }
         ≡ Export.start_deselect state.old answer.old }
 {
@@ -50,8 +43,7 @@ pub extern "C" fn fahireky_start_deselect(state: &mut [u8], answer: &mut [u8]) -
     host_buffers::started(client_start::open_deselect(f), state, answer)
 }
 
-#[unsafe(no_mangle)]
-pub extern "C" fn fahireky_start_attach(state: &mut [u8], answer: &mut [u8]) -> u64
+pub fn fahireky_start_attach(state: &mut [u8], answer: &mut [u8]) -> u64
     ensures { record { code = result; state = state.new; answer = answer.new }
         ≡ Export.start_attach state.old answer.old }
 {
@@ -63,12 +55,7 @@ pub extern "C" fn fahireky_start_attach(state: &mut [u8], answer: &mut [u8]) -> 
     host_buffers::started(client_start::open_attach(f), state, answer)
 }
 
-#[unsafe(no_mangle)]
-pub extern "C" fn fahireky_start_attach_to(
-    state: &mut [u8],
-    prefix: &[u8],
-    answer: &mut [u8],
-) -> u64
+pub fn fahireky_start_attach_to(state: &mut [u8], prefix: &[u8], answer: &mut [u8]) -> u64
     ensures { record { code = result; state = state.new; answer = answer.new }
         ≡ Export.start_attach_to state.old prefix.now answer.old }
 {
@@ -80,8 +67,7 @@ pub extern "C" fn fahireky_start_attach_to(
     host_buffers::started(client_start::open_attach_to(f, prefix), state, answer)
 }
 
-#[unsafe(no_mangle)]
-pub extern "C" fn fahireky_start_discover(state: &mut [u8], prefix: &[u8], answer: &mut [u8]) -> u64
+pub fn fahireky_start_discover(state: &mut [u8], prefix: &[u8], answer: &mut [u8]) -> u64
     ensures { record { code = result; state = state.new; answer = answer.new }
         ≡ Export.start_discover state.old prefix.now answer.old }
 {
@@ -93,8 +79,7 @@ pub extern "C" fn fahireky_start_discover(state: &mut [u8], prefix: &[u8], answe
     host_buffers::started(client_start::open_discover(f, prefix), state, answer)
 }
 
-#[unsafe(no_mangle)]
-pub extern "C" fn fahireky_start_info(state: &mut [u8], answer: &mut [u8]) -> u64
+pub fn fahireky_start_info(state: &mut [u8], answer: &mut [u8]) -> u64
     ensures { record { code = result; state = state.new; answer = answer.new }
         ≡ Export.start_info state.old answer.old }
 {
@@ -106,8 +91,7 @@ pub extern "C" fn fahireky_start_info(state: &mut [u8], answer: &mut [u8]) -> u6
     host_buffers::started(client_start::open_info(f), state, answer)
 }
 
-#[unsafe(no_mangle)]
-pub extern "C" fn fahireky_start_erase(state: &mut [u8], answer: &mut [u8]) -> u64
+pub fn fahireky_start_erase(state: &mut [u8], answer: &mut [u8]) -> u64
     ensures { record { code = result; state = state.new; answer = answer.new }
         ≡ Export.start_erase state.old answer.old }
 {
@@ -119,8 +103,7 @@ pub extern "C" fn fahireky_start_erase(state: &mut [u8], answer: &mut [u8]) -> u
     host_buffers::started(client_start::open_erase(f), state, answer)
 }
 
-#[unsafe(no_mangle)]
-pub extern "C" fn fahireky_start_flash(state: &mut [u8], image: &[u8], answer: &mut [u8]) -> u64
+pub fn fahireky_start_flash(state: &mut [u8], image: &[u8], answer: &mut [u8]) -> u64
     ensures { record { code = result; state = state.new; answer = answer.new }
         ≡ Export.start_flash state.old image.now answer.old }
 {
@@ -132,8 +115,7 @@ pub extern "C" fn fahireky_start_flash(state: &mut [u8], image: &[u8], answer: &
     host_buffers::started(client_start::open_flash(f, image), state, answer)
 }
 
-#[unsafe(no_mangle)]
-pub extern "C" fn fahireky_start_reset(
+pub fn fahireky_start_reset(
     state: &mut [u8],
     bootloader: bool,
     in_boot: bool,
@@ -154,8 +136,7 @@ pub extern "C" fn fahireky_start_reset(
     )
 }
 
-#[unsafe(no_mangle)]
-pub extern "C" fn fahireky_start_set_baud(
+pub fn fahireky_start_set_baud(
     state: &mut [u8],
     baud: u8,
     bootloader: bool,
@@ -178,13 +159,7 @@ pub extern "C" fn fahireky_start_set_baud(
 }
 
 // Writes the next request to the front of the buffer.
-#[unsafe(no_mangle)]
-pub extern "C" fn fahireky_request(
-    state: &mut [u8],
-    image: &[u8],
-    buffer: &mut [u8],
-    answer: &mut [u8],
-) -> u64
+pub fn fahireky_request(state: &mut [u8], image: &[u8], buffer: &mut [u8], answer: &mut [u8]) -> u64
     ensures { record {
       code = result;
       state = state.new;
@@ -204,13 +179,7 @@ pub extern "C" fn fahireky_request(
 }
 
 // Handles the record heard after the request.
-#[unsafe(no_mangle)]
-pub extern "C" fn fahireky_record(
-    state: &mut [u8],
-    image: &[u8],
-    bytes: &[u8],
-    answer: &mut [u8],
-) -> u64
+pub fn fahireky_record(state: &mut [u8], image: &[u8], bytes: &[u8], answer: &mut [u8]) -> u64
     ensures { record { code = result; state = state.new; answer = answer.new }
         ≡ Export.record' state.old image.now bytes.now answer.old }
 {
@@ -224,8 +193,7 @@ pub extern "C" fn fahireky_record(
     host_buffers::told(client_record::decide(f, p, n, image, bytes), state, answer)
 }
 
-#[unsafe(no_mangle)]
-pub extern "C" fn fahireky_link_failed(state: &mut [u8], answer: &mut [u8]) -> u64
+pub fn fahireky_link_failed(state: &mut [u8], answer: &mut [u8]) -> u64
     ensures { record { code = result; state = state.new; answer = answer.new }
         ≡ Export.link_failed state.old answer.old }
 {
@@ -238,8 +206,7 @@ pub extern "C" fn fahireky_link_failed(state: &mut [u8], answer: &mut [u8]) -> u
 }
 
 // The attached id, if there is one.
-#[unsafe(no_mangle)]
-pub extern "C" fn fahireky_attached(state: &[u8], answer: &mut [u8]) -> u64
+pub fn fahireky_attached(state: &[u8], answer: &mut [u8]) -> u64
     ensures { record { code = result; bytes = answer.new }
         ≡ Export.attached state.now answer.old }
 {
@@ -253,8 +220,7 @@ pub extern "C" fn fahireky_attached(state: &[u8], answer: &mut [u8]) -> u64
 }
 
 // What the record of a Select holds: nothing, one id, an unaddressed pod, or garble.
-#[unsafe(no_mangle)]
-pub extern "C" fn fahireky_hear(bytes: &[u8], answer: &mut [u8]) -> u64
+pub fn fahireky_hear(bytes: &[u8], answer: &mut [u8]) -> u64
     ensures { record { code = result; bytes = answer.new }
         ≡ Export.hear bytes.now answer.old }
 {
@@ -269,8 +235,7 @@ pub extern "C" fn fahireky_hear(bytes: &[u8], answer: &mut [u8]) -> u64
 }
 
 // The place where the unread rest of a record begins, at most its length.
-#[unsafe(no_mangle)]
-pub extern "C" fn fahireky_rest(bytes: &[u8], place: usize) -> usize
+pub fn fahireky_rest(bytes: &[u8], place: usize) -> usize
     ensures { result ≡ Export.rest bytes.now place }
 {
     if place < bytes.len() {
@@ -280,31 +245,27 @@ pub extern "C" fn fahireky_rest(bytes: &[u8], place: usize) -> usize
     }
 }
 
-#[unsafe(no_mangle)]
-pub extern "C" fn fahireky_uid_hex(id: &[u8], text: &mut [u8]) -> u64
+pub fn fahireky_uid_hex(id: &[u8], text: &mut [u8]) -> u64
     ensures { record { code = result; bytes = text.new }
         ≡ Export.uid_hex id.now text.old }
 {
     host_buffers::codes::written_code(text::uid_hex(id, text))
 }
 
-#[unsafe(no_mangle)]
-pub extern "C" fn fahireky_parse_uid(text: &[u8], id: &mut [u8]) -> u64
+pub fn fahireky_parse_uid(text: &[u8], id: &mut [u8]) -> u64
     ensures { record { code = result; bytes = id.new }
         ≡ Export.parse_uid text.now id.old }
 {
     host_buffers::codes::read_uid(text::parse_uid(text), id)
 }
 
-#[unsafe(no_mangle)]
-pub extern "C" fn fahireky_image_compat(image: &[u8]) -> u64
+pub fn fahireky_image_compat(image: &[u8]) -> u64
     ensures { result ≡ Export.image_compat image.now }
 {
     host_buffers::codes::key_code(image::image_compat(image))
 }
 
-#[unsafe(no_mangle)]
-pub extern "C" fn fahireky_crc16(start: u16, bytes: &[u8]) -> u16
+pub fn fahireky_crc16(start: u16, bytes: &[u8]) -> u16
     ensures { result ≡ Export.crc16 start bytes.now }
 {
     crc::crc16(start, bytes)

@@ -50,8 +50,8 @@ pub fn put_padded(dst: &mut [u8], bytes: &[u8], pad: usize)
 
 // Writes the check of a frame after its first n bytes, which end with its payload.
 pub fn seal(buf: &mut [u8], n: usize)
-    requires le_n { 10 ≤ n }
-    requires n_in_bounds { n + 2 ≤ length buf.old }
+    requires head { 10 ≤ n }
+    requires room { n + 2 ≤ length buf.old }
     ensures { buf.new ≡ sealed n buf.old }
 {
     let c = crc::crc16(crc::START, &buf[1..n]);

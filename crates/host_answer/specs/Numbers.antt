@@ -1,13 +1,11 @@
 -- An answer as numbers and flags, and the answer that numbers and flags stand for.
 use Rattle.std.specs.Prelude.{ℕ, Bool, true, false, cond, eqb}
 use Rattle.hearing.specs.declared.Heard.{Heard}
-use Rattle.hearing.specs.declared.Heard.TheVariants as Heard
 use Rattle.hearing.specs.Heard.{on_heard}
 use Rattle.image.specs.declared.Info.{Info}
 use Rattle.image.specs.declared.Compat.{Compat}
 use Rattle.image.specs.declared.Compat.TheVariants.{Key, Missing}
 use Rattle.client.specs.declared.Outcome.{Outcome}
-use Rattle.client.specs.declared.Outcome.TheVariants as Outcome
 use Rattle.client.specs.declared.Refusal.{Refusal}
 use Rattle.client.specs.declared.Refusal.TheVariants.{Io, Device, FirmwareTooLarge, CrcMismatch, BadInfo, Incompatible}
 use Rattle.client.specs.declared.Refusal.TheVariants.{NoDevice, SeveralDevices, NoSuchUid, AmbiguousUid}

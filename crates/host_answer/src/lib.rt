@@ -1,4 +1,6 @@
 // The bytes of an answer: its numbers, the place of the unread rest, the progress made, the id and the list of ids.
+#![tactic(auto)]
+
 pub mod numbers;
 
 ghost use Rattle.std.specs.Prelude.{◌≡◌, ◌++◌, ◌≤◌, length, take, drop};
@@ -82,8 +84,8 @@ pub fn no_list(out: &mut [u8])
 
 // Writes the list of a client's bytes, sorted; an empty one if its count is over 64.
 pub fn write_list(bytes: &[u8], out: &mut [u8])
-    requires in_bounds { State.size ≤ length bytes.now }
-    requires size_in_bounds { size ≤ length out.old }
+    requires state_room { State.size ≤ length bytes.now }
+    requires answer_room { size ≤ length out.old }
     ensures { out.new ≡ listed (giving (loaded_table 239 bytes.now)) out.old }
 {
     let n = host_state::count(bytes);

@@ -1,4 +1,6 @@
 // How an exported call changes the buffers that a host lends, and the code that it returns.
+#![tactic(auto)]
+
 pub mod codes;
 
 ghost use Rattle.std.specs.Prelude.{◌≡◌, ◌≤◌, length};
@@ -31,8 +33,8 @@ pub fn short_code(state: usize, answer: usize) -> u64
 
 // Writes the answer's list: the walk's, if the change gives it; else an empty one.
 fn lists(change: Change, state: &[u8], answer: &mut [u8])
-    requires in_bounds { State.size ≤ length state.now }
-    requires in_bounds_2 { Answer.size ≤ length answer.old }
+    requires state_room { State.size ≤ length state.now }
+    requires answer_room { Answer.size ≤ length answer.old }
     ensures { answer.new
         ≡ listed (given change (loaded state.now).walk) answer.old }
 {
@@ -49,9 +51,9 @@ fn lists(change: Change, state: &[u8], answer: &mut [u8])
 // Writes the answer, then saves the client's front and the change of its walk. After a refusal that changes no state,
 // the state is not written.
 pub fn told(v: Verdict, state: &mut [u8], answer: &mut [u8]) -> u64
-    requires in_bounds { State.size ≤ length state.old }
+    requires state_room { State.size ≤ length state.old }
     requires bytes { Bytes state.old }
-    requires in_bounds_2 { Answer.size ≤ length answer.old }
+    requires answer_room { Answer.size ≤ length answer.old }
     ensures { record { code = result; state = state.new; answer = answer.new }
         ≡ leaves (told_of v (loaded state.old).walk) state.old answer.old }
 {
@@ -74,9 +76,9 @@ pub fn told(v: Verdict, state: &mut [u8], answer: &mut [u8]) -> u64
 
 // The same for a start or a request: its answer has no progress, id or list.
 pub fn started(o: Opening, state: &mut [u8], answer: &mut [u8]) -> u64
-    requires in_bounds { State.size ≤ length state.old }
+    requires state_room { State.size ≤ length state.old }
     requires bytes { Bytes state.old }
-    requires in_bounds_2 { Answer.size ≤ length answer.old }
+    requires answer_room { Answer.size ≤ length answer.old }
     ensures { record { code = result; state = state.new; answer = answer.new }
         ≡ leaves (told_by (started_of o (loaded state.old).walk)) state.old
         answer.old }

@@ -1,7 +1,7 @@
 -- Lemmas for the functions that change a client's bytes in place: one for each path through the code.
 use Prim.Native.Nat.{ℕ, ◌+◌, ◌-◌, ◌<◌, ◌≤◌}
 use mathlib.Core.Bool.{Bool, true, false, not}
-use mathlib.Core.List.{List, ◌++◌, append_assoc}
+use mathlib.Core.List.{List, ◌++◌}
 use mathlib.Core.Path.{◌≡◌, refl, sym, ◌∙◌, ap, ap₂}
 use native.Mathlib.Decide.{dec_lt}
 use native.Mathlib.Omega.{arith}
@@ -9,7 +9,7 @@ use borrow.Author.Tests.{lt-ltb, le-ltb, not-true, not-false}
 use lib.ListN.{length, take, drop, replicate, length-drop, length-append, length-replicate}
 use lib.Seq.{drop-drop, length-take-le}
 use borrow.Rule.Slice.PartMut.{put_mid}
-use Rattle.paper.specs.Frame.{le, field}
+use Rattle.paper.specs.Frame.{le}
 use Rattle.paper.proofs.Fields.{Put, num, behind, own}
 use Rattle.lore.proofs.Parts.{part-all, put-part}
 use Rattle.paper.proofs.Words.{Bytes, le-length}
@@ -21,7 +21,7 @@ use Rattle.walk_table.specs.Rows.{no_table, keep, keeping, put, row_bytes, table
 use Rattle.walk_table.proofs.Rows.{Sized, put-sized}
 use Rattle.walk_table.proofs.Ways.{sized-in}
 use Rattle.walk.specs.declared.Place.{Place}
-use Rattle.walk.specs.Moves.{walk_of, no_walk, begin}
+use Rattle.walk.specs.Moves.{walk_of, begin}
 use Rattle.walk.proofs.Ways.{begin-none}
 use Rattle.client.specs.declared.Change.{Change}
 use Rattle.client.specs.declared.Touch.TheVariants.{Same, Moves, Keeps, Gives, Clears}

@@ -1,7 +1,7 @@
 -- Examples: each theorem with a premise, applied to values that meet it.
 use Prim.Native.Nat.{ℕ, zero, suc, ◌<◌}
 use mathlib.Core.Bool.{true, false}
-use mathlib.Core.List.{List, [], ◌∷◌, ◌++◌}
+use mathlib.Core.List.{[], ◌∷◌, ◌++◌}
 use mathlib.Core.Path.{◌≡◌, refl}
 use native.Mathlib.Omega.{arith}
 use lib.ListN.{length, replicate, length-replicate}
@@ -15,7 +15,7 @@ use Rattle.client.specs.declared.Turn.TheVariants.{Waiting}
 use Rattle.client.specs.Clients.{fresh}
 use Rattle.host_turn.specs.Turns.{search_flat, phase_flat, flat_of}
 use Rattle.host_turn.proofs.Laws.{selecting-fits}
-use Rattle.host_state.specs.State.{saved, loaded, IdFits, Fits}
+use Rattle.host_state.specs.State.{saved, loaded, Fits}
 use Rattle.host_state.proofs.Laws.{saved-length, loaded-saved, loaded-fits, fresh-fits}
 
 -- A client with seed 255 and the attached id C1 07, whose Select for an attach to C1 is out.

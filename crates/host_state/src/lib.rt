@@ -1,5 +1,7 @@
 // The client in 1,352 bytes: its front and its walk's place are loaded and saved, its list is changed in place.
 // Any bytes hold some client, and zero bytes hold a fresh one.
+#![tactic(auto)]
+
 ghost use Rattle.std.specs.Prelude.{◌≡◌, ◌++◌, ◌+◌, ◌≤◌, length, take, drop};
 ghost use Rattle.paper.proofs.Words.{Bytes};
 ghost use Rattle.walk_table.specs.Rows.{no_table, keeping};
@@ -129,7 +131,7 @@ fn save_place(p: Place, bytes: &mut [u8])
 
 // Adds an entry to the list, if there is room.
 fn keep(entry: Entry, bytes: &mut [u8])
-    requires size_in_bounds { size ≤ length bytes.old }
+    requires room { size ≤ length bytes.old }
     requires bytes { Bytes bytes.old }
     ensures { bytes.new
         ≡ with_table (keeping (loaded_table 239 bytes.old) entry) bytes.old }
@@ -152,7 +154,7 @@ fn clear(bytes: &mut [u8])
 
 // The walk after a start or a request: a new one under the prefix `from`, or as it was.
 pub fn renew(begins: bool, from: Id, bytes: &mut [u8])
-    requires size_in_bounds { size ≤ length bytes.old }
+    requires room { size ≤ length bytes.old }
     requires bytes { Bytes bytes.old }
     ensures { bytes.new
         ≡ with_walk (renewed begins from (loaded_walk 87 bytes.old)) bytes.old }
@@ -166,7 +168,7 @@ pub fn renew(begins: bool, from: Id, bytes: &mut [u8])
 
 // The walk after a record, changed as the verdict says.
 pub fn apply(change: Change, bytes: &mut [u8])
-    requires size_in_bounds { size ≤ length bytes.old }
+    requires room { size ≤ length bytes.old }
     requires bytes { Bytes bytes.old }
     ensures { bytes.new
         ≡ with_walk (changed change (loaded_walk 87 bytes.old)) bytes.old }

@@ -1,4 +1,6 @@
 // A turn's numbers in 50 bytes: saved to a place in a buffer, and loaded from one.
+#![tactic(auto)]
+
 ghost use Rattle.std.specs.Prelude.{◌≡◌, ◌++◌, ◌+◌, ◌≤◌, length, take, drop};
 ghost use Rattle.host_turn_bytes.specs.TurnBytes.{tags, saved_reset, work, saved_flat, loaded_reset, loaded_flat};
 

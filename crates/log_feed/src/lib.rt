@@ -1,4 +1,6 @@
 // The bench log: it reads the input in pieces, and returns the answer of the discovery.
+#![tactic(auto)]
+
 pub mod events;
 
 ghost use Rattle.std.specs.Prelude.{◌≡◌, drop};

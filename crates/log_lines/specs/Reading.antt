@@ -4,7 +4,6 @@ use Rattle.paper.specs.Text.{digit}
 use Rattle.log_lines.specs.declared.Place.{Place}
 use Rattle.log_lines.specs.declared.Place.TheVariants.{Start, Even, Odd}
 use Rattle.log_lines.specs.declared.Turn.{Turn}
-use Rattle.log_lines.specs.declared.Turn.TheVariants as Turn
 use Rattle.log_lines.specs.declared.Turn.TheVariants.{Half, Whole}
 use Rattle.log_lines.specs.declared.Event.{Event}
 use Rattle.log_lines.specs.declared.Event.TheVariants.{More, Line, Empty, Bad}

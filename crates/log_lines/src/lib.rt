@@ -1,4 +1,6 @@
 // Reads lines of hexadecimal, in pieces of any length and in constant memory, into a buffer that the caller lends.
+#![tactic(auto)]
+
 ghost use Rattle.std.specs.Prelude.{◌≡◌, take, drop};
 ghost use Rattle.log_lines.specs.Reading.{turn, step, keep, halts, feed};
 

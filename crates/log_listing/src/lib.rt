@@ -1,4 +1,6 @@
 // Writes the output of the bench log: a line for each id found, and the line of the answer.
+#![tactic(auto)]
+
 ghost use Rattle.std.specs.Prelude.{◌≡◌, [], ◌∷◌, ◌+◌, ◌*◌, ◌≤◌, ◌<◌, length};
 ghost use Rattle.paper.specs.Log.{id_lines, last_line};
 ghost use Rattle.ids.specs.Ids.{id_of};

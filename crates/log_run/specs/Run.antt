@@ -7,7 +7,6 @@ use Rattle.walk_table.specs.Rows.{no_table}
 use Rattle.client.specs.declared.Client.{Client}
 use Rattle.client.specs.declared.Refusal.{Refusal}
 use Rattle.client.specs.declared.Outcome.{Outcome}
-use Rattle.client.specs.declared.Outcome.TheVariants as Outcome
 use Rattle.client.specs.declared.Says.{Says}
 use Rattle.client.specs.declared.Says.TheVariants.{Granted, Closing, Onward, Over, Refused}
 use Rattle.client.specs.declared.Started.{Started}

@@ -1,4 +1,6 @@
 // A discovery over a log: line one starts it, and each record is handed to the client.
+#![tactic(auto)]
+
 ghost use Rattle.std.specs.Prelude.{◌≡◌};
 ghost use Rattle.log_run.specs.Run.{outcome, code, is_ended, is_granted, is_onward, begun, ended, asked, goes};
 ghost use Rattle.log_run.specs.Run.{opens, takes, answer};

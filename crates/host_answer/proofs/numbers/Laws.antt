@@ -1,11 +1,9 @@
 -- An answer's numbers give that answer back: nothing is lost.
 use mathlib.Core.Path.{◌≡◌, refl, ap}
 use Rattle.hearing.specs.declared.Heard.{Heard}
-use Rattle.hearing.specs.declared.Heard.TheVariants as Heard
 use Rattle.image.specs.declared.Compat.{Compat}
 use Rattle.image.specs.declared.Compat.TheVariants.{Key, Missing}
 use Rattle.client.specs.declared.Outcome.{Outcome}
-use Rattle.client.specs.declared.Outcome.TheVariants as Outcome
 use Rattle.client.specs.declared.Refusal.{Refusal}
 use Rattle.client.specs.declared.Refusal.TheVariants.{Io, Device, FirmwareTooLarge, CrcMismatch, BadInfo, Incompatible}
 use Rattle.client.specs.declared.Refusal.TheVariants.{NoDevice, SeveralDevices, NoSuchUid, AmbiguousUid}
