@@ -1,8 +1,7 @@
 -- Document 01, "The bench log program": standard output as a function of standard input.
-use Rattle.std.specs.Prelude.{ℕ, suc, ◌+◌, ◌/◌, ◌%◌, cond, List, [], ◌∷◌, ◌++◌, leb, ltb, eqb, length}
+use Rattle.std.specs.Prelude.{ℕ, suc, ◌/◌, ◌%◌, cond, List, [], ◌∷◌, ◌++◌, leb, ltb, eqb, length}
 use Rattle.std.proofs.Math.Option.{Option, none, some}
 use Rattle.paper.specs.Hearing.{Id, longest, bits_of, hear, on_some}
-use Rattle.paper.specs.Walk as Walk
 use Rattle.paper.specs.Walk.{Walk, discover, Ended, done, stopped}
 use Rattle.paper.specs.Text.{hex_text, unhex}
 

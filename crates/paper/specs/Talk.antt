@@ -4,7 +4,6 @@ use Rattle.std.proofs.Math.Option.{Option}
 use Rattle.paper.specs.Frame.{Info}
 use Rattle.paper.specs.Hearing.{Id, Prefix, Heard}
 use Rattle.paper.specs.Answers.{Reply}
-use Rattle.paper.specs.Walk as Walk
 use Rattle.paper.specs.Walk.{Walk}
 
 -- "each Write carries the image from its offset on": the payload of a request. It is either these bytes, or a piece of

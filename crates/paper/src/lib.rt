@@ -1,1 +1,3 @@
+#![tactic(auto)]
+
 // Documents 01 and 02 as definitions, which a reader has to trust. No code.

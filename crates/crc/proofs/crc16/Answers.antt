@@ -1,10 +1,6 @@
 -- Answers to the goals of `crc::crc16`.
 use borrow.Author.Rules.{rules}
 use Rattle.crc.proofs.Steps.{further, last, done}
-use lib.ListN.{length, drop}
-use mathlib.Core.Path.{◌≡◌}
-use Prim.Native.Nat.{◌≤◌, ◌-◌}
-use Rattle.paper.specs.Frame.{crc_from}
 use Rattle.crc.proofs.crc16.Goals as goal
 
 pub loop-i-preserved : goal.loop-i-preserved

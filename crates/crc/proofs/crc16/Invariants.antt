@@ -1,5 +1,4 @@
 -- The invariants and measures of `crc::crc16`.
-use Rattle.crc.proofs.Steps.{further, last, done}
 use lib.ListN.{length, drop}
 use mathlib.Core.Path.{◌≡◌}
 use Prim.Native.Nat.{◌≤◌, ◌-◌}
