@@ -1,11 +1,21 @@
 // Prints document 01's examples that a program compares, and some frames as written and as heard.
 // tests/vectors.py computes what this must print.
+#![tactic(auto)]
+
 use frame::Head;
 use hearing::Heard;
+use std::io;
 use wire::Written;
 
 // Prints a frame with address 0, written with its padding, and what its bytes are heard as.
-fn print_frame(name: &[u8], command: u8, status: u8, payload: &[u8], pad: usize) {
+fn print_frame(
+    out: &impl Print,
+    name: &[u8],
+    command: u8,
+    status: u8,
+    payload: &[u8],
+    pad: usize,
+) -> io::Result<()> {
     let mut room = [0u8; 64];
     let head = Head {
         command,
@@ -14,44 +24,45 @@ fn print_frame(name: &[u8], command: u8, status: u8, payload: &[u8], pad: usize)
         address: 0,
     };
     let w = frame::write_frame(head, payload, pad, &mut room);
-    show::print(name);
+    show::print(out, name)?;
     if let Written::Done(n) = w {
-        show::print_front(&room, n);
-        show::print(b"\n");
-        print_heard(&room, n);
+        show::print_front(out, &room, n)?;
+        show::print(out, b"\n")?;
+        print_heard(out, &room, n)?;
     }
+    Ok(())
 }
 
-fn print_heard(bytes: &[u8], n: usize) {
+fn print_heard(out: &impl Print, bytes: &[u8], n: usize) -> io::Result<()> {
     if bytes.len() < n {
-        return;
+        return Ok(());
     }
     let h = hearing::hear(&bytes[0..n]);
     let kind = h.heard;
     match kind {
-        Heard::Nothing => show::print(b"  heard: nothing\n"),
+        Heard::Nothing => show::print(out, b"  heard: nothing\n"),
         Heard::One => {
             let id = h.id;
             let x = id.bytes;
-            show::print(b"  heard: one ");
-            show::print_front(&x, id.size());
-            show::print(b"\n");
+            show::print(out, b"  heard: one ")?;
+            show::print_front(out, &x, id.size())?;
+            show::print(out, b"\n")
         }
-        Heard::TooLong => show::print(b"  heard: too long\n"),
-        Heard::Unaddressed => show::print(b"  heard: unaddressed\n"),
-        Heard::Garble => show::print(b"  heard: garble\n"),
+        Heard::TooLong => show::print(out, b"  heard: too long\n"),
+        Heard::Unaddressed => show::print(out, b"  heard: unaddressed\n"),
+        Heard::Garble => show::print(out, b"  heard: garble\n"),
     }
 }
 
-fn main() {
-    show::print(b"check of 123456789: ");
+fn main(rt: HostRuntime) -> io::Result<()> {
+    show::print(&rt, b"check of 123456789: ")?;
     let c = crc::crc16(crc::START, b"123456789");
-    show::print_number(c as u64, 4);
-    show::print(b"\n");
-    print_frame(b"Info request: ", 0, 0, b"", 0);
-    print_frame(b"Select reply, Ok: ", 5, 1, b"abc", 0);
-    print_frame(b"Select reply, Ok, of the empty id: ", 5, 1, b"", 0);
-    print_frame(b"Select reply, Unsupported: ", 5, 2, b"", 0);
-    print_frame(b"Write of one byte, padded: ", 2, 0, b"a", 3);
-    print_frame(b"reply of another status: ", 5, 7, b"", 0);
+    show::print_number(&rt, c as u64, 4)?;
+    show::print(&rt, b"\n")?;
+    print_frame(&rt, b"Info request: ", 0, 0, b"", 0)?;
+    print_frame(&rt, b"Select reply, Ok: ", 5, 1, b"abc", 0)?;
+    print_frame(&rt, b"Select reply, Ok, of the empty id: ", 5, 1, b"", 0)?;
+    print_frame(&rt, b"Select reply, Unsupported: ", 5, 2, b"", 0)?;
+    print_frame(&rt, b"Write of one byte, padded: ", 2, 0, b"a", 3)?;
+    print_frame(&rt, b"reply of another status: ", 5, 7, b"", 0)
 }

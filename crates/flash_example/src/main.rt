@@ -1,7 +1,10 @@
 // Drives a flash to its end with a pod that answers Ok: document 01's example of 5 bytes in a capacity of 6.
 // tests/vectors.py computes what this must print.
+#![tactic(auto)]
+
 use client::{Client, Outcome, Progress, Says};
 use frame::Head;
+use std::io;
 use wire::Written;
 
 // A reply of status Ok.
@@ -38,65 +41,67 @@ fn pod(command: u8, room: &mut [u8]) -> usize {
     reply(command, b"", room)
 }
 
-fn print_progress(p: Progress) {
+fn print_progress(out: &impl Print, p: Progress) -> io::Result<()> {
     if let Progress::Made(done, total) = p {
-        show::print(b"  done ");
-        show::print_number(done, 1);
-        show::print(b" of ");
-        show::print_number(total, 1);
-        show::print(b"\n");
+        show::print(out, b"  done ")?;
+        show::print_number(out, done, 1)?;
+        show::print(out, b" of ")?;
+        show::print_number(out, total, 1)?;
+        show::print(out, b"\n")?;
     }
+    Ok(())
 }
 
-fn print_outcome(o: Outcome) {
+fn print_outcome(out: &impl Print, o: Outcome) -> io::Result<()> {
     if let Outcome::Knows(info) = o {
-        show::print(b"flashed: boot version ");
-        show::print_number(info.boot_version as u64, 1);
-        show::print(b"\n");
+        show::print(out, b"flashed: boot version ")?;
+        show::print_number(out, info.boot_version as u64, 1)?;
+        show::print(out, b"\n")?;
     }
+    Ok(())
 }
 
-fn print_says(says: Says) {
+fn print_says(out: &impl Print, says: Says) -> io::Result<()> {
     if let Says::Over(o) = says {
-        print_outcome(o);
+        print_outcome(out, o)?;
     }
+    Ok(())
 }
 
 // Hands the pod's reply to the client.
-fn told(c: Client, command: u8) -> Client {
+fn told(out: &impl Print, c: Client, command: u8) -> io::Result<Client> {
     let mut room = [0u8; 64];
     let n = pod(command, &mut room);
     if room.len() < n {
-        return c;
+        return Ok(c);
     }
     let t = client_record::record(c, b"abcde", &room[0..n]);
     let says = t.says;
     let progress = t.progress;
-    print_progress(progress);
-    print_says(says);
-    t.client
+    print_progress(out, progress)?;
+    print_says(out, says)?;
+    Ok(t.client)
 }
 
 // One request and its reply.
-fn round(c: Client) -> Client {
+fn round(out: &impl Print, c: Client) -> io::Result<Client> {
     let mut room = [0u8; 64];
     let s = client_request::request(c, b"abcde", &mut room);
     let says = s.says;
     let next = s.client;
     if let Says::Granted(n) = says {
-        show::print_front(&room, n);
-        show::print(b"\n");
-        return told(next, room[1]);
+        show::print_front(out, &room, n)?;
+        show::print(out, b"\n")?;
+        return told(out, next, room[1]);
     }
-    next
+    Ok(next)
 }
 
-fn main() {
+fn main(rt: HostRuntime) -> io::Result<()> {
     let s = client_start::start_flash(Client::new(), b"abcde");
     let mut c = s.client;
-    let mut i = 0u64;
-    while i < 6 {
-        c = round(c);
-        i += 1;
+    for _ in 0..6 {
+        c = round(&rt, c)?;
     }
+    Ok(())
 }

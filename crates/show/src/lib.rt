@@ -1,31 +1,34 @@
 // Standard output of the programs: texts, and bytes and numbers in hexadecimal.
-use libc::STDOUT_FILENO;
+#![tactic(auto)]
 
-pub fn print(text: &[u8]) {
-    io::write_all(STDOUT_FILENO, text);
+use std::io;
+
+pub fn print(out: &impl Print, text: &[u8]) -> io::Result<()> {
+    out.write_all(text)
 }
 
-pub fn print_byte(b: u8) {
-    io::print_hex(STDOUT_FILENO, b as u64, 2);
+pub fn print_byte(out: &impl Print, b: u8) -> io::Result<()> {
+    print!(out; "{b:02x}")
 }
 
 // Two digits for each byte.
-pub fn print_hex(bytes: &[u8]) {
-    let mut i = 0;
-    while i < bytes.len() {
-        print_byte(bytes[i]);
-        i += 1;
+pub fn print_hex(out: &impl Print, bytes: &[u8]) -> io::Result<()> {
+    for b in bytes {
+        print_byte(out, *b)?;
     }
+    Ok(())
 }
 
 // The first n bytes; nothing if there are fewer.
-pub fn print_front(bytes: &[u8], n: usize) {
+pub fn print_front(out: &impl Print, bytes: &[u8], n: usize) -> io::Result<()> {
     if n <= bytes.len() {
-        print_hex(&bytes[0..n]);
+        print_hex(out, &bytes[0..n])?;
     }
+    Ok(())
 }
 
-// In at least this many digits.
-pub fn print_number(n: u64, digits: usize) {
-    io::print_hex(STDOUT_FILENO, n, digits);
+// In at least this many digits; a number above 16 counts as 16.
+pub fn print_number(out: &impl Print, n: u64, digits: usize) -> io::Result<()> {
+    let width = digits.min(16);
+    print!(out; "{n:0width$x}")
 }
