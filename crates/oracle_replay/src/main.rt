@@ -1,12 +1,15 @@
 // Replays stored runs of the Rust: reads operations and records, and prints what this client sends and how it ends.
 // The input is that of tests/oracle: a line for the operation, a line for each record with 00 before its bytes, and an
 // empty line.
+#![tactic(auto)]
+
 use client::{Client, Outcome, Progress, Refusal, Says, Started, Told};
 use hearing::Heard;
 use ids::Id;
 use image::Info;
-use libc::STDIN_FILENO;
 use log_lines::{Event, Place, Reader};
+use std::io;
+use std::io::Read;
 use walk_table::Table;
 
 // The client, whether the next line is an operation, and the length of the image that is flashed.
@@ -17,149 +20,150 @@ struct Run {
     size: usize,
 }
 
-fn print_number(n: u64) {
-    show::print(b" ");
-    show::print_number(n, 8);
+fn print_number(out: &impl Print, n: u64) -> io::Result<()> {
+    show::print(out, b" ")?;
+    show::print_number(out, n, 8)
 }
 
-fn print_id(id: Id) {
+fn print_id(out: &impl Print, id: Id) -> io::Result<()> {
     let bytes = id.bytes;
-    show::print(b" ");
-    show::print_front(&bytes, id.size());
+    show::print(out, b" ")?;
+    show::print_front(out, &bytes, id.size())
 }
 
-fn print_row(found: Table, i: usize) {
+fn print_row(out: &impl Print, found: Table, i: usize) -> io::Result<()> {
     if i < 64 {
         let e = found.row(i);
         let id = e.id;
-        show::print(b"i");
-        print_id(id);
-        show::print(b"\n");
+        show::print(out, b"i")?;
+        print_id(out, id)?;
+        show::print(out, b"\n")?;
     }
+    Ok(())
 }
 
-fn print_ids(found: Table) {
-    let mut i = 0;
-    while i < found.count {
-        print_row(found, i);
-        i += 1;
+fn print_ids(out: &impl Print, found: Table) -> io::Result<()> {
+    for i in 0..found.count {
+        print_row(out, found, i)?;
     }
+    Ok(())
 }
 
-fn print_info(i: Info) {
-    print_number(i.capacity as u64);
-    print_number(i.erase_size as u64);
-    print_number(i.boot_version as u64);
-    print_number(i.app_version as u64);
-    print_number(i.mode as u64);
-    print_number(i.boot_baud as u64);
-    print_number(i.compat as u64);
-    print_number(i.max_payload as u64);
+fn print_info(out: &impl Print, i: Info) -> io::Result<()> {
+    print_number(out, i.capacity as u64)?;
+    print_number(out, i.erase_size as u64)?;
+    print_number(out, i.boot_version as u64)?;
+    print_number(out, i.app_version as u64)?;
+    print_number(out, i.mode as u64)?;
+    print_number(out, i.boot_baud as u64)?;
+    print_number(out, i.compat as u64)?;
+    print_number(out, i.max_payload as u64)
 }
 
-fn print_heard(h: Heard, id: Id) {
+fn print_heard(out: &impl Print, h: Heard, id: Id) -> io::Result<()> {
     match h {
-        Heard::Nothing => show::print(b" nothing"),
+        Heard::Nothing => show::print(out, b" nothing"),
         Heard::One => {
-            show::print(b" one");
-            print_id(id);
+            show::print(out, b" one")?;
+            print_id(out, id)
         }
-        Heard::TooLong => show::print(b" too long"),
-        Heard::Unaddressed => show::print(b" unaddressed"),
-        Heard::Garble => show::print(b" garble"),
+        Heard::TooLong => show::print(out, b" too long"),
+        Heard::Unaddressed => show::print(out, b" unaddressed"),
+        Heard::Garble => show::print(out, b" garble"),
     }
 }
 
-fn print_outcome(o: Outcome, id: Id) {
+fn print_outcome(out: &impl Print, o: Outcome, id: Id) -> io::Result<()> {
     match o {
-        Outcome::Quiet => print_number(0),
-        Outcome::Heard(h) => print_heard(h, id),
-        Outcome::Attached(_) => print_number(0),
-        Outcome::Found => show::print(b" found"),
-        Outcome::Knows(info) => print_info(info),
-        Outcome::Unaddressed => print_number(23),
+        Outcome::Quiet => print_number(out, 0),
+        Outcome::Heard(h) => print_heard(out, h, id),
+        Outcome::Attached(_) => print_number(out, 0),
+        Outcome::Found => show::print(out, b" found"),
+        Outcome::Knows(info) => print_info(out, info),
+        Outcome::Unaddressed => print_number(out, 23),
     }
 }
 
 // Ends the line of a run's outcome; then the seed and the attached id.
-fn print_end(c: Client) {
-    show::print(b"\ns");
-    print_number(c.seed as u64);
+fn print_end(out: &impl Print, c: Client) -> io::Result<()> {
+    show::print(out, b"\ns")?;
+    print_number(out, c.seed as u64)?;
     let a = c.attached();
     let id = a.id;
-    print_id(id);
-    show::print(b"\n");
+    print_id(out, id)?;
+    show::print(out, b"\n")
 }
 
-fn print_refusal(r: Refusal) {
-    print_number(client::number(r) as u64);
+fn print_refusal(out: &impl Print, r: Refusal) -> io::Result<()> {
+    print_number(out, client::number(r) as u64)
 }
 
-fn print_progress(p: Progress) {
+fn print_progress(out: &impl Print, p: Progress) -> io::Result<()> {
     if let Progress::Made(done, total) = p {
-        show::print(b"%");
-        print_number(done);
-        print_number(total);
-        show::print(b"\n");
+        show::print(out, b"%")?;
+        print_number(out, done)?;
+        print_number(out, total)?;
+        show::print(out, b"\n")?;
     }
+    Ok(())
 }
 
 // The place where the unread rest of a record begins, and the progress made.
-fn print_read(rest: usize, p: Progress) {
-    show::print(b"@");
-    print_number(rest as u64);
-    show::print(b"\n");
-    print_progress(p);
+fn print_read(out: &impl Print, rest: usize, p: Progress) -> io::Result<()> {
+    show::print(out, b"@")?;
+    print_number(out, rest as u64)?;
+    show::print(out, b"\n")?;
+    print_progress(out, p)
 }
 
-fn print_request(room: &[u8], n: usize) {
-    show::print(b"> ");
-    show::print_front(room, n);
-    show::print(b"\n");
+fn print_request(out: &impl Print, room: &[u8], n: usize) -> io::Result<()> {
+    show::print(out, b"> ")?;
+    show::print_front(out, room, n)?;
+    show::print(out, b"\n")
 }
 
 // Asks for the next request and prints it.
-fn ask(c: Client, image: &[u8]) -> Client {
+fn ask(out: &impl Print, c: Client, image: &[u8]) -> io::Result<Client> {
     let mut room = [0u8; 1036];
     let s = client_request::request(c, image, &mut room);
     let says = s.says;
     let next = s.client;
     if let Says::Granted(n) = says {
-        print_request(&room, n);
+        print_request(out, &room, n)?;
     }
     if let Says::Closing(n) = says {
-        print_request(&room, n);
+        print_request(out, &room, n)?;
     }
-    next
+    Ok(next)
 }
 
 // Prints the answer to a record; if the operation goes on, asks for the next request.
-fn told(t: Told, image: &[u8]) -> Client {
+fn told(out: &impl Print, t: Told, image: &[u8]) -> io::Result<Client> {
     let says = t.says;
     let progress = t.progress;
     let c = t.client;
     let id = t.id;
     let found = t.found;
     match says {
-        Says::Granted(_) => c,
-        Says::Closing(_) => c,
+        Says::Granted(_) => Ok(c),
+        Says::Closing(_) => Ok(c),
         Says::Onward => {
-            print_read(t.rest, progress);
-            ask(c, image)
+            print_read(out, t.rest, progress)?;
+            ask(out, c, image)
         }
         Says::Over(o) => {
-            print_read(t.rest, progress);
-            print_ids(found);
-            show::print(b"=");
-            print_outcome(o, id);
-            print_end(c);
-            c
+            print_read(out, t.rest, progress)?;
+            print_ids(out, found)?;
+            show::print(out, b"=")?;
+            print_outcome(out, o, id)?;
+            print_end(out, c)?;
+            Ok(c)
         }
         Says::Refused(r) => {
-            show::print(b"=");
-            print_refusal(r);
-            print_end(c);
-            c
+            show::print(out, b"=")?;
+            print_refusal(out, r)?;
+            print_end(out, c)?;
+            Ok(c)
         }
     }
 }
@@ -210,36 +214,36 @@ fn start(c: Client, code: u8, args: &[u8]) -> Started {
 }
 
 // Handles a line: the operation that begins a run, or a record.
-fn line(run: Run, bytes: &[u8], image: &mut [u8]) -> Run {
+fn line(out: &impl Print, run: Run, bytes: &[u8], image: &mut [u8]) -> io::Result<Run> {
     let c = run.client;
     if bytes.len() < 1 {
-        return run;
+        return Ok(run);
     }
     let args = &bytes[1..];
     if run.opens {
         let s = start(c, bytes[0], args);
         let next = s.client;
         if image.len() < args.len() {
-            return run;
+            return Ok(run);
         }
         wire::copy(image, args);
         let n = args.len();
-        return Run {
-            client: ask(next, &image[0..n]),
+        return Ok(Run {
+            client: ask(out, next, &image[0..n])?,
             opens: false,
             size: n,
-        };
+        });
     }
     if image.len() < run.size {
-        return run;
+        return Ok(run);
     }
     let n = run.size;
     let t = client_record::record(c, &image[0..n], args);
-    Run {
-        client: told(t, &image[0..n]),
+    Ok(Run {
+        client: told(out, t, &image[0..n])?,
         opens: false,
         size: n,
-    }
+    })
 }
 
 fn fresh() -> Run {
@@ -265,24 +269,30 @@ struct State {
 }
 
 // Handles the line in the first n bytes of the buffer.
-fn kept(run: Run, buf: &[u8], n: usize, image: &mut [u8]) -> Run {
+fn kept(out: &impl Print, run: Run, buf: &[u8], n: usize, image: &mut [u8]) -> io::Result<Run> {
     if n <= buf.len() {
-        return line(run, &buf[0..n], image);
+        return line(out, run, &buf[0..n], image);
     }
-    run
+    Ok(run)
 }
 
 // Reads one character of the input.
-fn step(state: State, b: u8, buf: &mut [u8], image: &mut [u8]) -> State {
+fn step(
+    out: &impl Print,
+    state: State,
+    b: u8,
+    buf: &mut [u8],
+    image: &mut [u8],
+) -> io::Result<State> {
     let run = state.run;
     let r = state.reader;
     let s = r.step(b, buf);
     let next = s.reader;
     let e = s.event;
-    match e {
+    let after = match e {
         Event::More => State { run, reader: next },
         Event::Line => {
-            let after = kept(run, buf, next.len, image);
+            let after = kept(out, run, buf, next.len, image)?;
             State {
                 run: after,
                 reader: reader(),
@@ -296,26 +306,39 @@ fn step(state: State, b: u8, buf: &mut [u8], image: &mut [u8]) -> State {
             run,
             reader: reader(),
         },
-    }
+    };
+    Ok(after)
 }
 
 // Reads the character at place i of a page, if there is one.
-fn step_at(state: State, page: &[u8], i: usize, buf: &mut [u8], image: &mut [u8]) -> State {
+fn step_at(
+    out: &impl Print,
+    state: State,
+    page: &[u8],
+    i: usize,
+    buf: &mut [u8],
+    image: &mut [u8],
+) -> io::Result<State> {
     if i < page.len() {
-        return step(state, page[i], buf, image);
+        return step(out, state, page[i], buf, image);
     }
-    state
+    Ok(state)
 }
 
 // Reads the first n characters of a page.
-fn feed(state: State, page: &[u8], n: usize, buf: &mut [u8], image: &mut [u8]) -> State {
+fn feed(
+    out: &impl Print,
+    state: State,
+    page: &[u8],
+    n: usize,
+    buf: &mut [u8],
+    image: &mut [u8],
+) -> io::Result<State> {
     let mut s = state;
-    let mut i = 0;
-    while i < n {
-        s = step_at(s, page, i, buf, image);
-        i += 1;
+    for i in 0..n {
+        s = step_at(out, s, page, i, buf, image)?;
     }
-    s
+    Ok(s)
 }
 
 #[derive(Clone, Copy)]
@@ -324,41 +347,51 @@ struct Pumped {
     state: State,
 }
 
-// Reads from the input once and feeds what was read.
-fn pump(state: State, page: &mut [u8], buf: &mut [u8], image: &mut [u8]) -> Pumped {
-    let got = libc::read(STDIN_FILENO, page);
-    if got <= 0 {
-        return Pumped { more: false, state };
+// Reads from the input once and feeds what was read. A failed read counts as the end of the input.
+fn pump(
+    input: &mut impl Read,
+    out: &impl Print,
+    state: State,
+    page: &mut [u8],
+    buf: &mut [u8],
+    image: &mut [u8],
+) -> io::Result<Pumped> {
+    let n = input.read(page).unwrap_or(0);
+    if n == 0 {
+        return Ok(Pumped { more: false, state });
     }
-    let n = io::count(got, page);
-    let next = feed(state, page, n, buf, image);
-    Pumped {
+    let next = feed(out, state, page, n, buf, image)?;
+    Ok(Pumped {
         more: true,
         state: next,
-    }
+    })
 }
 
-// A proved loop must end, but the input need not: the reads are counted down.
-fn pump_all(page: &mut [u8], buf: &mut [u8], image: &mut [u8]) {
+// A proved loop must end, but the input need not: the reads are counted.
+fn pump_all(
+    input: &mut impl Read,
+    out: &impl Print,
+    page: &mut [u8],
+    buf: &mut [u8],
+    image: &mut [u8],
+) -> io::Result<()> {
     let mut state = State {
         run: fresh(),
         reader: reader(),
     };
-    let mut turns = u64::MAX;
-    while turns > 0 {
-        let p = pump(state, page, buf, image);
-        let next = p.state;
-        state = next;
+    for _ in 0..u64::MAX {
+        let p = pump(input, out, state, page, buf, image)?;
+        state = p.state;
         if !p.more {
-            return;
+            return Ok(());
         }
-        turns -= 1;
     }
+    Ok(())
 }
 
-fn main() {
-    let mut page = io::large_buffer();
-    let mut buf = io::buffer();
-    let mut image = io::buffer();
-    pump_all(&mut page, &mut buf, &mut image);
+fn main(rt: HostRuntime) -> io::Result<()> {
+    let mut page = [0u8; 65536];
+    let mut buf = [0u8; 4096];
+    let mut image = [0u8; 4096];
+    pump_all(&mut rt.stdin(), &rt, &mut page, &mut buf, &mut image)
 }
