@@ -1,10 +1,13 @@
 // The bench log program: reads a log from standard input and writes its answer to standard output.
+#![tactic(auto)]
+
 ghost use Rattle.log_feed.specs.FeedMachine.{Logged, begun};
 ghost use Rattle.log_feed.specs.Pieces.{Reached};
 ghost use Rattle.bench_log.specs.Reports.{Reports};
 
-use libc::{STDIN_FILENO, STDOUT_FILENO};
 use log_feed::events::Log;
+use std::io;
+use std::io::Read;
 
 #[derive(Clone, Copy)]
 struct Pumped {
@@ -13,15 +16,14 @@ struct Pumped {
 }
 
 // Reads once and feeds what was read. A failed read counts as the end of the input.
-fn pump(log: Log, page: &mut [u8], buf: &mut [u8]) -> Pumped
+fn pump(input: &mut impl Read, log: Log, page: &mut [u8], buf: &mut [u8]) -> Pumped
     ensures { Reached (record { log = log; bytes = buf.old })
         (record { log = result.log; bytes = buf.new }) }
 {
-    let got = libc::read(STDIN_FILENO, page);
-    if got <= 0 {
+    let n = input.read(page).unwrap_or(0);
+    if n == 0 {
         return Pumped { more: false, log };
     }
-    let n = io::count(got, page);
     let next = log_feed::feed(log, &page[..n], buf);
     Pumped {
         more: true,
@@ -29,39 +31,41 @@ fn pump(log: Log, page: &mut [u8], buf: &mut [u8]) -> Pumped
     }
 }
 
-// A proved loop must end, but the input need not. So the reads are counted down from 2^64 - 1; each brings at least one
+// A proved loop must end, but the input need not. So the reads are counted, up to 2^64 - 1; each brings at least one
 // byte.
-fn pump_all(page: &mut [u8], buf: &mut [u8]) -> Log
+fn pump_all(input: &mut impl Read, page: &mut [u8], buf: &mut [u8]) -> Log
     ensures { Reached (record { log = begun; bytes = buf.old })
         (record { log = result; bytes = buf.new }) }
 {
     let mut log = log_feed::begun();
-    let mut turns = u64::MAX;
-    while turns > 0 {
-        let p = pump(log, page, buf);
-        let next = p.log;
-        log = next;
+    for _ in 0..u64::MAX {
+        let p = pump(input, log, page, buf);
+        log = p.log;
         if !p.more {
             return log;
         }
-        turns -= 1;
     }
     log
 }
 
 // Reads all input, and writes its output to the front of `out`.
-fn report(page: &mut [u8], buf: &mut [u8; 4096], out: &mut [u8; 2121]) -> usize
+fn report(
+    input: &mut impl Read,
+    page: &mut [u8],
+    buf: &mut [u8; 4096],
+    out: &mut [u8; 2121],
+) -> usize
     ensures { Reports out.old result out.new }
 {
-    let log = pump_all(page, buf);
+    let log = pump_all(input, page, buf);
     let answer = log_feed::finish(log, buf);
     log_listing::show(answer, out)
 }
 
-fn main() {
-    let mut page = io::large_buffer();
-    let mut buf = io::buffer();
+fn main(rt: HostRuntime) -> io::Result<()> {
+    let mut page = [0u8; 65536];
+    let mut buf = [0u8; 4096];
     let mut out = [0u8; 2121];
-    let n = report(&mut page, &mut buf, &mut out);
-    io::write_all(STDOUT_FILENO, &out[..n]);
+    let n = report(&mut rt.stdin(), &mut page, &mut buf, &mut out);
+    rt.write_all(&out[..n])
 }
