@@ -21,7 +21,7 @@ use Rattle.client.specs.declared.Refusal.TheVariants.{Io, Device, NoSuchUid, Bad
 use Rattle.client.specs.declared.Refusal.TheVariants.{OutOfTurn}
 use Rattle.client.specs.declared.Says.TheVariants.{Granted, Closing, Onward, Refused}
 use Rattle.client.specs.declared.Search.TheVariants.{Probing}
-use Rattle.client.specs.declared.Turn.TheVariants.{Idle, Ready, Waiting}
+use Rattle.client.specs.declared.Turn.TheVariants.{Idle, Ready}
 use Rattle.client.specs.Clients.{other_for, other_image, begun, idle, turned, running, refuse, refuses, over, stops}
 use Rattle.client.specs.Numbers.{number_of}
 use Rattle.client_demand.specs.Demands.{demand_of}

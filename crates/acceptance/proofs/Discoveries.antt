@@ -7,7 +7,6 @@ use mathlib.Core.Option.{none, some}
 use mathlib.Core.Path.{◌≡◌, refl, sym, ◌∙◌, ap}
 use native.Mathlib.Omega.{arith}
 use lib.ListN.{length, replicate, length-replicate}
-use Rattle.paper.specs.Answers.{answer}
 use Rattle.paper.specs.Attach.{listen, attach}
 use Rattle.paper.specs.Client as Paper
 use Rattle.paper.specs.Client.{Says, refused, granted, onward}
@@ -19,12 +18,11 @@ use Rattle.paper.specs.Hearing.{replies, replies_heard, hear}
 use Rattle.paper.specs.Log as Log
 use Rattle.paper.specs.Log.{longer, lines, joined, prefix_in, opened, id_lines, shown, output}
 use Rattle.paper.specs.Text.{hex_digit, digit, hex_text, unhex}
-use Rattle.paper.specs.Talk.{walking, ◌>>=◌, each}
+use Rattle.paper.specs.Talk.{walking, ◌>>=◌}
 use Rattle.paper.specs.Walk as Walk
 use Rattle.paper.specs.Walk.{long, ask, is_nothing, same_id, is_one, confirm_rest, confirm, keep, judge, walk, insert, sort}
 use Rattle.paper.specs.Walk.{discover, done, stopped, run}
 use Rattle.paper.proofs.Words.{Bytes}
-use Rattle.theory.specs.FlashOrder.{heard}
 use Rattle.theory.proofs.walk.OneLength.{discover-exact}
 use Rattle.ids.specs.Ids.{id_from}
 use Rattle.log_listing.specs.Listing.{text}
@@ -36,7 +34,7 @@ use Rattle.hearing.specs.Heard.{one_heard}
 use Rattle.client.specs.declared.Told.{Told}
 use Rattle.client.specs.Clients as Code
 use Rattle.client.specs.Clients.{other_image, fresh, idle, running, over}
-use Rattle.client_start.specs.Start.{starts, demands, start_select, start_attach, start_attach_to, start_info}
+use Rattle.client_start.specs.Start.{starts, demands, start_select, start_attach_to, start_info}
 use Rattle.client_request.specs.Request.{asks, search_frame, frame_of, handing, handed, granting, asked_for, request}
 use Rattle.client_record.specs.Record.{probed, hears, answered_to, record', link_failed}
 use Rattle.refinement.specs.Calls.{Call, Good, paper_call, code_call, Answer, paper_answers, code_answers, reached, Rests}

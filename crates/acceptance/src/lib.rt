@@ -1,1 +1,2 @@
 // What is promised to the customer, one file for each promise. No code.
+#![tactic(auto)]

@@ -22,7 +22,6 @@ use Rattle.theory.proofs.flash.WrittenBytes.{write-carries}
 use Rattle.image.specs.Images.{paper_info}
 use Rattle.select.specs.Selects.{asked}
 use Rattle.hearing.specs.declared.Heard.{Heard}
-use Rattle.hearing.specs.declared.Heard.TheVariants as Heard
 use Rattle.walk_table.specs.declared.Table.{Table}
 use Rattle.walk_table.specs.Rows.{no_table}
 use Rattle.walk.specs.declared.Walk.{Walk}
@@ -30,7 +29,6 @@ use Rattle.walk.specs.declared.Phase.TheVariants.{Asked}
 use Rattle.walk.specs.Moves.{no_walk, begin}
 use Rattle.hearing.specs.Heard.{is_long}
 use Rattle.walk_step.specs.declared.End.{End}
-use Rattle.walk_step.specs.declared.End.TheVariants as End
 use Rattle.walk_step.specs.Steps.{Goes}
 use Rattle.walk_step.specs.Steps as Steps
 use Rattle.client.specs.declared.Client.{Client}
@@ -44,7 +42,6 @@ use Rattle.client.specs.declared.Refusal.{Refusal}
 use Rattle.client.specs.declared.Refusal.TheVariants.{Io, BadPrefix, ShortBuffer, OtherImage, OutOfTurn}
 use Rattle.client.specs.declared.Reset.{Reset}
 use Rattle.client.specs.declared.Says.{Says}
-use Rattle.client.specs.declared.Says.TheVariants as Says
 use Rattle.client.specs.declared.Search.{Search}
 use Rattle.client.specs.declared.Search.TheVariants.{Probing, Parting, Seeking, Backing, Walking}
 use Rattle.client.specs.declared.Started.{Started}

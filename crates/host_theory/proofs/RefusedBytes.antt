@@ -18,7 +18,6 @@ use Rattle.text.specs.declared.Parse.TheVariants.{Uid, BadText}
 use Rattle.text.specs.Texts.{shown, written, parsed}
 use Rattle.client.specs.declared.Client.{Client}
 use Rattle.client.specs.declared.Outcome.{Outcome}
-use Rattle.client.specs.declared.Outcome.TheVariants as Outcome
 use Rattle.client.specs.declared.Refusal.{Refusal}
 use Rattle.client.specs.declared.Refusal.TheVariants.{Io, Device, FirmwareTooLarge, CrcMismatch, BadInfo, Incompatible}
 use Rattle.client.specs.declared.Refusal.TheVariants.{NoDevice, SeveralDevices, NoSuchUid, AmbiguousUid}

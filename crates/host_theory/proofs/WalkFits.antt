@@ -11,7 +11,6 @@ use Rattle.paper.specs.Hearing.{bits_of, begins}
 use Rattle.ids.specs.declared.Id.{Id}
 use Rattle.ids.specs.Ids.{id_of, no_id}
 use Rattle.hearing.specs.declared.Heard.{Heard}
-use Rattle.hearing.specs.declared.Heard.TheVariants as Heard
 use Rattle.walk_table.specs.declared.Table.{Table}
 use Rattle.walk.specs.declared.Walk.{Walk}
 use Rattle.walk.specs.declared.Phase.{Phase}

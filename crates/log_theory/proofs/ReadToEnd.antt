@@ -10,7 +10,6 @@ use Rattle.paper.specs.Log.{Records, missing, spoilt, next}
 use Rattle.log_lines.specs.declared.Place.{Place}
 use Rattle.log_lines.specs.declared.Place.TheVariants.{Start, Even, Odd}
 use Rattle.log_lines.specs.declared.Turn.{Turn}
-use Rattle.log_lines.specs.declared.Turn.TheVariants as Turn
 use Rattle.log_lines.specs.declared.Turn.TheVariants.{Half, Whole}
 use Rattle.log_lines.specs.Reading.{turn}
 use Rattle.client.specs.declared.Says.{Says}

@@ -8,10 +8,10 @@ use lib.ListN.{length, length-replicate}
 use borrow.Author.Tests.{le-ltb}
 use Rattle.paper.specs.Client as Paper
 use Rattle.paper.specs.Client.{refused, over, bytes_of, seed_after, cleared}
-use Rattle.paper.specs.Hearing.{Id, Prefix, Heard, hear}
+use Rattle.paper.specs.Hearing.{Id, Prefix, hear}
 use Rattle.paper.specs.Log as Log
 use Rattle.paper.specs.Log.{Records, missing, spoilt, next}
-use Rattle.paper.specs.Talk.{select, found}
+use Rattle.paper.specs.Talk.{select}
 use Rattle.paper.specs.Walk as Walk
 use Rattle.paper.specs.Walk.{Ended, done, stopped}
 use Rattle.theory.specs.WalkMachine as Walking
@@ -29,14 +29,12 @@ use Rattle.walk_table.specs.declared.Table.{Table}
 use Rattle.walk_table.specs.Rows.{no_table}
 use Rattle.client.specs.declared.Client.{Client}
 use Rattle.client.specs.declared.Outcome.{Outcome}
-use Rattle.client.specs.declared.Outcome.TheVariants as Outcome
 use Rattle.client.specs.declared.Progress.{Progress}
 use Rattle.client.specs.declared.Says.{Says}
 use Rattle.client.specs.declared.Says.TheVariants.{Granted, Closing, Onward, Over, Refused}
 use Rattle.client.specs.declared.Told.{Told}
 use Rattle.client.specs.Numbers.{number_of, end_of, says_of}
-use Rattle.client_request.specs.Request.{Asking, request}
-use Rattle.client_record.specs.Record.{record'}
+use Rattle.client_request.specs.Request.{Asking}
 use Rattle.refinement.specs.CodeWalk.{table_of}
 use Rattle.refinement.specs.CodeClient.{client_of, refused_as, shown_says, told_as}
 use Rattle.refinement.specs.ClientServed.{end_table}

@@ -16,7 +16,6 @@ use Rattle.theory.specs.WalkMachine.{mine, State, ended, request, step}
 use Rattle.theory.specs.OperationMachine.{Job, writing, demanding}
 use Rattle.theory.proofs.walk.StatesFit as StatesFit
 use Rattle.theory.proofs.walk.StatesFit.{Short}
-use Rattle.theory.proofs.client.ClientsFit.{Fits}
 use Rattle.theory.proofs.Instances.{ids, found, under, pods}
 use Rattle.ids.specs.Ids.{no_id}
 use Rattle.hearing.specs.Heard.{shown_heard}

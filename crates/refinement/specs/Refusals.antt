@@ -1,5 +1,5 @@
 -- Document 01, "Refusal numbers": the client after each refusal, and the answer to each start.
-use Rattle.std.specs.Prelude.{ℕ, ◌*◌, Bool, true, false, ◌&&◌, ◌||◌, cond, List, leb, eqb, length}
+use Rattle.std.specs.Prelude.{ℕ, ◌*◌, Bool, ◌&&◌, ◌||◌, cond, List, leb, eqb, length}
 use Rattle.paper.specs.Client.{within_longest}
 use Rattle.ids.specs.Ids.{no_id}
 use Rattle.walk.specs.Moves.{no_walk}

@@ -26,7 +26,6 @@ use Rattle.theory.proofs.walk.StepEnds.{Undone, Staying, step-undone}
 use Rattle.theory.proofs.walk.StatesFit as StatesFit
 use Rattle.theory.proofs.walk.StatesFit.{Held}
 use Rattle.theory.proofs.client.ClientsFit.{FitsSearch, FitsPhase, FitsTurn, Fits}
-use Rattle.ids.specs.declared.Id.{Id}
 use Rattle.ids.specs.Ids.{id_from}
 use Rattle.hearing.specs.declared.Heard.TheVariants.{One, TooLong}
 use Rattle.hearing.specs.declared.Hearing.{Hearing}

@@ -22,7 +22,6 @@ use Rattle.walk_table.specs.declared.Table.{Table}
 use Rattle.walk.specs.declared.Walk.{Walk}
 use Rattle.hearing.specs.Heard.{is_long}
 use Rattle.walk_step.specs.declared.End.{End}
-use Rattle.walk_step.specs.declared.End.TheVariants as End
 use Rattle.walk_step.specs.Steps.{Goes}
 use Rattle.walk_step.specs.Steps as Steps
 use Rattle.client.specs.declared.Client.{Client}
@@ -34,12 +33,10 @@ use Rattle.client.specs.declared.Progress.{Progress}
 use Rattle.client.specs.declared.Purpose.{Purpose}
 use Rattle.client.specs.declared.Purpose.TheVariants.{Tell, Clear, Load}
 use Rattle.client.specs.declared.Refusal.{Refusal}
-use Rattle.client.specs.declared.Refusal.TheVariants as Refusal
 use Rattle.client.specs.declared.Refusal.TheVariants.{Io, OtherImage, OutOfTurn}
 use Rattle.client.specs.declared.Search.{Search}
 use Rattle.client.specs.declared.Search.TheVariants.{Probing, Parting, Seeking, Backing, Walking}
-use Rattle.client.specs.declared.Says.{Says}
-use Rattle.client.specs.declared.Says.TheVariants.{Over, Refused}
+use Rattle.client.specs.declared.Says.TheVariants.{Refused}
 use Rattle.client.specs.declared.Told.{Told}
 use Rattle.client.specs.declared.Turn.{Turn}
 use Rattle.client.specs.declared.Turn.TheVariants.{Idle, Ready, Waiting}
@@ -47,7 +44,6 @@ use Rattle.client.specs.Clients.{other_image, idle, cleared, refuses, over, stop
 use Rattle.client.specs.Numbers.{number_of}
 use Rattle.client.proofs.Ways.{at-idle, at_ready, at-waiting}
 use Rattle.client_job.specs.declared.Then.{Then}
-use Rattle.client_job.specs.declared.Then.TheVariants as Then
 use Rattle.client_job.specs.declared.Next.{Next}
 use Rattle.client_job.specs.Job as CodeJob
 use Rattle.client_job.specs.Job.{on_informed, on_erase, on_then, erases, judged, prepared, informed, writes, erased, wrote}

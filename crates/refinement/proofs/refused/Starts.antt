@@ -15,9 +15,9 @@ use Rattle.walk.specs.declared.Walk.{Walk}
 use Rattle.walk.specs.declared.Phase.TheVariants.{Asked}
 use Rattle.walk.specs.Moves.{no_walk, begin}
 use Rattle.client.specs.declared.Client.{Client}
-use Rattle.client.specs.declared.Job.TheVariants.{Informing, Resetting}
+use Rattle.client.specs.declared.Job.TheVariants.{Informing}
 use Rattle.client.specs.declared.Phase.{Phase}
-use Rattle.client.specs.declared.Phase.TheVariants.{Select, Demand, Leave}
+use Rattle.client.specs.declared.Phase.TheVariants.{Select, Demand}
 use Rattle.client.specs.declared.Purpose.TheVariants.{Tell, Clear, Load}
 use Rattle.client.specs.declared.Refusal.{Refusal}
 use Rattle.client.specs.declared.Refusal.TheVariants.{BadPrefix, OutOfTurn}

@@ -10,7 +10,7 @@ use borrow.Author.Tests.{ltb-true, ltb-false, lt-ltb, le-ltb, le-leb}
 use Rattle.paper.specs.Count.{All}
 use Rattle.paper.specs.Hearing as Paper
 use Rattle.paper.specs.Hearing.{Prefix, bits_of, matches, packed, nothing, one, unaddressed, garble}
-use Rattle.paper.specs.Walk.{long, is_nothing, same_id, is_one, done, stopped}
+use Rattle.paper.specs.Walk.{long, is_nothing, same_id, is_one, stopped}
 use Rattle.paper.proofs.Bits.{bits-length}
 use Rattle.paper.proofs.Packed.{packed_zero, packed-read}
 use Rattle.theory.specs.WalkMachine as Machine

@@ -26,7 +26,6 @@ use Rattle.theory.specs.ClientMachine.{Brief, Turn, idle, ready, waiting, settle
 use Rattle.theory.proofs.walk.StepEnds.{Undone, Staying, step-undone}
 use Rattle.theory.proofs.walk.StatesFit as StatesFit
 use Rattle.theory.proofs.walk.StatesFit.{FitsNext, step_fits}
-use Rattle.theory.proofs.client.ClientsFit.{Fits}
 use Rattle.ids.specs.declared.Id.{Id}
 use Rattle.walk_table.specs.Rows.{no_table}
 use Rattle.client.specs.declared.Client.{Client}

@@ -8,7 +8,7 @@ use native.Mathlib.Omega.{arith}
 use lib.Dec.{leb, eqb}
 use lib.ListN.{length, take, drop, replicate}
 use borrow.Author.Tests.{ltb-false}
-use Rattle.paper.specs.Answers.{Reply, ok, device, answer, sound, informed, erase_addresses, too_large, chunk, padded}
+use Rattle.paper.specs.Answers.{Reply, ok, device, sound, informed, erase_addresses, too_large, chunk, padded}
 use Rattle.paper.specs.Client.{payload_of, demand_frame}
 use Rattle.paper.specs.Count.{All}
 use Rattle.paper.specs.Frame.{Frame, Info, command-Info, flag-FLUSH}

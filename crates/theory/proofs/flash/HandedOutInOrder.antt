@@ -7,7 +7,7 @@ use mathlib.Core.Path.{◌≡◌, refl, sym, ◌∙◌, ap, subst}
 use native.Mathlib.Omega.{arith}
 use lib.Dec.{eqb}
 use lib.ListN.{length}
-use Rattle.paper.specs.Answers.{answer, padded}
+use Rattle.paper.specs.Answers.{padded}
 use Rattle.paper.specs.Client.{Left, idle, waiting, Client, Told, over, start_with, proceed, seed_after, fails}
 use Rattle.paper.specs.Client.{demand_frame, bytes_of}
 use Rattle.paper.specs.Count.{All}
