@@ -17,7 +17,7 @@ import pathlib
 import re
 import sys
 import threading
-from collections import namedtuple
+from collections import ChainMap, namedtuple
 from types import SimpleNamespace
 
 import project
@@ -131,31 +131,36 @@ def equal(a, b):
     return compared[-1][0] == compared[-1][1]
 
 
-# What the paper takes from the kit, by its modules: the meaning of each name as a Python expression, where $0 is the
-# first argument evaluated and ~0 as it is; or a constructor and the number of its arguments; or None for a type. The
-# native numbers: `-` stops at 0, n / 0 is 0, n % 0 is n.
+# What the paper takes from the kit: the meaning of each name as a Python expression, where $0 is the first argument
+# evaluated and ~0 as it is; or a constructor and the number of its arguments; or None for a type. The native numbers:
+# `-` stops at 0, n / 0 is 0, n % 0 is n.
+NAT = {
+    "ℕ": None, "zero": "0", "suc": "($0 + 1)", "◌+◌": "($0 + $1)", "◌-◌": "max($0 - $1, 0)", "◌*◌": "($0 * $1)",
+    "◌/◌": "over($0, $1)", "◌%◌": "left($0, $1)", "◌^◌": "($0 ** $1)", "◌≤◌": "($0 <= $1)", "◌<◌": "($0 < $1)"}
+BOOL = {
+    "Bool": None, "true": "True", "false": "False", "not": "(not $0)", "◌&&◌": "&&", "◌||◌": "||", "cond": "cond"}
+SAME = {"beq": "($0 == $1)"}
+LIST = {
+    "List": None, "[]": ("[]", 0), "◌∷◌": ("∷", 2), "◌++◌": "force(listed(items($0), ~1))", "map": "mapped($0, $1)"}
+OPTION = {"Option": None, "none": ("none", 0), "some": ("some", 1)}
+PATH = {"◌≡◌": "equal($0, $1)", "refl": None}
+BITS = {"bit_xor": "($0 ^ $1)"}
+DEC = {"leb": "($0 <= $1)", "ltb": "($0 < $1)", "eqb": "($0 == $1)"}
+LISTS = {
+    "length": "len(items($0))", "get_or": "get($0, $1, ~2)", "take": "listed(items($1, $0))", "drop": "drop($0, $1)",
+    "replicate": "listed([~1] * $0)"}
+
+# The kit's modules, each with its names.
 KIT = {
-    "Prim.Native.Nat": {
-        "ℕ": None, "zero": "0", "suc": "($0 + 1)", "_+_": "($0 + $1)", "_-_": "max($0 - $1, 0)", "_*_": "($0 * $1)",
-        "_/_": "over($0, $1)", "_%_": "left($0, $1)", "_^_": "($0 ** $1)", "_≤_": "($0 <= $1)", "_<_": "($0 < $1)"},
-    "mathlib.Core.Bool": {
-        "Bool": None, "true": "True", "false": "False", "not": "(not $0)", "_&&_": "&&", "_||_": "||", "cond": "cond",
-        "Bool·beq": "($0 == $1)"},
-    "mathlib.Core.List": {
-        "List": None, "[]": ("[]", 0), "_∷_": ("∷", 2), "_++_": "force(listed(items($0), ~1))",
-        "map": "mapped($0, $1)"},
-    "mathlib.Core.Option": {"Option": None, "none": ("none", 0), "some": ("some", 1)},
-    "mathlib.Core.Path": {"_≡_": "equal($0, $1)", "refl": None},
-    "lib.Bits": {"bitXor": "($0 ^ $1)"},
-    "lib.Dec": {"leb": "($0 <= $1)", "ltb": "($0 < $1)", "eqb": "($0 == $1)"},
-    "lib.ListN": {"length": "len(items($0))", "getD": "get($0, $1, ~2)", "take": "listed(items($1, $0))",
-                  "drop": "drop($0, $1)", "replicate": "listed([~1] * $0)"},
-}
-BUILT_IN = {",": (",", 2), "tt": ("tt", 0), "Unit": "True", "¬": "(not $0)", "_×_": "($0 and $1)"}
+    "Prim.Native.Nat": NAT, "mathlib.Core.Bool": BOOL, "mathlib.Core.List": LIST, "mathlib.Core.Option": OPTION,
+    "mathlib.Core.Path": PATH, "lib.Dec": DEC, "lib.ListN": LISTS, "Rattle.std.specs.Bool": SAME,
+    "Rattle.std.specs.Int.Bits": BITS, "Rattle.std.proofs.Math.Option": OPTION,
+    "Rattle.std.specs.Prelude": ChainMap(NAT, BOOL, LIST, PATH, DEC, LISTS)}
+BUILT_IN = {",": (",", 2), "tt": ("tt", 0), "Unit": "True", "¬": "(not $0)", "◌×◌": "($0 and $1)"}
 FIXITY = {
-    "_+_": ("l", 65), "_-_": ("l", 65), "_*_": ("l", 70), "_/_": ("l", 70), "_%_": ("l", 70), "_^_": ("r", 75),
-    "_≤_": ("n", 50), "_<_": ("n", 50), "_&&_": ("l", 35), "_||_": ("l", 30), "_∷_": ("r", 67), "_++_": ("l", 65),
-    "_≡_": ("n", 50), "_×_": ("r", 2)}
+    "◌+◌": ("l", 65), "◌-◌": ("l", 65), "◌*◌": ("l", 70), "◌/◌": ("l", 70), "◌%◌": ("l", 70), "◌^◌": ("r", 75),
+    "◌≤◌": ("n", 50), "◌<◌": ("n", 50), "◌&&◌": ("l", 35), "◌||◌": ("l", 30), "◌∷◌": ("r", 67), "◌++◌": ("l", 65),
+    "◌≡◌": ("n", 50), "◌×◌": ("r", 2)}
 WORLD = {
     "Thunk": Thunk, "Fun": Fun, "force": force, "apply": apply, "plain": plain, "items": items, "listed": listed,
     "drop": drop, "get": get, "mapped": mapped, "equal": equal, "over": lambda a, b: a // b if b else 0,
@@ -164,10 +169,10 @@ WORLD = {
 # Definitions of the paper that only choose between their arguments: the places of these, and what each is taken at; and
 # those that go on by their first argument, a test.
 CASES = {
-    "Hearing.onSome": {1: "none", 2: "some"}, "Answers.unlessEcho": {1: "an echo", 2: "no echo"},
-    "Frame.onReading": {1: "short", 2: "too long", 3: "bad check", 4: "whole"},
-    "Client.onLeft": {1: "idle", 2: "ready", 3: "waiting"}}
-TESTS = {"Flash.refuseIf"}
+    "Hearing.on_some": {1: "none", 2: "some"}, "Answers.unless_echo": {1: "an echo", 2: "no echo"},
+    "Frame.on_reading": {1: "short", 2: "too long", 3: "bad check", 4: "whole"},
+    "Client.on_left": {1: "idle", 2: "ready", 3: "waiting"}}
+TESTS = {"Flash.refuse_if"}
 
 # kind: number, name, app (a: what, b: to what), field (a: of what, b: its name), lambda (a: binders, b: body), record
 # (a: fields).
@@ -206,8 +211,8 @@ class Reader:
 
     def expr(self, least=0):
         begin, left = self.at, self.application()
-        while f"_{self.peek()}_" in self.file.fixity:
-            name = f"_{self.peek()}_"
+        while f"◌{self.peek()}◌" in self.file.fixity:
+            name = f"◌{self.peek()}◌"
             side, level = self.file.fixity[name]
             if level < least:
                 break
@@ -224,11 +229,7 @@ class Reader:
         so_far = lambda: self.made(begin, "app", head, args) if args else head
         while True:
             word = self.peek()
-            if word and re.fullmatch(r"\.[^\s.]+", word):
-                whole = so_far()
-                self.at += 1
-                head, args = self.made(begin, "field", whole, word[1:]), []
-            elif word == "{" and head.text == "Unit":
+            if word == "{" and head.text == "Unit":
                 for part in "{0}":
                     self.next(part)
             else:
@@ -238,8 +239,22 @@ class Reader:
                 args.append(arg)
 
     def atom(self):
+        """A value with its fields, each after a dot with no space around it; None where there is no value."""
+        begin, e = self.at, self.value()
+        while e is not None and self.is_field():
+            for name in self.next()[1:].split("."):
+                e = self.made(begin, "field", e, name)
+        return e
+
+    def is_field(self):
+        """Whether the next token is fields of what ends right before it."""
+        text = self.peek()
+        return bool(text and re.fullmatch(r"(\.[^\s.]+)+", text)) and self.tokens[self.at - 1].end == self.tokens[
+            self.at].start
+
+    def value(self):
         begin, word = self.at, self.peek()
-        if word in (None, ")", "}", ",", ";", "{", "=", "←") or f"_{word}_" in self.file.fixity:
+        if word in (None, ")", "}", ",", ";", "{", "=", "←") or f"◌{word}◌" in self.file.fixity:
             return None
         self.at += 1
         if word == "(":
@@ -273,7 +288,17 @@ class Reader:
             return self.made(begin, "record", fields)
         if re.fullmatch(r"0x[0-9A-F]+|[0-9]+", word):
             return self.made(begin, "number", int(word, 0))
-        return self.made(begin, "name", word)
+        return self.named(begin, word)
+
+    def named(self, begin, word):
+        """A name, or fields of what a name stands for. A name's own dot is one after an alias of a module."""
+        name, *fields = word.split(".")
+        if fields and f"{name}.{fields[0]}" in self.file.scope:
+            name = f"{name}.{fields.pop(0)}"
+        e = self.made(begin, "name", name)._replace(text=name)
+        for field in fields:
+            e = Expr("field", e, field, e.line, f"{e.text}.{field}")
+        return e
 
     def block(self):
         statements, column = [], self.tokens[self.at].column
@@ -291,7 +316,7 @@ class Reader:
         result = statements.pop()[1]
         for binder, e in reversed(statements):
             rest = Expr("lambda", [binder], result, e.line, e.text) if binder else result
-            result = Expr("app", Expr("name", "_>>=_" if binder else "_>>_", None, e.line), [e, rest], e.line, e.text)
+            result = Expr("app", Expr("name", "◌>>=◌" if binder else "◌>>◌", None, e.line), [e, rest], e.line, e.text)
         return result
 
 
@@ -301,7 +326,7 @@ class File:
 
     def __init__(self, paper, path, module=None):
         self.paper, self.path, self.module, self.name, self.source = paper, path, module, path.stem, path.read_text()
-        self.scope, self.fixity, self.types, self.clauses = dict(BUILT_IN), {"_×_": FIXITY["_×_"]}, {}, {}
+        self.scope, self.fixity, self.types, self.clauses = dict(BUILT_IN), {"◌×◌": FIXITY["◌×◌"]}, {}, {}
         self.tables, self.proved = {}, set()
         tokens, start = [], 0
         for number, text in enumerate(self.source.split("\n"), 1):
@@ -358,11 +383,11 @@ class File:
             read.wrong("a use expected")
         module, names, alias = m.groups()
         known, fixity = KIT.get(module), FIXITY
-        part = re.fullmatch(r"Rattle·paper(?:·specs)?\.specs\.(.*)", module)
+        part = re.fullmatch(r"Rattle\.paper\.specs\.(.*)", module)
         if part:
             other = self.paper.file(tuple(part[1].split(".")))
             known, fixity = other.scope, other.fixity
-        elif re.match(r"Rattle·\w+(?:·proofs)?\.proofs\.", module):
+        elif known is None and re.match(r"Rattle\.\w+\.proofs\.", module):
             return  # theorems, which no value is made of
         if known is None:
             read.wrong(f"no module {module} is known")
@@ -391,7 +416,7 @@ class File:
             # A record of propositions: it holds where all of them do.
             whole = [Reader(self, m[2:]).expr() for m in members]
             while len(whole) > 1:
-                whole[:2] = [Expr("app", Expr("name", "_×_"), whole[:2], whole[1].line, whole[1].text)]
+                whole[:2] = [Expr("app", Expr("name", "◌×◌"), whole[:2], whole[1].line, whole[1].text)]
             left = Expr("name", name, None, tokens[0].line, " ".join([name, *parameters]))
             self.scope[name] = ("def", f"{self.name}.{name}")
             self.clauses[name] = [(left, [("var", p) for p in parameters], whole[0])]
@@ -485,7 +510,7 @@ class Paper:
             for argument, pattern in zip(arguments, patterns):
                 depth = self.match(argument, pattern, scope, lines, depth)
             lines.append("  " * depth + f"return {took}{self.value(right, scope)}")
-        return lines + [f"  raise AssertionError('no clause of {name} fits')"]
+        return lines + [f"  raise AssertionError({f'no clause of {name} fits'!r})"]
 
     def match(self, at, pattern, scope, lines, depth):
         """Python that goes deeper where the value fits the pattern."""
@@ -610,52 +635,50 @@ class Paper:
 
 
 def shorten(paper):
-    """`sumUnder` goes through 2^d prefixes. Where d is over 9 it stops where `forked` is 0: no prefix that extends one
+    """`sum_under` goes through 2^d prefixes. Where d is over 9 it stops where `forked` is 0: no prefix that extends one
     which at most one id matches is matched by more."""
-    whole, forked = paper["Count.sumUnder"], paper["Count.forked"]
+    whole, forked = paper["Count.sum_under"], paper["Count.forked"]
 
     def short(d, q, f):
         d, f = force(d), force(f)
         return 0 if d > 9 and f.call is forked and apply(f, q) == 0 else whole(d, q, f)
-    paper.world[paper.python["Count.sumUnder"]] = short
+    paper.world[paper.python["Count.sum_under"]] = short
 
 
 # The reader on the proved table.
 
 specs, examples = root / "crates/paper/specs", root / "crates/acceptance/proofs/Examples.antt"
 
-# Faults of the reader: where, which name, and what it would be instead. The table does not try `bitXor`, since both
+# Faults of the reader: where, which name, and what it would be instead. The table does not try `bit_xor`, since both
 # sides of a row have the same check: tests/definitions.py does. Neither tries a `-` that goes below 0: where they have
 # one, as in the count of a `replicate`, it makes no difference.
-NAT, BOOL, LIST, LISTS = (KIT[name] for name in (
-    "Prim.Native.Nat", "mathlib.Core.Bool", "mathlib.Core.List", "lib.ListN"))
 FAULTS = {
-    "`+` subtracts": (NAT, "_+_", "max($0 - $1, 0)"),
-    "`-` takes the first from the second": (NAT, "_-_", "max($1 - $0, 0)"),
-    "`*` adds": (NAT, "_*_", "($0 + $1)"),
-    "`/` rounds up": (NAT, "_/_", "-(-$0 // $1)"),
-    "`%` divides": (NAT, "_%_", "over($0, $1)"),
-    "`^` multiplies": (NAT, "_^_", "($0 * $1)"),
+    "`+` subtracts": (NAT, "◌+◌", "max($0 - $1, 0)"),
+    "`-` takes the first from the second": (NAT, "◌-◌", "max($1 - $0, 0)"),
+    "`*` adds": (NAT, "◌*◌", "($0 + $1)"),
+    "`/` rounds up": (NAT, "◌/◌", "-(-$0 // $1)"),
+    "`%` divides": (NAT, "◌%◌", "over($0, $1)"),
+    "`^` multiplies": (NAT, "◌^◌", "($0 * $1)"),
     "`suc` does nothing": (NAT, "suc", "$0"),
     "`not` does nothing": (BOOL, "not", "$0"),
-    "`&&` is `||`": (BOOL, "_&&_", "||"),
-    "`||` is `&&`": (BOOL, "_||_", "&&"),
+    "`&&` is `||`": (BOOL, "◌&&◌", "||"),
+    "`||` is `&&`": (BOOL, "◌||◌", "&&"),
     "`cond` takes the other arm": (BOOL, "cond", "($2 if $0 else $1)"),
-    "`Bool·beq` is false": (BOOL, "Bool·beq", "($0 != $0 and $1)"),
-    "`++` in the other order": (LIST, "_++_", "force(listed(items($1), ~0))"),
+    "`beq` is false": (SAME, "beq", "($0 != $0 and $1)"),
+    "`++` in the other order": (LIST, "◌++◌", "force(listed(items($1), ~0))"),
     "`map` drops the last": (LIST, "map", "listed(items(mapped($0, $1))[:-1])"),
-    "`leb` is strict": (KIT["lib.Dec"], "leb", "($0 < $1)"),
-    "`ltb` is not strict": (KIT["lib.Dec"], "ltb", "($0 <= $1)"),
-    "`eqb` is true": (KIT["lib.Dec"], "eqb", "($0 == $0 or $1)"),
+    "`leb` is strict": (DEC, "leb", "($0 < $1)"),
+    "`ltb` is not strict": (DEC, "ltb", "($0 <= $1)"),
+    "`eqb` is true": (DEC, "eqb", "($0 == $0 or $1)"),
     "`length` is one more": (LISTS, "length", "(len(items($0)) + 1)"),
-    "`getD` gives the next": (LISTS, "getD", "get($0, $1 + 1, ~2)"),
+    "`get_or` gives the next": (LISTS, "get_or", "get($0, $1 + 1, ~2)"),
     "`take` takes one more": (LISTS, "take", "listed(items($1, $0 + 1))"),
     "`drop` drops one more": (LISTS, "drop", "drop($0 + 1, $1)"),
     "`replicate` makes one more": (LISTS, "replicate", "listed([~1] * ($0 + 1))"),
-    "`∷` groups to the left": (FIXITY, "_∷_", ("l", 67)),
-    "`*` binds weaker than `+`": (FIXITY, "_*_", ("l", 60)),
-    "an equation is not evaluated": (KIT["mathlib.Core.Path"], "_≡_", "(True or $0 or $1)"),
-    "of two propositions one is evaluated": (BUILT_IN, "_×_", "($0 or $1)"),
+    "`∷` groups to the left": (FIXITY, "◌∷◌", ("l", 67)),
+    "`*` binds weaker than `+`": (FIXITY, "◌*◌", ("l", 60)),
+    "an equation is not evaluated": (PATH, "◌≡◌", "(True or $0 or $1)"),
+    "of two propositions one is evaluated": (BUILT_IN, "◌×◌", "($0 or $1)"),
     "all values are equal": (globals(), "plain", lambda v: None),
 }
 
@@ -672,9 +695,9 @@ class Table:
     def stated(self, e):
         """The number of equations that a proposition states, those of a definition that it names included."""
         head, args = (e.a, e.b) if e.kind == "app" else (e, [])
-        if head.a == "_×_":
+        if head.a == "◌×◌":
             return sum(map(self.stated, args))
-        return 1 if head.a == "_≡_" else self.stated(self.file.clauses[head.a][0][2])
+        return 1 if head.a == "◌≡◌" else self.stated(self.file.clauses[head.a][0][2])
 
     def false_rows(self):
         """The rows that are not equations of equal values, each with the reason."""

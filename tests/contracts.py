@@ -22,7 +22,7 @@ most = 6  # callers of one module that are named
 
 def asks(function):
     """What it requires, as a reader would write it."""
-    plain = [re.sub(r"\(now (\w+)\)", r"\1", clause.strip("⌜⌝ ")) for clause in function.all_of("requires")]
+    plain = [re.sub(r"\b(\w+)\.(?:now|old)\b", r"\1", clause) for clause in function.all_of("requires")]
     return "; ".join(f"`{clause}`" for clause in plain)
 
 

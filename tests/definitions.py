@@ -21,25 +21,25 @@ NAMES = {1: "Io", 2: "Device", 3: "FirmwareTooLarge", 4: "CrcMismatch", 5: "BadI
 
 # The operations by their codes in tests/oracle: in words, the definition, and its arguments from the line's bytes.
 STARTS = {
-    1: (lambda a: f"select of {a[0]} bits of {a[1:].hex()}", "startSelect", lambda a: (listed(a[1:]), a[0])),
-    2: (lambda a: "deselect", "startDeselect", lambda a: ()),
-    3: (lambda a: "attach", "startAttach", lambda a: (("none",),)),
-    4: (lambda a: f"attach under {a.hex() or 'the empty prefix'}", "startAttach", lambda a: (("some", listed(a)),)),
-    5: (lambda a: f"discover under {a.hex() or 'the empty prefix'}", "startDiscover", lambda a: (listed(a),)),
-    6: (lambda a: "info", "startInfo", lambda a: ()),
-    7: (lambda a: "erase", "startErase", lambda a: ()),
-    8: (lambda a: f"flash of {len(a)} bytes", "startFlash", lambda a: (listed(a),)),
-    9: (lambda a: "reset", "startReset", lambda a: (a[0] == 1, a[1] == 1)),
-    10: (lambda a: "set_baud", "startSetBaud", lambda a: (a[2], a[0] == 1, a[1] == 1)),
+    1: (lambda a: f"select of {a[0]} bits of {a[1:].hex()}", "start_select", lambda a: (listed(a[1:]), a[0])),
+    2: (lambda a: "deselect", "start_deselect", lambda a: ()),
+    3: (lambda a: "attach", "start_attach", lambda a: (("none",),)),
+    4: (lambda a: f"attach under {a.hex() or 'the empty prefix'}", "start_attach", lambda a: (("some", listed(a)),)),
+    5: (lambda a: f"discover under {a.hex() or 'the empty prefix'}", "start_discover", lambda a: (listed(a),)),
+    6: (lambda a: "info", "start_info", lambda a: ()),
+    7: (lambda a: "erase", "start_erase", lambda a: ()),
+    8: (lambda a: f"flash of {len(a)} bytes", "start_flash", lambda a: (listed(a),)),
+    9: (lambda a: "reset", "start_reset", lambda a: (a[0] == 1, a[1] == 1)),
+    10: (lambda a: "set_baud", "start_set_baud", lambda a: (a[2], a[0] == 1, a[1] == 1)),
 }
 
 # The branches that no call can take, and why.
-LEFT = "a client does not wait for the answer to a request that is left: `handedOut` goes on at once"
+LEFT = "a client does not wait for the answer to a request that is left: `handed_out` goes on at once"
 UNREACHED = {
     "Client.cleared (leave d) id": LEFT,
     "Client.reading (leave d) image bytes": LEFT,
     "Client.place (leave d) bytes": LEFT,
-    "Count.test n || someBelow n test: only the second holds":
+    "Count.test n || some_below n test: only the second holds":
         "an id alone under a prefix of its bits is alone under each longer one, which is tried first",
 }
 
@@ -86,7 +86,7 @@ class Player:
         if record[:len(self.kept)] != self.kept:
             raise AssertionError("a record that does not begin with the rest")
         bytes_ = listed(list(record))
-        told = self.call("record′", self.client, self.image, bytes_)
+        told = self.call("record'", self.client, self.image, bytes_)
         self.kept = bytes(plain(self.paper["Answers.rest"](bytes_, told["rest"])))
         self.told(told)
 
@@ -129,7 +129,7 @@ class Player:
             if line[0] == 0:
                 self.record(line[1:])
             else:
-                told = self.call("linkFailed", self.client)
+                told = self.call("link_failed", self.client)
                 self.kept = self.kept[force(told["rest"]):]
                 self.told(told)
         more = []
@@ -217,11 +217,11 @@ def of_the_rust(paper):
         if kind == "read":
             yield f"text {k}: reading {f'`{bytes(bytes_).decode()}`' if bytes_ else 'the empty text'}"
             wanted = ("none",) if answer == "-" else ("some", list(bytes.fromhex(answer[1:])))
-            yield "the id", plain(paper["Text.parseUid"](listed(bytes_))), wanted
+            yield "the id", plain(paper["Text.parse_uid"](listed(bytes_))), wanted
         else:
             yield f"text {k}: writing {given[1:] or 'the empty id'}"
             wanted = list(bytes.fromhex(answer))
-            yield "the text", plain(paper["Text.uidHex"](listed(bytes_), len(wanted))), ("Text.wrote", wanted)
+            yield "the text", plain(paper["Text.uid_hex"](listed(bytes_), len(wanted))), ("Text.wrote", wanted)
 
 
 def of_logs(paper):
@@ -263,28 +263,28 @@ def of_the_paper(paper):
 
     seven, long = listed([7] * 11), listed([0] * 17)
     idle = call("fresh")
-    ready = force(call("startFlash", idle, listed([1] * 5))["client"])
+    ready = force(call("start_flash", idle, listed([1] * 5))["client"])
     waiting = force(call("request", ready, listed([1] * 5), listed([0] * 12))["client"])
     six, five = listed([1] * 6), listed([1] * 5)
     yield unchanged("a start while an operation runs", ready, [
-        call("startInfo", ready), call("startDiscover", ready, long)], 21)
-    yield unchanged("a start while an operation runs (a request is out)", waiting, [call("startDeselect", waiting)], 21)
+        call("start_info", ready), call("start_discover", ready, long)], 21)
+    yield unchanged("a start while an operation runs (a request is out)", waiting, [call("start_deselect", waiting)], 21)
     yield unchanged("asking with none running", idle, [call("request", idle, NIL, seven)], 21)
     yield unchanged("asking .. with a request unanswered", waiting, [call("request", waiting, six, seven)], 21)
     yield unchanged("a record or link failure with no request out", idle, [
-        call("record′", idle, NIL, six), call("linkFailed", idle)], 21)
+        call("record'", idle, NIL, six), call("link_failed", idle)], 21)
     yield unchanged("a record or link failure with no request out (one is ready)", ready, [
-        call("record′", ready, six, six), call("linkFailed", ready)], 21)
+        call("record'", ready, six, six), call("link_failed", ready)], 21)
     yield unchanged("image length differs from the one at the start", ready, [call("request", ready, six, seven)], 20)
     yield unchanged("image length differs from the one at the start (a record)", waiting, [
-        call("record′", waiting, six, six)], 20)
+        call("record'", waiting, six, six)], 20)
     yield unchanged("request or text buffer too short", ready, [call("request", ready, five, seven)], 16, [12])
-    yield unchanged("a count over 128 .. is 13", idle, [call("startSelect", idle, listed([0] * 16), 129)], 13)
+    yield unchanged("a count over 128 .. is 13", idle, [call("start_select", idle, listed([0] * 16), 129)], 13)
     yield unchanged("a count .. over 8 times the bytes given is 13", idle, [
-        call("startSelect", idle, listed([0]), 9)], 13)
+        call("start_select", idle, listed([0]), 9)], 13)
     yield unchanged("prefix or id given over 16 bytes", idle, [
-        call("startSelect", idle, long, 1), call("startAttach", idle, ("some", long)),
-        call("startDiscover", idle, long)], 13)
+        call("start_select", idle, long, 1), call("start_attach", idle, ("some", long)),
+        call("start_discover", idle, long)], 13)
     yield ends("An id over 16 bytes gives refusal 14", b"\x01\x00", [ok(SELECT, bytes(17))], 14)
     deselected = Player(paper).play(["02", "00" + ok(SELECT, bytes(17)).hex()])
     yield equal("except in a deselect, whose record is ignored",
@@ -307,23 +307,23 @@ def of_the_paper(paper):
 
     yield equal("No A5, or fewer than 10 bytes from it: short. Then a length over 1,024: too long. Then bytes missing: "
                 "short", *((read(data), ("Frame.short",)) for data in short),
-                (read(checked[:8] + b"\x01\x04"), ("Frame.tooLong",)))
+                (read(checked[:8] + b"\x01\x04"), ("Frame.too_long",)))
     yield equal("A wrong check: bad check, fields still read. Else whole",
                 (read(b"\0\0" + checked + b"\0"), ("Frame.whole", 2, fields)),
-                (read(checked[:-1] + b"\0"), ("Frame.badCheck", 0, fields)))
+                (read(checked[:-1] + b"\0"), ("Frame.bad_check", 0, fields)))
     old = frame(1, 2, b"abc", flags=3, address=0x87654321, check_of=check)
     yield equal("the check covers bytes 1 up to the end of the payload",
-                (of("Frame.frameBytes", {**fields, "payload": listed(fields["payload"])}), list(checked)),
-                (read(old), ("Frame.badCheck", 0, fields)))
+                (of("Frame.frame_bytes", {**fields, "payload": listed(fields["payload"])}), list(checked)),
+                (read(old), ("Frame.bad_check", 0, fields)))
     ids = [[1, 0], [1], [], [0, 2], [1, 0, 0]]
     yield equal("sort by bytes, a shorter id before one that it begins",
                 (of("Walk.sort", listed([listed(i) for i in ids])), sorted(ids)))
     yield equal("Writing an id's text gives 13, then 16, with nothing written",
-                (of("Text.uidHex", long, 0), ("Text.refuses13",)),
-                (of("Text.uidHex", listed([0]), 1), ("Text.refuses16", 2)))
-    yield equal("The Rust also takes \"+f\"", (of("Text.parseUid", listed(list(b"+f"))), ("none",)))
+                (of("Text.uid_hex", long, 0), ("Text.refuses13",)),
+                (of("Text.uid_hex", listed([0]), 1), ("Text.refuses16", 2)))
+    yield equal("The Rust also takes \"+f\"", (of("Text.parse_uid", listed(list(b"+f"))), ("none",)))
     yield equal("answer (1 byte, 00 for success), count of those ids (1), Selects handed out (2, high first)",
-                *((bytes(of("Log.lastLine", 0, 3, k)), b"0003%04x\n" % k) for k in (255, 256, 33412)))
+                *((bytes(of("Log.last_line", 0, 3, k)), b"0003%04x\n" % k) for k in (255, 256, 33412)))
 
     def pods(size, ids):
         return of("Count.Pods", size, listed([listed(i) for i in ids]))
@@ -339,11 +339,11 @@ HEAD = """# What the examples take of the paper's definitions
 
 Written by `tests/definitions.py --table`, which runs the text of `crates/paper/specs` on the Rust's stored answers
 (`tests/oracle`) and on other examples: the stored logs (`tests/logs`), and cases beside sentences of documents 01 and
-02 where they go beyond the Rust. Each answer is compared. A branch is a clause, an arm of a choice (`cond`, `refuseIf`,
-`onSome`, `onReading`, `onLeft`, `unlessEcho`), or a way that `&&` or `||` comes out; it counts where its value is
+02 where they go beyond the Rust. Each answer is compared. A branch is a clause, an arm of a choice (`cond`, `refuse_if`,
+`on_some`, `on_reading`, `on_left`, `unless_echo`), or a way that `&&` or `||` comes out; it counts where its value is
 wanted, and once for an example.
 
-`sumUnder` is run as it stands to a depth of 9; above, its sum leaves out what extends a prefix that at most one id
+`sum_under` is run as it stands to a depth of 9; above, its sum leaves out what extends a prefix that at most one id
 matches, which adds 0.
 
 {} definitions with {} branches; {} answers of the Rust take {} of them, {} other examples the other {}, and no

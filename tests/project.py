@@ -44,9 +44,10 @@ def finish(faults, summary, evidence=True):
 # The crates and their code.
 
 def crates():
-    """The crates of crates.txt in its order, each with the names of those that it depends on."""
+    """The crates of crates.txt in its order, each with the names of those that it depends on. A line begins with the
+    crate's name, which the word `staticlib` may follow."""
     lines = [line for line in (root / "crates.txt").read_text().splitlines() if line and not line.startswith("#")]
-    return {name: uses.split() for name, uses in (line.split(":") for line in lines)}
+    return {name.split()[0]: uses.split() for name, uses in (line.split(":") for line in lines)}
 
 
 def code_files(crate="*"):
@@ -72,9 +73,12 @@ def place_of(path):
     return crate, module_of(path.relative_to(root / "crates" / crate))
 
 
+Clause = namedtuple("Clause", "word name text")  # `requires` or `ensures`; its name or ""; what it says, in one line
+
+
 class Function(namedtuple("Function", "crate module owner name public exported start clauses body")):
     """A function of the code: its module's path, the type whose method it is or "", whether it is `pub` and whether it
-    is exported to C, where it starts in its file, the clauses of its contract, each with its word, and its body."""
+    is exported to C, where it starts in its file, the clauses of its contract, and its body."""
 
     def path(self):
         """Its path in the crate: its module, its type and its name."""
@@ -84,8 +88,8 @@ class Function(namedtuple("Function", "crate module owner name public exported s
         return "::".join((self.crate, *self.path()))
 
     def all_of(self, word):
-        """The clauses that begin with `requires` or with `ensures`."""
-        return [clause for first, clause in self.clauses if first == word]
+        """What the clauses say that begin with `requires` or with `ensures`."""
+        return [clause.text for clause in self.clauses if clause.word == word]
 
 
 def functions_in(text, crate, module):
@@ -102,17 +106,17 @@ def functions_in(text, crate, module):
 
 
 def contract_and_body(text):
-    """The clauses of a function's contract, each with its word and in one line; and its body."""
+    """The clauses of a function's contract, and its body."""
     clauses, at = [], 0
     while True:
-        opens = re.compile(r"(?:\b(requires|ensures) )?\{").search(text, at)
+        opens = re.compile(r"(?:\b(requires|ensures) (?:(\w+) )?)?\{").search(text, at)
         if not opens[1]:
             return tuple(clauses), text[opens.end():]
         at, depth = opens.end(), 1
         while depth:
             depth += (text[at] == "{") - (text[at] == "}")
             at += 1
-        clauses.append((opens[1], " ".join(text[opens.end():at - 1].split())))
+        clauses.append(Clause(opens[1], opens[2] or "", " ".join(text[opens.end():at - 1].split())))
 
 
 def functions():
