@@ -8,9 +8,12 @@ its proof, any other one. Sections are compared by their words, so comments and 
 In proofs/ a record, a data type, a ruleset, an `abbrev`, an `unfoldable` and what gives a Type is a definition; but a
 record of acceptance is a statement. What stands in `module _ (..) where` is a declaration, and the telescope is a part
 of its statement; what stands in a `where` of a clause is a part of that clause. `pub`, `abbrev` and `unfoldable` are
-parts of their own. A function's proof only names the contract, which therefore is a part of its statement.
+parts of their own. A function's proof only names the contract, which therefore is a part of its statement. Its files
+are proofs/F/Answers.antt and Invariants.antt; commits of an older kit have one, proofs/F/Proof.antt, and `_` in the
+names of operators where `◌` stands now.
 """
 import itertools
+import pathlib
 import re
 from collections import Counter, namedtuple
 
@@ -18,6 +21,7 @@ import project
 from project import Faults
 
 PROMISED, FLAGS = ("acceptance", "theory"), ("pub", "abbrev", "unfoldable")
+PROOFS = ("Answers", "Invariants", "Proof")  # the files of a function's proof
 Section = namedtuple("Section", "row lines words")  # the words by what they are of, so that it can be said what changed
 Part = namedtuple("Part", "kind crate file name count sections")  # the count tells equal names of a file apart
 
@@ -48,6 +52,12 @@ def end_of_body(code, at):
     raise Faults(f"a function has no end: {code[at:at + 60]}")
 
 
+def clauses_of(function, word):
+    """The words of the clauses of a contract that begin with a word; the name of a clause that has one comes first."""
+    named = [(clause.name, antt_words(clause.text)) for clause in function.clauses if clause.word == word]
+    return [[f"{name}:", *words] if name else words for name, words in named]
+
+
 def code_declarations(path, text, others):
     """The functions, types and constants of a code file. Adds the lines that are in none to the others."""
     code, spans = re.sub(r"[ \t]*//.*", "", text), []
@@ -56,8 +66,8 @@ def code_declarations(path, text, others):
         start = marks.start() if marks else function.start
         body = len(code) - len(project.contract_and_body(code[function.start:])[1])
         end, head = end_of_body(code, body), code[start:body - 1]
-        signature = re.split(r"\b(?:requires|ensures) \{", head)[0]
-        clauses = {word: [antt_words(clause) for clause in function.all_of(word)] for word in ("requires", "ensures")}
+        signature = re.split(r"\b(?:requires|ensures) (?:\w+ )?\{", head)[0]
+        clauses = {word: clauses_of(function, word) for word in ("requires", "ensures")}
         spans.append((start, end + 1))
         yield "function", "::".join(filter(None, (function.owner, function.name))), (
             Section("contract", lines_of(head), {"signature": code_words(signature), **clauses}),
@@ -146,7 +156,7 @@ class Antt:
         """The declaration of a clause: the latest whose name is its first word, or an operator on its left side and
         outside of brackets."""
         left = itertools.takewhile(lambda word: word != "=", outside(words))
-        names = {words[0], *(f"_{word}_" for word in left)}
+        names = {words[0], *(f"{place}{word}{place}" for word in left for place in "_◌")}
         for declaration in reversed(self.found):
             if declaration.name in names:
                 return declaration
@@ -178,15 +188,22 @@ def declarations_of(path, text):
 
 # A function's contract and its proof.
 
-def proof_of(function):
-    """The file of a function's proof."""
+def is_of_function(file):
+    """Whether a file is one of a function's proof, by its path."""
+    path = pathlib.PurePath(file)
+    return path.stem in PROOFS and path.suffix == ".antt" and "proofs" in path.parts[2:-2]
+
+
+def proofs_of(function):
+    """The files of a function's proof that may be there."""
     module = project.module_of(function.file.split("/", 2)[2])
-    return "/".join(("crates", function.crate, "proofs", *module, *function.name.split("::"), "Proof.antt"))
+    folder = "/".join(("crates", function.crate, "proofs", *module, *function.name.split("::")))
+    return [f"{folder}/{name}.antt" for name in PROOFS]
 
 
 def with_contracts(parts):
-    """The declarations of a tree, where the public one of a function's proof has the contract in its statement."""
-    contracts = {proof_of(part): part.sections[0].words for part in parts if part.kind == "function"}
+    """The declarations of a tree, where the public ones of a function's proof have the contract in their statements."""
+    contracts = {file: part.sections[0].words for part in parts if part.kind == "function" for file in proofs_of(part)}
     for part in parts:
         if part.file in contracts and part.kind == "theorem" and part.sections[0].words["pub"]:
             statement, proof = part.sections

@@ -1,9 +1,8 @@
 """What a change cost: two commits compared declaration by declaration, and the notes of docs/landings.
 
 python3 tests/moved.py A B                prints the comparison of two commits
-python3 tests/moved.py A B --write NAME   writes it to docs/landings/NAME.md, with the seconds of `rt prove` from
-                                          nothing on both commits, one after the other. Text outside of the two marks
-                                          stays
+python3 tests/moved.py A B --write NAME   writes it to docs/landings/NAME.md, with the seconds of `rt ci --anew` on
+                                          both commits, one after the other. Text outside of the two marks stays
 python3 tests/moved.py --write            writes the comparison of every note anew; the seconds stay
 python3 tests/moved.py --compare          compares instead, and names each note that has a `?` left to be written
 python3 tests/moved.py --selftest         compares the made-up trees of tests/moved/trees: what is then said must be
@@ -23,9 +22,8 @@ import textwrap
 import time
 from collections import Counter, defaultdict, namedtuple
 
-import crates
 import project
-from declarations import declarations_of, with_contracts
+from declarations import declarations_of, is_of_function, with_contracts
 from project import Faults, root
 
 landings, trees = root / "docs/landings", root / "tests/moved/trees"
@@ -53,14 +51,14 @@ Change = namedtuple("Change", "row state before after what plus minus")
 # What has changed between two trees, which are texts by their paths.
 
 def home(part):
-    """The file's name; of a function's proof, whose file is named like all others, with the function's."""
+    """The file's name; of a function's proof, whose files are named like all others, with the function's."""
     path = pathlib.PurePath(part.file)
-    return f"{path.parent.name}/Proof" if path.stem == "Proof" else path.stem
+    return f"{path.parent.name}/{path.stem}" if is_of_function(part.file) else path.stem
 
 
 def by_name(part):
     """A function's proof has names that other functions' proofs have too."""
-    return None if home(part).endswith("/Proof") else (part.kind, part.crate, part.name)
+    return None if is_of_function(part.file) else (part.kind, part.crate, part.name)
 
 
 def by_words(part, without=()):
@@ -247,28 +245,27 @@ def compared(before, after):
 
 
 def seconds_of(commit):
-    """Of `rt prove` on a commit from nothing: the seconds by the clock, those of its crates, and how many they are."""
+    """Of `rt ci --anew` on a commit: the seconds by the clock, and how many crates it proved."""
     with tempfile.TemporaryDirectory() as folder:
         subprocess.run(["tar", "-x", "-C", folder], input=git("archive", commit), check=True)
-        names = re.findall(r"(?m)^(\w+):", (pathlib.Path(folder) / "crates.txt").read_text())
+        names = re.findall(r"(?m)^(\w+)[\w ]*:", (pathlib.Path(folder) / "crates.txt").read_text())
         begun = time.monotonic()
-        done = subprocess.run(["rt", "prove"], cwd=folder, text=True, stdout=subprocess.PIPE, stderr=subprocess.STDOUT)
+        command = ["rt", "ci", "--anew"]
+        done = subprocess.run(command, cwd=folder, text=True, stdout=subprocess.PIPE, stderr=subprocess.STDOUT)
         clock = round(time.monotonic() - begun)
-    seconds = crates.seconds_in(done.stdout)
-    if done.returncode or sorted(seconds) != sorted(names):
-        raise Faults(*done.stdout.splitlines()[-20:], f"rt prove on {commit[:12]}: exit status {done.returncode}, "
-                     f"{len(seconds)} of {len(names)} crates proved")
-    return clock, sum(seconds.values()), len(names)
+    proved = re.findall(r"(?m)^rt: (\w+) proved$", done.stdout)
+    if done.returncode or sorted(proved) != sorted(names):
+        raise Faults(*done.stdout.splitlines()[-20:], f"rt ci --anew on {commit[:12]}: exit status {done.returncode}, "
+                     f"{len(proved)} of {len(names)} crates proved")
+    return clock, len(names)
 
 
 def measured(before, after):
     """The seconds of two commits as they stand in a note."""
     of, kit = [seconds_of(before), seconds_of(after)], subprocess.check_output(["rt", "version"], text=True).strip()
-    titles = "seconds of `rt prove` from nothing", "seconds of its crates, added up", "crates"
-    jobs = os.environ.get("RT_JOBS") or min(os.cpu_count(), 4)
+    titles = "seconds of `rt ci --anew`", "crates"
     return (f"{TIME}\n{cells('', 'before', 'after')}|---|---:|---:|\n" + "".join(map(cells, titles, *of)) + "\n"
-            + wrapped(f"With `{kit}` on one machine with {os.cpu_count()} processors, up to {jobs} crates at a time; "
-                      "one commit after the other."))
+            + wrapped(f"With `{kit}` on one machine with {os.cpu_count()} processors; one commit after the other."))
 
 
 # The notes.
