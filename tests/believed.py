@@ -19,8 +19,8 @@ document, readme = root / "docs/BELIEVED.md", root / "README.md"
 totals = re.compile(r"[\d,]+ definitions,\s[\d,]+\slines\sof\s[\d,]+\sfiles")
 OPEN, CLOSE = ("(", "{"), (")", "}")
 WORDS = {"→", "=", ":", ";", ",", "record", "in", "Type", "_", "."}
-BUILT_IN = {"tt", "Unit", "Empty", "¬", "⊥", "_×_"}
-CONSTRUCTORS = {"zero", "suc", "true", "false", "[]", "_∷_", "none", "some", "refl"}  # the kit's
+BUILT_IN = {"tt", "Unit", "Empty", "¬", "⊥", "◌×◌"}
+CONSTRUCTORS = {"zero", "suc", "true", "false", "[]", "◌∷◌", "none", "some", "refl"}  # the kit's
 Token = namedtuple("Token", "text line")
 Kit = namedtuple("Kit", "module name")
 
@@ -159,8 +159,8 @@ class File:
         left, depth, name = words[:equals], 0, words[0].text
         for t in left:
             depth += (t.text in OPEN) - (t.text in CLOSE)
-            if depth == 0 and f"_{t.text}_" in self.known:
-                name = f"_{t.text}_"
+            if depth == 0 and f"◌{t.text}◌" in self.known:
+                name = f"◌{t.text}◌"
         if name not in self.known:
             wrong(self.path, words[0].line, f"a clause of {name}, which has no type")
         self.known[name].lines.update(lines)
@@ -198,14 +198,14 @@ def file(path):
 
 def meaning(module, name):
     """The definition that a name of a module is."""
-    m = re.fullmatch(r"Rattle·(\w+?)(?:·specs|·proofs)?\.(specs|proofs)\.(.*)", module)
-    if not m:
+    m = re.fullmatch(r"Rattle\.(\w+)\.(specs|proofs)\.(.*)", module)
+    if not m or m[1] not in project.crates():
         return Kit(module, name)
     crate, folder, rest = m.groups()
     steps = rest.split(".")
     if steps[0] == "declared":
-        return of_code((crate, *(step for step in steps[1:] if step != "the-variants")))
-    if folder == "proofs" and is_function(crate, tuple(steps)):
+        return of_code((crate, *(step for step in steps[1:] if step != "TheVariants")))
+    if (folder, steps[0]) == ("specs", "contracts") and is_function(crate, tuple(steps[1:])):
         return Kit(module, name)  # a function's contract, as the checker makes it of the code
     path = root.joinpath("crates", crate, folder, *steps[:-1], f"{steps[-1]}.antt")
     return file(path).known.get(name) if path.exists() else None
@@ -232,7 +232,7 @@ class Names:
 
     def resolve(self, word):
         f = self.file
-        for name in (word, f"_{word}_"):
+        for name in (word, f"◌{word}◌"):
             if name in f.known:
                 return f.known[name]
             if name in f.imports:
@@ -246,7 +246,7 @@ class Names:
 
     def is_constructor(self, word, means):
         if isinstance(means, Kit):
-            return word in CONSTRUCTORS or f"_{word}_" in CONSTRUCTORS or not means.module
+            return word in CONSTRUCTORS or f"◌{word}◌" in CONSTRUCTORS or not means.module
         own = word.split(".")[-1]
         return isinstance(means, Declared) or getattr(means, "kind", "") == "data" and own != means.name
 
@@ -279,7 +279,7 @@ class Names:
                 i += t == "let"
                 bound.add(words[i].text)
             elif t == "do":
-                self.found.update(d for d in map(self.resolve, ("_>>=_", "_>>_")) if d is not None)
+                self.found.update(d for d in map(self.resolve, ("◌>>=◌", "◌>>◌")) if d is not None)
             elif t not in WORDS and t != "←" and not re.match(r"[0-9]|\.\S", t):
                 self.name(words[i], bound)
             i += 1
@@ -299,12 +299,19 @@ class Names:
         self.expression(right[:where], bound)
 
     def name(self, word, bound):
-        if word.text in bound:
+        """A name, with the fields after it that are taken of it."""
+        text = self.without_fields(word.text)
+        if text in bound:
             return
-        means = self.resolve(word.text)
+        means = self.resolve(text)
         if means is None:
-            wrong(self.file.path, word.line, f"{word.text} means nothing here")
+            wrong(self.file.path, word.line, f"{text} means nothing here")
         self.found.add(means)
+
+    def without_fields(self, word):
+        """A word up to its first dot, or up to its second if it begins with the alias of a module."""
+        first, *others = re.split(r"(?<=[^.])\.(?=[^.])", word)
+        return f"{first}.{others[0]}" if others and first in self.file.aliases else first
 
     def group(self, words, bound, braces, record):
         colon, equals = self.file.level(words, ":"), self.file.level(words, "=")
@@ -357,7 +364,7 @@ def named(d, clauses):
         if d.kind == "record":
             whole.update(t.text for t in m[:colon])
     for left, right in d.clauses if clauses else []:
-        own = {d.name, d.name.strip("_")}
+        own = {d.name, d.name.strip("◌")}
         names.clause([t for t in left if t.text not in own], right, set(bound))
     return names.found - {d}
 
@@ -382,8 +389,8 @@ def cited():
     names = set()
     for path in project.code_files():
         text = path.read_text()
-        for module, some, alias in re.findall(r"(?m)^ghost use (Rattle·[^\s{}]+?)(?:\.\{(.*)\}| as (\S+));", text):
-            own = re.findall(rf"(?<![\w.·]){re.escape(alias)}\.([^\s(){{}},;]+)", text) if alias else some.split(", ")
+        for module, some, alias in re.findall(r"(?m)^ghost use (Rattle\.[^\s{}]+?)(?:\.\{(.*)\}| as (\S+));", text):
+            own = re.findall(rf"(?<![\w.]){re.escape(alias)}\.([^\s(){{}},;.]+)", text) if alias else some.split(", ")
             names.update(filter(None, (meaning(module, name) for name in own)))
     return names | set(needed(names, True))
 
