@@ -57,7 +57,7 @@ def groups():
         elif ":" in line and not out:
             sys.exit(f"crates.txt: {line.split(':')[0]} stands under no comment, so it has no family")
         elif ":" in line:
-            out[-1].append(line.split(":")[0])
+            out[-1].append(line.split(":")[0].split()[0])
     return [group for group in out if group]
 
 
@@ -88,8 +88,9 @@ def source(crate):
 def uses(crate, crates):
     """The crates that a crate's code, definitions and proofs import."""
     folder = root / "crates" / crate
-    texts = [code(path) for suffix in ("rt", "antt") for path in sorted(folder.rglob(f"*.{suffix}"))]
-    named = set(re.findall(r"Rattle·(\w+)\.", "\n".join(texts))) | set(re.findall(r"(?<![\w:])(\w+)::", source(crate)))
+    texts = [code(path) for part in ("src/**/*.rt", "specs/**/*.antt", "proofs/**/*.antt")
+             for path in sorted(folder.glob(part))]
+    named = set(re.findall(r"Rattle\.(\w+)\.", "\n".join(texts))) | set(re.findall(r"(?<![\w:])(\w+)::", source(crate)))
     return {c for c in named if c in crates and c != crate}
 
 
