@@ -1,25 +1,52 @@
-"""Each wrong version was refused because a fact no longer holds, and not because a proof file no longer fits the code.
+"""Each wrong version is refused because a fact no longer holds, and not because a proof file no longer fits the code.
 
-python3 tests/edits.py            the verdict, from the logs that `rt ci` leaves in target/must-fail
-python3 tests/edits.py --long     the verdict on the rounds of the long tests alone, from the logs that `bash tests/long
-                                  edits` leaves in target/must-fail-long; each is held to its row of the table
-python3 tests/edits.py --table    writes the table, docs/WRONG-VERSIONS.md
+python3 tests/edits.py                  the gate's test. It reads what `rt ci` printed, in target/rt_ci.log
+python3 tests/edits.py --try [--long]   tries each round, or each of the long tests', that has no log of the sources as
+                                        they stand; each must be refused. The logs are kept in target/wrong-versions
+python3 tests/edits.py --try ROUND ..   tries these anew, each named as CRATE/ROUND
+python3 tests/edits.py --table          does as --try, judges every wrong version from its log, and writes the table,
+                                        docs/WRONG-VERSIONS.md. It is run before a landing
+python3 tests/edits.py --long           judges the rounds of the long tests from their logs; each wrong version is held
+                                        to its row of the table
+python3 tests/edits.py --selftest       judges the made-up logs of tests/judged
 
 A file crates/NAME/must-fail/ROUND.edit is a round: one or more wrong versions, each under a line `wrong: LABEL` with
 the rule that it breaks. They are tried at once and judged apart: no two of a round are in one function (or one
 theorem), and each must be refused by an error on a fact in that function's own proof. Of a table of theorems each field
 is one theorem. A premise of several theorems is tried with no other in its file. A wrong version of a definition, on
-which many proofs rest, is alone in its round.
+which many proofs rest, is alone in its round. The rounds in crates/NAME/must-fail-long are not in the gate.
 
-The rounds in crates/NAME/must-fail-long are not tried by `rt ci`. Where they have no logs, they are counted apart: each
-text must still stand once in its file, and the table must have a row for it.
+What is checked when:
+
+in each gate      `rt ci` tries each round of must-fail as a whole, and must refuse it, not only by a limit of the
+                  prover. This script finds that in what `rt ci` printed. Of each round, long ones too: each old text
+                  stands once in its file, each wrong version is in one place and has a rule, and the table has a row
+                  for it. Where there is a log of the sources as they stand, each wrong version of it is judged too
+before a landing  --table: each wrong version of each round is refused at a fact of its own function
+the long tests    --try --long and --long: the same for the rounds of must-fail-long, and that the table has these
+                  facts
+
+A try is `rt check` in a copy of the crates outside of the checkout, with the edits of one round; a check is stopped
+after a quarter of an hour. A goal is named after the code around it: where a wrong version has changed the name, the
+function's answer to it takes the new name in the copy, and the crate is checked again. A wrong version that is then
+not refused at a fact is tried once more without the others of its round. The first line of a log names what it was
+of: the round, the code, definitions and proofs of the crate and of those below it, and the kit. A log of anything
+else counts as none.
 """
+import functools
+import hashlib
+import pathlib
 import re
+import subprocess
+import tempfile
 
 import project
 from project import Faults, root
 
 document = root / "docs/WRONG-VERSIONS.md"
+printed = root / "target/rt_ci.log"
+logs = root / "target/wrong-versions"
+made_up = root / "tests/judged"
 head = """# Wrong versions
 
 The wrong versions of the code, the definitions and the theorems that were tried one by one: in which function or
@@ -27,13 +54,17 @@ theorem each is, which rule of the right version it breaks, and the fact at whic
 docs/LONG-RUNS.md says which are tried when, and has those that change code and contract together.
 `python3 tests/edits.py --table` writes this file from the logs of a check.
 """
+PROOFS = ("Answers", "Invariants")  # the files of a function's proof
 unfit = re.compile(
-    r"has no `Need-|has no `Tie`|expected type `tie\.Need-|is not in scope|is not a constructor|cannot be parsed|syntax"
-    r"|give the call less to do|replace that `_` with the term"
+    r"has no `|has no field|is not in scope|is no name|is not a constructor|cannot be parsed|syntax|operand is missing"
+    r"|expected the end|cannot continue|give the call less to do|replace that `_` with the term"
 )
 other_shape = re.compile(r"computed as far as they go, the two types are")  # in a function's proof: of another loop
 follows = re.compile(r"was not admitted")
-error = r"(?m)^\S*/must-fail/{}/{}/((?:src|specs|proofs)/\S+?):(\d+):\d+: error: (.*)$"
+error = re.compile(r"(?m)^(?:\./)?((?:src|specs|proofs)/\S+?):(\d+):\d+: error: (.*)$")
+refused = re.compile(r"(?m)^logic=not-proved")
+again = "\n======== again, with answers to the goals by their names now\n"
+alone = "\n======== alone: {}\n"
 
 
 class Wrong:
@@ -65,26 +96,24 @@ class Wrong:
                 places.add(enclosing(text, text.index(old), self.crate, file))
             texts[file] = text.replace(old, new)
         self.place = places.pop()
-        if places or not texts.keys() <= {self.file, self.proof()}:
+        if places or not texts.keys() <= {self.file, *self.proofs()}:
             self.faults.append("its edits are in several functions, theorems or files")
 
-    def proof(self):
-        """The file of its function's proof."""
-        return f"proofs/{'/'.join(self.place or ())}/Proof.antt"
+    def proofs(self):
+        """The files of its function's proof."""
+        return [f"proofs/{'/'.join(self.place or ())}/{name}.antt" for name in PROOFS]
 
     def judge(self, log):
         """Finds the fact at which it was refused; None if there is none."""
-        errors = re.findall(error.format(self.crate, self.round), log)
-        errors = [e for e in errors if not follows.search(e[2])]
+        errors = [e for e in error.findall(log) if not follows.search(e[2])]
         if self.place is None:
             own = errors[:1]
         elif self.file.startswith("proofs/"):
             own = [e for e in errors if e[0] == self.file and self.is_of_it(e)]
         else:
-            own = [e for e in errors if e[0] == self.proof()]
-            made = rf"(?m)^fn {self.crate}::{self.place_name()}: no proof: .*`search` does not close (`[^`]*`)"
-            if not own and (closes := re.search(made, log)):
-                self.fact = closes[1]
+            own = [e for e in errors if e[0] in self.proofs()]
+            if not own:
+                self.fact = next(iter(open_goals(log, f"{self.crate}::{self.place_name()}")), None)
                 return
         if not own or unfit.search(own[0][2]) or (self.file.startswith("src/") and other_shape.search(own[0][2])):
             return
@@ -95,8 +124,23 @@ class Wrong:
         """Whether an error in a file of proofs is one of the theorem, or of that field of a table of theorems."""
         _, line, text = found
         theorem = self.place_name()
-        source = (root / "crates" / self.crate / self.file).read_text().split("\n")[int(line) - 1]
-        return theorem == "module" or source.strip().startswith(f"{theorem} = ") or text.startswith(f"`{theorem}`")
+        if theorem == "module" or text.startswith(f"`{theorem}`"):
+            return True
+        path = root / "crates" / self.crate / self.file
+        source = path.read_text().split("\n")[int(line) - 1] if path.exists() else ""
+        return source.strip().startswith(f"{theorem} = ")
+
+
+def open_goals(log, function):
+    """The goals of a function that `search` alone was to prove, and did not. The notes on them stand right before the
+    line on the function."""
+    lines = log.split("\n")
+    at = next((i for i, line in enumerate(lines) if re.match(rf"fn {function}: (?:not proved|no proof)", line)), 0)
+    goals = re.findall(r"`search` did not prove (`[^`]*`)", lines[at])
+    while at and re.match(r"note: src/|help: ", lines[at - 1]):
+        at -= 1
+        goals[:0] = re.findall(r"^note: src/\S+: it is not proved that .*?\((`[^`]*`)\)", lines[at])
+    return goals
 
 
 def enclosing(text, at, crate, file):
@@ -112,6 +156,151 @@ def enclosing(text, at, crate, file):
     before = [f for f in project.functions_in(text, crate, project.module_of(file)) if f.start <= at]
     return before[-1].path() if before else None
 
+
+# The tries, and their logs.
+
+def round_of(edit_file):
+    """A round's name: CRATE/ROUND."""
+    return f"{project.crate_of(edit_file)}/{edit_file.stem}"
+
+
+def is_long(edit_file):
+    return edit_file.parent.name != "must-fail"
+
+
+def log_file(edit_file):
+    return logs / f"{round_of(edit_file)}.log"
+
+
+@functools.lru_cache(maxsize=None)
+def kit():
+    return subprocess.check_output(["rt", "version"])
+
+
+@functools.lru_cache(maxsize=None)
+def sum_of(crate):
+    """A checksum of the kit, and of the code, definitions and proofs of a crate and of those below it."""
+    every, found = project.crates(), hashlib.sha256(kit())
+    for part in ("src", "specs", "proofs"):
+        for path in sorted((root / "crates" / crate / part).rglob("*.*")):
+            found.update(project.name_of(path).encode() + b"\n" + path.read_bytes())
+    for name in every[crate]:
+        found.update((sum_of(name) if name in every else name).encode())
+    return found.hexdigest()
+
+
+def what_of(edit_file):
+    """The first line of a round's log."""
+    text = edit_file.read_bytes() + sum_of(project.crate_of(edit_file)).encode()
+    return f"of {round_of(edit_file)}: {hashlib.sha256(text).hexdigest()}"
+
+
+def log_of(edit_file):
+    """What was printed at the try of a round, with the sources as they stand; None if there was no such try."""
+    path = log_file(edit_file)
+    first, _, log = path.read_text().partition("\n") if path.exists() else ("", "", "")
+    return log if first and first == what_of(edit_file) else None
+
+
+def tried(entries, crate):
+    """What the check prints of a crate in a copy, with the edits of some wrong versions; the copy stays as it was."""
+    before = {}
+    for entry in entries:
+        for file, old, new in entry.edits:
+            text = (crate / file).read_text() if (crate / file).exists() else ""
+            if text.count(old) != 1:
+                raise Faults(f"{crate.name}: {entry.label}: in {file} this does not stand once: {old}")
+            before.setdefault(file, text)
+            (crate / file).write_text(text.replace(old, new))
+    printed = project.check(crate)[1]
+    files = {file for file, _, _ in error.findall(printed) if pathlib.PurePath(file).name == "Answers.antt"}
+    texts = {file: (crate / file).read_text() for file in files}
+    followed = {file: renamed(text, stale_in(printed, file)) for file, text in texts.items()}
+    if followed != texts:
+        before = {**texts, **before}
+        for file, text in followed.items():
+            (crate / file).write_text(text)
+        printed = f"{printed}{again}{project.check(crate)[1]}"
+    for file, text in before.items():
+        (crate / file).write_text(text)
+    return printed
+
+
+def stale_in(printed, file):
+    """The answers of a function's proof whose goals are gone, each with the goals of its kind that are asked for
+    instead, the most similar first. These stand after the line on the function."""
+    names = re.findall(rf"(?m)^\./{re.escape(file)}:\d+:\d+: error: `([^`]*)`: .*has no `\1`", printed)
+    function = "::".join(pathlib.PurePath(file).parts[1:-1])
+    helps = re.search(rf"(?ms)^fn \w+::{function}: (.*?)(?=^fn |\Z)", printed)
+    lines = re.findall(r"(?m)^help: `Goals` has no `([^`]*)`; rattle asks for ([^;]*)", helps[1] if helps else "")
+    asked = {name: re.findall("`([^`]*)`", goals) for name, goals in lines}
+    return {name: [goal for goal in asked.get(name, ()) if goal.split("-")[0] == name.split("-")[0]] for name in names}
+
+
+def renamed(text, stale):
+    """A function's answers, each whose goal is gone under the name of the most similar one that has no answer."""
+    answered = set(re.findall(r"(?m)^(?:abbrev )?(?:pub )?(\S+) :", text))
+    for name, goals in stale.items():
+        goal = next((goal for goal in goals if goal not in answered), None)
+        if goal:
+            answered.add(goal)
+            text = re.sub(rf"(?<![\w-]){re.escape(name)}(?![\w-])", goal, text)
+    return text
+
+
+def try_round(edit_file, copy):
+    """The log of a round: what is printed of all its wrong versions at once; then of each that is not refused at a fact
+    there, as where the prover waits for the proof of a function that another one has broken."""
+    crate, entries = copy / "crates" / project.crate_of(edit_file), project.wrong_versions(edit_file)
+    log = f"{what_of(edit_file)}\n{tried(entries, crate)}"
+    for entry in entries if len(entries) > 1 else ():
+        wrong = Wrong(edit_file, entry)
+        wrong.judge(shown(log, entry.label))
+        if wrong.fact is None:
+            log += f"{alone.format(entry.label)}{tried([entry], crate)}"
+    return log
+
+
+def try_rounds(edit_files):
+    """Tries rounds, keeps their logs, and gives the faults."""
+    faults, order = [], list(project.crates())
+    with tempfile.TemporaryDirectory() as folder:
+        project.copy_crates(pathlib.Path(folder))
+        for edit_file in sorted(edit_files, key=lambda file: order.index(project.crate_of(file))):
+            log = try_round(edit_file, pathlib.Path(folder))
+            log_file(edit_file).parent.mkdir(parents=True, exist_ok=True)
+            log_file(edit_file).write_text(log)
+            faults += faults_of_log(edit_file)
+            print(f"{round_of(edit_file)}: tried", flush=True)
+    return faults
+
+
+def shown(log, label):
+    """The part of a round's log that shows a wrong version, after the answers have followed it."""
+    parts = log.split(alone.format(label))
+    return parts[-1].split(alone.partition("{")[0])[0].split(again)[-1]
+
+
+def faults_of_log(edit_file):
+    """Whether a part of a round's log does not end with the verdict that the crate is not proved."""
+    for entry in project.wrong_versions(edit_file):
+        if not refused.search(shown(log_of(edit_file), entry.label)):
+            yield f"{round_of(edit_file)}: {entry.label}: the check had another verdict than that it is not proved"
+
+
+def without_log(long):
+    """The rounds that have no log of the sources as they stand: those of the long tests, or all."""
+    return [file for file in project.edit_files() if (is_long(file) or not long) and log_of(file) is None]
+
+
+def rounds_named(words):
+    found = [file for file in project.edit_files() if round_of(file) in words]
+    if len(found) < len(set(words)):
+        raise Faults(f"not all of these are rounds: {' '.join(words)}")
+    return found
+
+
+# The table.
 
 def rows():
     """The fact that the table has for each wrong version."""
@@ -132,75 +321,115 @@ def table(every):
     return "\n".join(lines) + "\n"
 
 
-def log_of(edit_file):
-    """The log of a round."""
-    return root / "target" / edit_file.parent.name / project.crate_of(edit_file) / edit_file.stem / ".log"
-
-
 def judged(edit_file, stored, long):
-    """The wrong versions of a round, and the faults."""
-    name, log = f"{project.crate_of(edit_file)}/{edit_file.stem}", log_of(edit_file)
+    """The wrong versions of a round, whether they were judged from a log, and the faults."""
+    name, log = round_of(edit_file), log_of(edit_file)
     found = [Wrong(edit_file, entry) for entry in project.wrong_versions(edit_file)]
-    places, faults, tried = [(wrong.file, wrong.place) for wrong in found], [], log.exists()
+    places, faults = [(wrong.file, wrong.place) for wrong in found], []
     if len(set(places)) < len(places) or (len(found) > 1 and any(wrong.place is None for wrong in found)):
         faults.append(f"{name}: two wrong versions in one place, or one of a definition beside others")
+    faults += [] if log is None else faults_of_log(edit_file)
     for wrong in found:
         faults += [f"{name}: {wrong.label}: {fault}" for fault in wrong.faults]
-        if tried:
-            wrong.judge(log.read_text())
-        else:
+        if log is None:
             wrong.fact = stored.get(wrong.name())
-        if wrong.fact is None and (tried or wrong.long):
-            why = "is not refused at a fact" if tried else f"has no row in {project.name_of(document)} and no log"
-            advice = "" if tried else ": run `bash tests/long edits` first"
-            faults.append(f"{name}: {wrong.label} ({wrong.place_name()}) {why}{advice}")
-        if long and tried and wrong.fact != stored.get(wrong.name()):
+        else:
+            wrong.judge(shown(log, wrong.label))
+        if wrong.fact is None:
+            where = f"{name}: {wrong.label} ({wrong.place_name()})"
+            none = f"has no row in {project.name_of(document)}: python3 tests/edits.py --table writes it"
+            faults.append(f"{where} {none if log is None else 'is not refused at a fact'}")
+        if long and log is not None and wrong.fact != stored.get(wrong.name()):
             faults.append(f"{name}: {wrong.label} is refused at {wrong.fact}, and {project.name_of(document)} says "
                           f"{stored.get(wrong.name())}")
         if not wrong.rule:
             faults.append(f"{name}: {wrong.label} does not say what rule it breaks")
-    return found, faults
+    return found, log is not None, faults
 
 
 def verdict(long):
-    """Every wrong version, how many were judged, how many are left to the long tests, and the faults."""
-    stored, every, judged_count, left, faults, without_log = rows(), [], 0, 0, [], []
+    """Every wrong version, how many were judged from a log, and the faults."""
+    stored, every, count, faults = rows(), [], 0, []
     for edit_file in project.edit_files():
-        gate = edit_file.parent.name == "must-fail"
-        if long and gate:
-            continue
-        found, bad = judged(edit_file, stored, long)
-        every, faults = every + found, faults + bad
-        if log_of(edit_file).exists():
-            judged_count += len(found)
-        elif long or gate:
-            without_log.append(f"{project.crate_of(edit_file)}/{edit_file.stem}")
-        else:
-            left += len(found)
-    if without_log:
-        command = "bash tests/long edits" if long else "rt ci"
-        faults.append(f"no log of {len(without_log)} rounds: run `{command}` first, which leaves them in target: "
-                      f"{', '.join(without_log)}")
+        if is_long(edit_file) or not long:
+            found, has_log, bad = judged(edit_file, stored, long)
+            every, count, faults = every + found, count + has_log * len(found), faults + bad
     names = [wrong.name() for wrong in every]
     faults += sorted({f"{name}: twice" for name in names if names.count(name) > 1})
-    return every, judged_count, left, faults
+    return every, count, faults
 
 
 def generated():
-    every, _, _, faults = verdict(False)
+    every, _, faults = verdict(False)
     if faults:
         raise Faults(*faults)
     return {document: table(every)}
 
 
+# What `rt ci` printed.
+
+def faults_of_gate(text):
+    """The rounds of the gate that `rt ci` did not refuse, or only in a way that says little."""
+    said = dict(re.findall(r"(?m)^rt: must-fail (\w+/\S+?)\.edit: (.*)$", text))
+    for edit_file in (file for file in project.edit_files() if not is_long(file)):
+        name = round_of(edit_file)
+        if not re.match(r"refused, as it must be(?! \(only by a limit)", said.get(name, "")):
+            yield f"must-fail {name}.edit: {said.get(name, 'rt ci does not name it')}"
+    bad = re.search(r"(?m)^rt: ok\b.*, (\d+) bad\b", text)
+    if bad:
+        yield f"rt ci found {bad[1]} bad edits"
+
+
+def gate():
+    if not printed.exists():
+        raise Faults(f"no {project.name_of(printed)}: bash tests/run leaves there what `rt ci` printed")
+    every, count, faults = verdict(False)
+    faults += faults_of_gate(printed.read_text())
+    tried = sum(1 for file in project.edit_files() if not is_long(file))
+    summary = (f"{tried} rounds refused by rt ci, {len(every)} wrong versions with a row in the table, {count} judged "
+               f"from a log, {len(faults)} faults")
+    return project.finish(faults, summary, tried and every)
+
+
+# Made-up logs.
+
+def selftest():
+    """In tests/judged a log stands below `== FILE PLACE FACT`: a wrong version of that place in that file of the crate
+    `small` must be found to be refused at that fact, or at `none`."""
+    cases = re.findall(r"(?ms)^== (\S+) (\S+) (\S+)\n(.*?)\n*(?=^== |\Z)", made_up.read_text())
+    faults = []
+    for file, place, fact, log in cases:
+        wrong = Wrong.__new__(Wrong)
+        wrong.crate, wrong.file, wrong.fact = "small", file, None
+        wrong.place = None if place == "none" else tuple(place.split("::"))
+        wrong.judge(log)
+        if (wrong.fact or "none").replace("`", "").replace(" ", "_") != fact:
+            faults.append(f"in {file}, {place}: refused at {wrong.fact}, and not at {fact}")
+    return project.finish(faults, f"{len(cases)} made-up logs judged, {len(faults)} faults", cases)
+
+
 def main(words):
+    if words[:1] == ["--try"]:
+        long = words[1:] == ["--long"]
+        edit_files = rounds_named(words[1:]) if words[1:] and not long else without_log(long)
+        faults = try_rounds(edit_files)
+        return project.finish(faults, f"{len(edit_files)} rounds tried, {len(faults)} faults")
     if words == ["--table"]:
+        faults = try_rounds(without_log(False))
+        if faults:
+            raise Faults(*faults)
         return project.write_or_compare(generated(), False, "")
-    if words not in ([], ["--long"]):
+    if words == ["--long"]:
+        if left := without_log(True):
+            raise Faults("no log of these rounds: python3 tests/edits.py --try --long makes it: "
+                         + ", ".join(map(round_of, left)))
+        _, count, faults = verdict(True)
+        return project.finish(faults, f"{count} wrong versions judged, {len(faults)} faults", count)
+    if words == ["--selftest"]:
+        return selftest()
+    if words:
         raise Faults(__doc__)
-    _, count, left, faults = verdict(words == ["--long"])
-    skipped = f"; skipped: {left}, which `bash tests/long edits` tries" if left else ""
-    return project.finish(faults, f"{count} wrong versions judged, {len(faults)} faults{skipped}", count)
+    return gate()
 
 
 if __name__ == "__main__":

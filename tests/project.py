@@ -1,7 +1,7 @@
 """What the scripts in this folder share. It is imported, and does nothing when it is run.
 
 It finds the repository's root, reads crates.txt, splits the code into functions, reads the files of wrong versions,
-and writes and compares generated files.
+checks crates in a copy of the repository, and writes and compares generated files.
 
 Words that are used in all scripts:
 
@@ -10,8 +10,11 @@ module         a file of Rattle code: src/lib.rt and src/main.rt are a crate's r
 fault          something that a script found to be wrong: one line of text
 generated file a file that a script writes; a script's function `generated()` gives what should be in it
 """
+import os
 import pathlib
 import re
+import shutil
+import signal
 import subprocess
 import sys
 from collections import namedtuple
@@ -204,6 +207,31 @@ def wrong_versions(edit_file):
         return entries(edit_file.read_text(), "wrong")
     except Faults as faults:
         raise Faults(*(f"{name_of(edit_file)}: {line}" for line in faults.lines)) from None
+
+
+# Checks in a copy.
+
+def copy_crates(folder):
+    """Copies the crates to a folder outside of the repository, without what checks have left there. A check in the copy
+    begins with what rt finds of the same crates on this machine."""
+    ignored = shutil.ignore_patterns("out", "must-fail*")
+    shutil.copytree(root / "crates", folder / "crates", ignore=ignored)
+    for name in ("crates.txt", "HANDLES"):
+        if (root / name).exists():
+            shutil.copy(root / name, folder)
+
+
+def check(crate, limit=900):
+    """Whether the crate in a folder is proved by `rt check`, and what that printed; after so many seconds it is
+    stopped."""
+    how = {"stdin": subprocess.DEVNULL, "stdout": subprocess.PIPE, "stderr": subprocess.STDOUT, "errors": "replace"}
+    with subprocess.Popen(["rt", "check"], cwd=crate, start_new_session=True, **how) as started:
+        try:
+            printed = started.communicate(timeout=limit)[0]
+        except subprocess.TimeoutExpired:
+            os.killpg(started.pid, signal.SIGKILL)
+            printed = f"{started.communicate()[0]}\nstopped after {limit} seconds\n"
+    return started.returncode == 0, printed
 
 
 # Generated files: a path, and what should be in it as text or bytes, or None where there should be no such file.

@@ -3,8 +3,7 @@ is refused.
 
 python3 tests/versions.py [FILE ..]      the verdict on these rounds, or on all of tests/versions
 
-A file of tests/versions is a round: its versions are tried at once, in a copy of the repository with its target. A
-version is
+A file of tests/versions is a round: its versions are tried at once, in a copy of the repository. A version is
 
     version: LABEL
     # the rule that it breaks
@@ -17,19 +16,18 @@ version is
     old: TEXT                            lines of any layout
     new: TEXT                            where \n ends a line
 """
-import os
 import pathlib
 import re
 import resource
-import shutil
-import subprocess
 import tempfile
 
 import project
 from project import Faults, root
 
+error = re.compile(r"(?m)^(?:\./)?((?:src|specs|proofs)/\S+?):\d+:\d+: error: `([^`]*)`(.*)$")
+not_built = re.compile(r"(?m)^rt: the library \w+ did not build")
 lacking = re.compile(r"`([^`]*)` was not admitted")
-unfit = re.compile(r"is not in scope|cannot be parsed|syntax|no occurrence of the path's")
+unfit = re.compile(r"is not in scope|has no `|has no field|cannot be parsed|syntax|no occurrence of the path's")
 
 
 class Version:
@@ -89,19 +87,16 @@ def falls(errors, theorem, causes):
 
 
 def check(tree, crates):
-    """Whether crates are proved there, and what the check printed."""
-    command, environment = ["rt", "check", *crates], {**os.environ, "RT_JOBS": "2"}
-    done = subprocess.run(command, cwd=tree, env=environment, text=True, stdout=subprocess.PIPE,
-                          stderr=subprocess.STDOUT)
-    return done.returncode == 0, done.stdout
-
-
-def copy(tree):
-    """Copies the repository with its target, so that only what is edited is checked again."""
-    ignored = shutil.ignore_patterns("must-fail", "bin", "cargo", "staticlib")
-    for name in ("crates", "target"):
-        shutil.copytree(root / name, tree / name, symlinks=True, ignore=ignored)
-    shutil.copy(root / "crates.txt", tree)
+    """Whether crates are proved in a tree, one after the other, the lowest first; what the checks printed; and of each
+    crate's errors the first at each theorem, by its file and its name. The errors of a library below are not read."""
+    proved, printed, errors = True, "", {}
+    for crate in (name for name in project.crates() if name in crates):
+        done, text = project.check(tree / "crates" / crate)
+        proved, printed = proved and done, f"{printed}== {crate}\n{text}"
+        if not not_built.search(text):
+            for path, theorem, what in error.findall(text):
+                errors.setdefault((f"crates/{crate}/{path}", theorem), what)
+    return proved, printed, errors
 
 
 def try_round(file, tree):
@@ -111,22 +106,19 @@ def try_round(file, tree):
     above = sorted({path.split("/")[1] for version in versions for path, _ in version.refused})
     if not versions:
         return versions, [f"{file.name}: no version"]
-    if not check(root, above)[0]:
+    project.copy_crates(tree)
+    if not check(tree, above)[0]:
         return versions, [f"{file.name}: without it {', '.join(above)} must be proved"]
-    copy(tree)
     faults = [fault for version in versions if (fault := version.apply(tree))]
     faults += [f"{version.label}: no rule, no theorem, or a crate that is edited and not to be proved"
                for version in versions if version.incomplete()]
     if faults:
         return versions, faults
-    proved, printed = check(tree, sorted({crate for version in versions for crate in version.proved}))
+    proved, printed, _ = check(tree, {crate for version in versions for crate in version.proved})
     if not proved:
         print(printed)
         return versions, [f"{file.name}: what must be proved is not"]
-    _, printed = check(tree, above)
-    errors = {}
-    for path, theorem, text in re.findall(r"(?m)^\S*?/(crates/\S+?):\d+:\d+: error: `([^`]*)`(.*)$", printed):
-        errors.setdefault((path, theorem), text)
+    _, printed, errors = check(tree, above)
     for fault, right in [version.judge(errors) for version in versions]:
         if fault:
             faults.append(fault)
