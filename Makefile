@@ -6,7 +6,7 @@
 #   make uninstall   removes them
 #   make tag         tags the version of the file VERSION, after comparing it with header, crate and changelog
 #
-# There is no `make clean`: target/ has the prover's results too, and these take long to compute.
+# There is no `make clean`: the folders out/ of the crates have the prover's results, and these take long to compute.
 
 PREFIX ?= /usr/local
 RT ?= rt
@@ -17,16 +17,16 @@ lib = $(DESTDIR)$(PREFIX)/lib
 include = $(DESTDIR)$(PREFIX)/include
 
 # The archive is built again only if one of these is newer.
-sources := crates.txt $(shell find crates -type f -not -path '*/must-fail*')
+sources := crates.txt $(shell find crates -type f -not -path '*/must-fail*' -not -path 'crates/*/out/*')
 
 .PHONY: all test install uninstall tag
 
 all: $(archive)
 
-# `rt` may leave the archive alone if its content is the same: touched, it is newer than the sources in any case.
+# `rt lib` leaves the archive in the folder of the crate that exports the calls, under that crate's name.
 $(archive): $(sources)
-	$(RT) staticlib fahireky
-	touch $@
+	cd crates/fahireky_c && $(RT) lib
+	install -D -m 644 crates/fahireky_c/out/libfahireky_c.a $@
 
 test:
 	bash tests/run

@@ -64,6 +64,12 @@ run_test() {
   fi
 }
 
+# build_library: the static library, where the hosts look for it.
+build_library() {
+  (cd crates/fahireky_c && rt lib) || return
+  install -D -m 644 crates/fahireky_c/out/libfahireky_c.a target/staticlib/libfahireky.a
+}
+
 # finish: the last line, and the exit status.
 finish() {
   echo "$passed passed, $failed failed"

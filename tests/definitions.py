@@ -268,7 +268,8 @@ def of_the_paper(paper):
     six, five = listed([1] * 6), listed([1] * 5)
     yield unchanged("a start while an operation runs", ready, [
         call("start_info", ready), call("start_discover", ready, long)], 21)
-    yield unchanged("a start while an operation runs (a request is out)", waiting, [call("start_deselect", waiting)], 21)
+    yield unchanged("a start while an operation runs (a request is out)", waiting, [
+        call("start_deselect", waiting)], 21)
     yield unchanged("asking with none running", idle, [call("request", idle, NIL, seven)], 21)
     yield unchanged("asking .. with a request unanswered", waiting, [call("request", waiting, six, seven)], 21)
     yield unchanged("a record or link failure with no request out", idle, [
@@ -339,9 +340,9 @@ HEAD = """# What the examples take of the paper's definitions
 
 Written by `tests/definitions.py --table`, which runs the text of `crates/paper/specs` on the Rust's stored answers
 (`tests/oracle`) and on other examples: the stored logs (`tests/logs`), and cases beside sentences of documents 01 and
-02 where they go beyond the Rust. Each answer is compared. A branch is a clause, an arm of a choice (`cond`, `refuse_if`,
-`on_some`, `on_reading`, `on_left`, `unless_echo`), or a way that `&&` or `||` comes out; it counts where its value is
-wanted, and once for an example.
+02 where they go beyond the Rust. Each answer is compared. A branch is a clause, an arm of a choice (`cond`,
+`refuse_if`, `on_some`, `on_reading`, `on_left`, `unless_echo`), or a way that `&&` or `||` comes out; it counts where
+its value is wanted, and once for an example.
 
 `sum_under` is run as it stands to a depth of 9; above, its sum leaves out what extends a prefix that at most one id
 matches, which adds 0.

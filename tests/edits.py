@@ -160,7 +160,7 @@ def enclosing(text, at, crate, file):
 # The tries, and their logs.
 
 def round_of(edit_file):
-    """A round's name: CRATE/ROUND."""
+    """A round's name: CRATE/ROUND. One of the gate and one of the long tests may have the same."""
     return f"{project.crate_of(edit_file)}/{edit_file.stem}"
 
 
@@ -169,7 +169,7 @@ def is_long(edit_file):
 
 
 def log_file(edit_file):
-    return logs / f"{round_of(edit_file)}.log"
+    return logs / edit_file.parent.name / f"{round_of(edit_file)}.log"
 
 
 @functools.lru_cache(maxsize=None)
@@ -192,7 +192,7 @@ def sum_of(crate):
 def what_of(edit_file):
     """The first line of a round's log."""
     text = edit_file.read_bytes() + sum_of(project.crate_of(edit_file)).encode()
-    return f"of {round_of(edit_file)}: {hashlib.sha256(text).hexdigest()}"
+    return f"of {project.name_of(edit_file)}: {hashlib.sha256(text).hexdigest()}"
 
 
 def log_of(edit_file):
@@ -262,17 +262,25 @@ def try_round(edit_file, copy):
 
 
 def try_rounds(edit_files):
-    """Tries rounds, keeps their logs, and gives the faults."""
-    faults, order = [], list(project.crates())
+    """Tries rounds, and keeps their logs."""
+    order = list(project.crates())
     with tempfile.TemporaryDirectory() as folder:
         project.copy_crates(pathlib.Path(folder))
         for edit_file in sorted(edit_files, key=lambda file: order.index(project.crate_of(file))):
             log = try_round(edit_file, pathlib.Path(folder))
             log_file(edit_file).parent.mkdir(parents=True, exist_ok=True)
             log_file(edit_file).write_text(log)
-            faults += faults_of_log(edit_file)
             print(f"{round_of(edit_file)}: tried", flush=True)
-    return faults
+
+
+def try_all(edit_files, anew):
+    """Tries rounds, those with a log too if anew, and says which of all these were not refused."""
+    left = [file for file in edit_files if anew or log_of(file) is None]
+    if left:
+        try_rounds(left)
+    faults = [fault for file in edit_files for fault in faults_of_log(file)]
+    summary = f"{len(left)} rounds tried, {len(edit_files) - len(left)} tried before, {len(faults)} faults"
+    return project.finish(faults, summary, edit_files)
 
 
 def shown(log, label):
@@ -288,16 +296,16 @@ def faults_of_log(edit_file):
             yield f"{round_of(edit_file)}: {entry.label}: the check had another verdict than that it is not proved"
 
 
-def without_log(long):
-    """The rounds that have no log of the sources as they stand: those of the long tests, or all."""
-    return [file for file in project.edit_files() if (is_long(file) or not long) and log_of(file) is None]
+def rounds(long):
+    """The rounds of the long tests, or all."""
+    return [file for file in project.edit_files() if is_long(file) or not long]
 
 
 def rounds_named(words):
-    found = [file for file in project.edit_files() if round_of(file) in words]
-    if len(found) < len(set(words)):
-        raise Faults(f"not all of these are rounds: {' '.join(words)}")
-    return found
+    every = project.edit_files()
+    if unknown := set(words) - set(map(round_of, every)):
+        raise Faults(f"no rounds: {' '.join(sorted(unknown))}")
+    return [file for file in every if round_of(file) in words]
 
 
 # The table.
@@ -350,10 +358,9 @@ def judged(edit_file, stored, long):
 def verdict(long):
     """Every wrong version, how many were judged from a log, and the faults."""
     stored, every, count, faults = rows(), [], 0, []
-    for edit_file in project.edit_files():
-        if is_long(edit_file) or not long:
-            found, has_log, bad = judged(edit_file, stored, long)
-            every, count, faults = every + found, count + has_log * len(found), faults + bad
+    for edit_file in rounds(long):
+        found, has_log, bad = judged(edit_file, stored, long)
+        every, count, faults = every + found, count + has_log * len(found), faults + bad
     names = [wrong.name() for wrong in every]
     faults += sorted({f"{name}: twice" for name in names if names.count(name) > 1})
     return every, count, faults
@@ -410,17 +417,14 @@ def selftest():
 
 def main(words):
     if words[:1] == ["--try"]:
-        long = words[1:] == ["--long"]
-        edit_files = rounds_named(words[1:]) if words[1:] and not long else without_log(long)
-        faults = try_rounds(edit_files)
-        return project.finish(faults, f"{len(edit_files)} rounds tried, {len(faults)} faults")
+        named = words[1:] and words[1:] != ["--long"]
+        edit_files = rounds_named(words[1:]) if named else rounds(bool(words[1:]))
+        return try_all(edit_files, named)
     if words == ["--table"]:
-        faults = try_rounds(without_log(False))
-        if faults:
-            raise Faults(*faults)
+        try_all(rounds(False), False)
         return project.write_or_compare(generated(), False, "")
     if words == ["--long"]:
-        if left := without_log(True):
+        if left := [file for file in rounds(True) if log_of(file) is None]:
             raise Faults("no log of these rounds: python3 tests/edits.py --try --long makes it: "
                          + ", ".join(map(round_of, left)))
         _, count, faults = verdict(True)

@@ -130,9 +130,9 @@ def header_alone(flags):
 
 def install():
     installed = ["include/fahireky.h", "lib/libfahireky.a", "lib/pkgconfig/fahireky.pc"]
-    if "staticlib fahireky" not in make("-n", "-W", "crates.txt"):
+    if "crates/fahireky_c && false lib" not in make("-n", "-W", "crates.txt"):
         sys.exit("a newer source does not build the archive again")
-    if "staticlib" in make("-n"):
+    if "fahireky_c" in make("-n"):
         sys.exit("the archive is missing, or older than the sources: run make first")
     with tempfile.TemporaryDirectory() as folder:
         prefix = pathlib.Path(folder) / "prefix"

@@ -1,10 +1,10 @@
 """Bench logs, and what the program bench_log must print for them, by an implementation of documents 01 and 02 that
 shares no code with the Rattle crates.
 
-python3 tests/logs.py --make              writes tests/logs/NAME.in and NAME.out, and one of them to crates/bench_log,
-                                          where `rt check` runs the program on it
-python3 tests/logs.py --compare PROGRAM   runs PROGRAM on each log, and on one too long to be stored; compares what it
-                                          prints, and the stored logs, with what is computed here
+python3 tests/logs.py --make      writes tests/logs/NAME.in and NAME.out, and one of them to crates/bench_log, where
+                                  `rt ci` runs the program on it
+python3 tests/logs.py --compare   runs the program, which `rt ci` has built, on each log, and on one too long to be
+                                  stored; compares what it prints, and the stored logs, with what is computed here
 """
 import struct
 import subprocess
@@ -275,22 +275,23 @@ def faults_of_run(program, name, data):
     """What is wrong with what the program prints for a log."""
     done, wanted = subprocess.run([program], input=data, stdout=subprocess.PIPE), output(data)
     if done.returncode != 0:
-        yield f"{name}: {program} ended with status {done.returncode}"
+        yield f"{name}: the program ended with status {done.returncode}"
     if done.stdout != wanted:
-        yield f"{name}: {program} wrote {done.stdout[:80]!r}, and not {wanted[:80]!r}"
+        yield f"{name}: the program wrote {done.stdout[:80]!r}, and not {wanted[:80]!r}"
 
 
 def main(words):
     if words == ["--make"]:
         return project.write_or_compare(generated(), False, "")
-    if len(words) != 2 or words[0] != "--compare":
+    if words != ["--compare"]:
         raise project.Faults(__doc__)
+    program = project.program("bench_log")
     assert output(b"01\n\n\n") == b"00000002\n"
     every, data = list(logs()), long_log()
     stored = project.differing(generated())
     faults = [f"{project.name_of(path)} differs: python3 tests/logs.py --make writes it" for path in stored]
     for name, log_data in [*every, ("the long log", data)]:
-        faults += faults_of_run(words[1], name, log_data)
+        faults += faults_of_run(program, name, log_data)
     end = output(data)[-9:].decode().strip()
     return project.finish(faults, f"{len(every) + 1} logs, {len(faults)} faults; the long log has {len(data):,} bytes "
                           f"and ends {end}", every)

@@ -1,11 +1,12 @@
 """The Rust that was ported, beside this port.
 
-python3 tests/oracle.py --replay     the Rust's stored answers, replayed by crates/oracle_replay
+python3 tests/oracle.py --replay     the Rust's stored answers, replayed by the program that `rt ci` has built of
+                                     crates/oracle_replay
 python3 tests/oracle.py --compare    client.rs is the file that NOTICE names; both sides live over the same wires, each
                                      difference on its smallest input, and the stored answers made again
 python3 tests/oracle.py --store      writes the Rust's answers to tests/oracle
-python3 tests/oracle.py --excerpt    writes some of the stored answers to crates/oracle_replay, where `rt check` runs
-                                     the program on them; --store does so too
+python3 tests/oracle.py --excerpt    writes some of the stored answers to crates/oracle_replay, where `rt ci` runs the
+                                     program on them; --store does so too
 
 --compare and --store need client.rs, which is not in this repository, in ../shared/documents/src beside it, and fail
 without it.
@@ -57,7 +58,7 @@ def generated():
 
 def replay():
     with open(stored / "runs.in") as lines:
-        command = [root / "target/bin/oracle_replay"]
+        command = [project.program("oracle_replay")]
         out = subprocess.run(command, stdin=lines, capture_output=True, text=True, check=True).stdout
     expected = (stored / "runs.out").read_text()
     if out != expected:

@@ -154,6 +154,14 @@ def resolved(steps, crate, module, text):
     return steps
 
 
+def program(crate):
+    """The program of a crate, where `rt ci` and `rt run` leave it."""
+    path = root / "crates" / crate / "out" / crate
+    if not path.exists():
+        raise Faults(f"{name_of(path)} is not there: `rt run` in crates/{crate} proves and builds it")
+    return path
+
+
 # Wrong versions.
 
 class Entry:

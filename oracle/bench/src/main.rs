@@ -107,7 +107,7 @@ fn noisy(r: &mut Random) -> Vec<u8> {
 
 /// The bench log program, and the same program over the Rust, as whole processes on the same log.
 fn bench_log() {
-    let port = Path::new(env!("CARGO_MANIFEST_DIR")).join("../../target/bin/bench_log");
+    let port = Path::new(env!("CARGO_MANIFEST_DIR")).join("../../crates/bench_log/out/bench_log");
     let rust = std::env::current_exe().unwrap().with_file_name("rust_log");
     if !port.exists() || !rust.exists() {
         println!("| the bench log program | | not built | | not built | | |");
