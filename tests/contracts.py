@@ -2,7 +2,8 @@
 it.
 
 python3 tests/contracts.py           every public contract is an equation; no call that a host makes has a `requires`;
-                                     each row of the table has a reason
+                                     an exported call has the signature and the contract of the function of its name in
+                                     the library, of which more is promised; each row of the table has a reason
 python3 tests/contracts.py --table   writes the table. Reasons stay; that of a new function is `?`, to write by hand
 
 A host's calls are the exported functions and those of README.md, "The calls on one screen". `rt check` proves at each
@@ -11,12 +12,14 @@ call that what is asked is met; the callers are listed, so that a reader sees wh
 import re
 
 import project
+from declarations import code_words
 from project import Faults, root
 
 document = root / "docs/CONTRACTS.md"
 title = "## What is asked of a caller\n"
 header = "| function | asks | why | met by |\n|---|---|---|---|\n"
 prints = "show"  # a crate whose functions only print, for the programs
+library = "fahireky"  # the crate of the calls that another exports
 most = 6  # callers of one module that are named
 
 
@@ -86,9 +89,28 @@ def faults_of(every, asking):
     for function in asking:
         if function.exported or function in on_screen:
             yield f"{function.full_name()}: a call that a host makes asks something"
+    yield from faults_of_exports(every)
     written = sum(len(re.findall(r"(?m)^\s*requires\b", path.read_text())) for path in project.code_files())
     if sum(len(function.all_of("requires")) for function in every) != written:
         yield "the code has a `requires` that this script does not understand"
+
+
+def signature(function):
+    """What stands between a function's name and its first clause or its body, in words."""
+    path = next(path for path in project.code_files(function.crate) if project.place_of(path)[1] == function.module)
+    text = re.sub(r"//.*", "", path.read_text()[function.start:])
+    return code_words(re.split(r"\b(?:requires|ensures)\b|\{", text.split(function.name, 1)[1])[0])
+
+
+def faults_of_exports(every):
+    """An exported call that is not as the library has it, or one of the library's that is not exported."""
+    own = {function.name: function for function in every if function.crate == library}
+    exported = {function.name: function for function in every if function.exported}
+    if own.keys() != exported.keys() or not own:
+        yield f"not both exported and in {library}: {', '.join(sorted(own.keys() ^ exported.keys())) or 'no call'}"
+    for name in sorted(own.keys() & exported.keys()):
+        if (own[name].clauses, signature(own[name])) != (exported[name].clauses, signature(exported[name])):
+            yield f"{exported[name].full_name()}: its signature or its contract is not that of {own[name].full_name()}"
 
 
 def table_of(text):

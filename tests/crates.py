@@ -1,12 +1,9 @@
 """docs/CRATES.md: each crate with its functions, its lines of code, definitions and proofs, its wrong versions, and how
-long its check takes.
+long its check took with an older kit.
 
-python3 tests/crates.py --table [LOG]   writes it. The seconds are those of LOG, the output of `rt ci` or `rt prove`, or
-                                        else of target/log, where such a run leaves them. After another run, which does
-                                        not prove every crate, the seconds in the document stay
-python3 tests/crates.py --compare       all but the seconds is compared
+python3 tests/crates.py --table     writes it. The seconds in the document stay: `rt ci` prints none
+python3 tests/crates.py --compare   compares it
 """
-import pathlib
 import re
 
 import project
@@ -15,9 +12,9 @@ from project import Faults, root
 document = root / "docs/CRATES.md"
 head = """# The crates in numbers
 
-Functions; lines of code (`src`), of definitions (`specs`) and of proofs (`proofs`, skeletons included); wrong versions,
-and the rounds in which they are tried; the seconds that a check of the crate took in the gate, where several checks run
-at a time on two cores. `tests/crates.py` writes this file.
+Functions; lines of code (`src`), of definitions (`specs`) and of proofs (`proofs`); wrong versions, and the rounds in
+which they are tried. The seconds are those that a check of the crate took in the gate with an older kit, where several
+checks ran at a time on two cores; a crate that is newer has none. `tests/crates.py` writes this file.
 
 | crate | what it is for | functions | code | definitions | proofs | wrong versions | rounds | seconds |
 |---|---|---:|---:|---:|---:|---:|---:|---:|
@@ -42,54 +39,26 @@ def counts(crate):
     return [functions, *sizes, wrong, len(rounds)]
 
 
-def seconds_in(log):
-    """The seconds of each crate, from what rt printed."""
-    return {name: int(seconds) for name, seconds in re.findall(r"(?m)^rt: (\w+) proved \((\d+) s\)", log)}
-
-
 def stored_seconds():
     rows = re.findall(r"(?m)^\| `(\w+)` .* (\d+) \|$", document.read_text() if document.exists() else "")
     return {name: int(seconds) for name, seconds in rows}
 
 
-def measured_seconds():
-    """Those that `rt ci` or `rt prove` left; None after another run, which proves only what has changed."""
-    logs = [root / "target/log" / f"{name}.out" for name in project.crates()]
-    found = seconds_in("\n".join(log.read_text() for log in logs if log.exists()))
-    return found if set(found) == set(project.crates()) else None
-
-
-def generated(seconds=None):
-    seconds = seconds or stored_seconds()
-    missing = [name for name in project.crates() if name not in seconds]
-    if missing:
-        raise Faults(f"docs/CRATES.md: no seconds for {', '.join(missing)}: run `rt ci` first, which leaves them in "
-                     "target/log")
-    text, totals = head, [0] * 7
+def generated():
+    seconds, text, totals = stored_seconds(), head, [0] * 7
     for name in project.crates():
-        crate = root / "crates" / name
-        numbers = [*counts(crate), seconds[name]]
+        numbers = [*counts(root / "crates" / name), seconds.get(name, 0)]
         totals = [a + b for a, b in zip(totals, numbers)]
-        cells = [str(n) if n else "" for n in numbers[:-1]] + [str(numbers[-1])]
-        text += f"| `{name}` | {purpose(crate)} | {' | '.join(cells)} |\n"
+        cells = " | ".join(str(n) if n else "" for n in numbers)
+        text += f"| `{name}` | {purpose(root / 'crates' / name)} | {cells} |\n"
     text += "| all | | " + " | ".join([*(f"{n:,}" for n in totals[:-1]), str(totals[-1])]) + " |\n"
     return {document: text + f"\nLines of proof for each line of code: {totals[3] / totals[1]:.1f}.\n"}
 
 
-def generated_anew():
-    """With the seconds of the last run that proved every crate."""
-    return generated(measured_seconds())
-
-
 def main(words):
-    if words == ["--compare"]:
-        return project.write_or_compare(generated(), True, "python3 tests/crates.py --table")
-    if words[:1] != ["--table"] or len(words) > 2:
+    if words not in (["--table"], ["--compare"]):
         raise Faults(__doc__)
-    seconds = seconds_in(pathlib.Path(words[1]).read_text()) if words[1:] else measured_seconds()
-    if seconds is None:
-        print("the seconds stay: target/log is not that of a run that proves every crate (rt ci)")
-    return project.write_or_compare(generated(seconds), False, "")
+    return project.write_or_compare(generated(), words == ["--compare"], "python3 tests/crates.py --table")
 
 
 if __name__ == "__main__":

@@ -14,9 +14,9 @@ python3 tests/generated.py --compare   names each that differs, with the command
     tests/logs                                       tests/logs.py
     the version in bindings/ and oracle/             tests/version.py
 
-Two need what `rt ci` leaves in target/: docs/WRONG-VERSIONS.md its logs of the wrong versions, without which it is not
-written; docs/CRATES.md its seconds, without which those in the document stay (they are not compared). The Rust's stored
-answers in tests/oracle are not written here, since they need client.rs: `python3 tests/oracle.py --store` writes them.
+docs/WRONG-VERSIONS.md needs logs of the wrong versions that are new: `python3 tests/edits.py --table` makes these, and
+writes it. The others keep the facts that the document has. The Rust's stored answers in tests/oracle are not written
+here, since they need client.rs: `python3 tests/oracle.py --store` writes them.
 """
 import itertools
 import subprocess
@@ -56,7 +56,6 @@ BY_COMMAND = [
 
 def made(command, function, compare):
     """What a function makes: how many files, those that differ, which are then written, and why it makes none."""
-    function = crates.generated_anew if function is crates.generated and not compare else function
     try:
         files = function()
     except (Faults, OSError) as error:
