@@ -291,7 +291,8 @@ class Reader:
         return self.named(begin, word)
 
     def named(self, begin, word):
-        """A name, or fields of what a name stands for. A name's own dot is one after an alias of a module."""
+        """A name, or fields of what a name stands for. A name's own dot is one after an alias of a module, or after the
+        type of a constructor."""
         name, *fields = word.split(".")
         if fields and f"{name}.{fields[0]}" in self.file.scope:
             name = f"{name}.{fields.pop(0)}"
@@ -395,6 +396,8 @@ class File:
             if name not in known:
                 read.wrong(f"no {name} is known in {module}")
             self.scope[name] = known[name]
+            # A type brings its constructors, by its name and theirs.
+            self.scope.update({own: known[own] for own in known if own.startswith(f"{name}.")})
             if name in fixity:
                 self.fixity[name] = fixity[name]
         if alias:
@@ -411,7 +414,8 @@ class File:
         if kind == "data":
             for m in members:
                 flat = re.sub(r"\([^()]*\)", "", self.text_of(m))
-                self.scope[m[0].text] = (f"{self.name}.{m[0].text}", flat.count("→"))
+                made = (f"{self.name}.{m[0].text}", flat.count("→"))
+                self.scope.update({m[0].text: made, f"{name}.{m[0].text}": made})
         elif parameters:
             # A record of propositions: it holds where all of them do.
             whole = [Reader(self, m[2:]).expr() for m in members]

@@ -242,7 +242,8 @@ class Names:
                 return meaning(f.aliases[alias], own)
             if name in BUILT_IN:
                 return Kit("", name)
-        return None
+        type_ = self.resolve(word.split(".")[0]) if "." in word[1:-1] else None
+        return type_ if isinstance(type_, Declared) or getattr(type_, "kind", "") == "data" else None
 
     def is_constructor(self, word, means):
         if isinstance(means, Kit):

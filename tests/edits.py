@@ -60,7 +60,7 @@ unfit = re.compile(
     r"|expected the end|cannot continue|give the call less to do|replace that `_` with the term"
 )
 other_shape = re.compile(r"computed as far as they go, the two types are")  # in a function's proof: of another loop
-follows = re.compile(r"was not admitted")
+follows = re.compile(r"was not admitted|which was rejected, w(?:as|ere) not checked")
 error = re.compile(r"(?m)^(?:\./)?((?:src|specs|proofs)/\S+?):(\d+):\d+: error: (.*)$")
 refused = re.compile(r"(?m)^logic=not-proved")
 again = "\n======== again, with answers to the goals by their names now\n"
