@@ -20,13 +20,17 @@ import pathlib
 import re
 import resource
 import tempfile
+from collections import namedtuple
 
 import project
+from declarations import declarations_of
 from project import Faults, root
 
 error = re.compile(r"(?m)^(?:\./)?((?:src|specs|proofs)/\S+?):\d+:\d+: error: `([^`]*)`(.*)$")
 not_built = re.compile(r"(?m)^rt: the library \w+ did not build")
-lacking = re.compile(r"`([^`]*)` was not admitted")
+lacking = re.compile(r"(?m)^(?:\./)?(proofs/\S+?):\d+:\d+: error: (\d+) declarations? that depends? on `([^`]*)`, "
+                     r"which was (?:rejected|not admitted), w(?:as|ere) not checked: (.*)$")
+Lack = namedtuple("Lack", "path count cause names")  # of a file: declarations not checked, how many, and for what cause
 unfit = re.compile(r"is not in scope|has no `|has no field|cannot be parsed|syntax|no occurrence of the path's")
 
 
@@ -57,46 +61,70 @@ class Version:
             file.write_text(text[:places[0].start()] + new.replace("\\n", "\n") + text[places[0].end():])
         return None
 
-    def judge(self, errors):
+    def judge(self, tree, errors, lacks):
         """What is wrong with how it was refused, or None; and what is right with it."""
         for at in self.refused:
-            if at not in errors or lacking.search(errors[at]) or unfit.search(errors[at]):
+            if at not in errors or unfit.search(errors[at]):
                 return f"{self.label}: {at[1]} is not refused", None
         edited = {path for path, _, _ in self.edits}
         for path, theorem in errors:
             if path in edited:
                 return f"{self.label}: {theorem} of {path}, which it edits, is not proved", None
         names = ", ".join(theorem for _, theorem in self.refused)
-        if self.breaks and not falls(errors, self.breaks, self.refused):
+        if self.breaks and not falls(tree, lacks, self.breaks, self.refused):
             return f"{self.label}: {self.breaks[1]} does not fall with {names}", None
         fallen = f"; {self.breaks[1]} falls" if self.breaks else ""
         return None, f"{self.label}: {', '.join(self.proved)} proved; refused at {names}{fallen}"
 
 
-def falls(errors, theorem, causes):
-    """Whether a theorem is not admitted because one that it needs was refused, over as many steps as it takes. A name
-    is first looked for in the same file."""
-    wants = {at: match[1] for at, text in errors.items() if (match := lacking.search(text))}
-    seen = []
-    while theorem in wants and theorem not in seen:
-        seen.append(theorem)
-        name = wants[theorem]
-        named = [at for at in errors if at[1] == name]
-        theorem = (theorem[0], name) if (theorem[0], name) in named else named[0] if len(named) == 1 else None
-    return len(seen) > 0 and theorem in causes
+def falls(tree, lacks, theorem, causes):
+    """Whether a theorem was not checked because one that it needs was refused, over as many steps as it takes."""
+    left, seen = [theorem], set()
+    while left:
+        path, name = left.pop()
+        for lack in (lack for lack in lacks if lack.path == path and is_among(tree, lack, name)):
+            if any(lack.cause == cause for _, cause in causes):
+                return True
+            if lack.cause not in seen:
+                seen.add(lack.cause)
+                left += [(other.path, lack.cause) for other in lacks]
+    return False
+
+
+def is_among(tree, lack, name):
+    """Whether a declaration is one of those that were not checked. Where not all of them were printed, it is one if it
+    names the cause, or another such one, and these are as many as were counted."""
+    shown = re.sub(r" \(via [^)]*\)| and \d+ more$", "", lack.names).split(", ")
+    if name in shown or not lack.names.endswith(" more"):
+        return name in shown
+    fallen, words = {lack.cause}, words_of(lack.path, (tree / lack.path).read_text())
+    while more := {other for other in words.keys() - fallen if words[other] & fallen}:
+        fallen |= more
+    return name in fallen and len(fallen - {lack.cause}) == lack.count
+
+
+def words_of(path, text):
+    """The words of each declaration of a file, each part of a path for itself."""
+    found = {}
+    for part in declarations_of(path, text)[0]:
+        words = [word for section in part.sections for word in section.words[""]]
+        found.setdefault(part.name, set()).update(step for word in words for step in word.split("."))
+    return found
 
 
 def check(tree, crates):
-    """Whether crates are proved in a tree, one after the other, the lowest first; what the checks printed; and of each
-    crate's errors the first at each theorem, by its file and its name. The errors of a library below are not read."""
-    proved, printed, errors = True, "", {}
+    """Whether crates are proved in a tree, one after the other, the lowest first; what the checks printed; of each
+    crate's errors the first at each theorem, by its file and its name; and what was not checked. The errors of a
+    library below are not read."""
+    proved, printed, errors, lacks = True, "", {}, []
     for crate in (name for name in project.crates() if name in crates):
         done, text = project.check(tree / "crates" / crate)
         proved, printed = proved and done, f"{printed}== {crate}\n{text}"
         if not not_built.search(text):
             for path, theorem, what in error.findall(text):
                 errors.setdefault((f"crates/{crate}/{path}", theorem), what)
-    return proved, printed, errors
+            lacks += [Lack(f"crates/{crate}/{path}", int(n), *more) for path, n, *more in lacking.findall(text)]
+    return proved, printed, errors, lacks
 
 
 def try_round(file, tree):
@@ -114,12 +142,12 @@ def try_round(file, tree):
                for version in versions if version.incomplete()]
     if faults:
         return versions, faults
-    proved, printed, _ = check(tree, {crate for version in versions for crate in version.proved})
+    proved, printed, *_ = check(tree, {crate for version in versions for crate in version.proved})
     if not proved:
         print(printed)
         return versions, [f"{file.name}: what must be proved is not"]
-    _, printed, errors = check(tree, above)
-    for fault, right in [version.judge(errors) for version in versions]:
+    _, printed, errors, lacks = check(tree, above)
+    for fault, right in [version.judge(tree, errors, lacks) for version in versions]:
         if fault:
             faults.append(fault)
         else:
