@@ -19,6 +19,8 @@ import sys
 from dataclasses import dataclass, field
 from math import fsum  # its result is the same in every version of Python, which sum's is not
 
+import project
+
 root = pathlib.Path(__file__).resolve().parent.parent
 docs = root / "docs"
 
@@ -29,9 +31,10 @@ FAMILIES = {
     "walk": ("walk", "the search over the bits of ids, on fixed arrays"),
     "select": ("select", "the request that a search sends"),
     "client": ("client", "the operations: starts, requests, what an answer does"),
-    "host": ("fahireky", "the client in lent buffers; every call exported"),
+    "host": ("fahireky", "the client in lent buffers; every call over these"),
     "log": ("log_feed", "stored lines in, a discovery over them, its listing out"),
     "theory": ("theory", "what follows from the paper, and what is promised"),
+    "exports": ("fahireky_c", "every call exported, under the contract that is promised"),
     "programs": ("bench_log", "the bench log (it cites log_theory), worked examples, a replay"),
 }
 # Of each kind of crate: its colour, and its words in the legend.
@@ -108,12 +111,11 @@ def kind_of_family(crates):
 
 
 def first_line(crate):
-    """What a crate says of itself in the comment on its first line."""
-    main, lib = (root / "crates" / crate / "src" / name for name in ("main.rt", "lib.rt"))
-    line = (main if main.exists() else lib).read_text().split("\n")[0]
-    if not line.startswith("// "):
-        sys.exit(f"crates/{crate}: the first line of the source is not a comment")
-    return line[3:].removesuffix(" No code.")
+    """What a crate says of itself in the comment that its source begins with."""
+    try:
+        return project.purpose(crate).removesuffix(" No code.")
+    except project.Faults as faults:
+        sys.exit("\n".join(faults.lines))
 
 
 # Graphs: for each name the set of those that it uses; and lists of lines, each from a name to one that it uses.
