@@ -25,12 +25,6 @@ def lines(folder, suffix):
     return sum(len(file.read_text().splitlines()) for file in folder.rglob("*" + suffix))
 
 
-def purpose(crate):
-    """The first line of its source."""
-    source = next(file for file in (crate / "src/lib.rt", crate / "src/main.rt") if file.exists())
-    return source.read_text().split("\n")[0].lstrip("/! ").rstrip(".")
-
-
 def counts(crate):
     rounds = project.edit_files(crate.name)
     wrong = sum(len(project.wrong_versions(edit)) for edit in rounds)
@@ -50,7 +44,7 @@ def generated():
         numbers = [*counts(root / "crates" / name), seconds.get(name, 0)]
         totals = [a + b for a, b in zip(totals, numbers)]
         cells = " | ".join(str(n) if n else "" for n in numbers)
-        text += f"| `{name}` | {purpose(root / 'crates' / name)} | {cells} |\n"
+        text += f"| `{name}` | {project.purpose(name).rstrip('.')} | {cells} |\n"
     text += "| all | | " + " | ".join([*(f"{n:,}" for n in totals[:-1]), str(totals[-1])]) + " |\n"
     return {document: text + f"\nLines of proof for each line of code: {totals[3] / totals[1]:.1f}.\n"}
 

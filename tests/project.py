@@ -58,6 +58,17 @@ def code_files(crate="*"):
     return sorted(root.glob(f"crates/{crate}/src/**/*.rt"))
 
 
+def purpose(crate):
+    """What a crate says of itself: the comment on the first line of its source, or right after the line that asks for
+    tactics."""
+    main, lib = (root / "crates" / crate / "src" / name for name in ("main.rt", "lib.rt"))
+    lines = (main if main.exists() else lib).read_text().split("\n")
+    line = lines[0] if lines[0] != "#![tactic(auto)]" else next(filter(None, lines[1:]), "")
+    if not line.startswith("// "):
+        raise Faults(f"crates/{crate}: the source does not begin with a comment")
+    return line[3:]
+
+
 def crate_of(path):
     """The crate of a file under crates/."""
     return path.relative_to(root / "crates").parts[0]
