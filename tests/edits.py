@@ -252,7 +252,7 @@ def try_round(edit_file, copy):
     """The log of a round: what is printed of all its wrong versions at once; then of each that is not refused at a fact
     there, as where the prover waits for the proof of a function that another one has broken."""
     crate, entries = copy / "crates" / project.crate_of(edit_file), project.wrong_versions(edit_file)
-    log = f"{what_of(edit_file)}\n{tried(entries, crate)}"
+    log = tried(entries, crate)
     for entry in entries if len(entries) > 1 else ():
         wrong = Wrong(edit_file, entry)
         wrong.judge(shown(log, entry.label))
@@ -263,13 +263,13 @@ def try_round(edit_file, copy):
 
 def try_rounds(edit_files):
     """Tries rounds, and keeps their logs."""
-    order = list(project.crates())
+    order, whats = list(project.crates()), {file: what_of(file) for file in edit_files}
     with tempfile.TemporaryDirectory() as folder:
         project.copy_crates(pathlib.Path(folder))
         for edit_file in sorted(edit_files, key=lambda file: order.index(project.crate_of(file))):
             log = try_round(edit_file, pathlib.Path(folder))
             log_file(edit_file).parent.mkdir(parents=True, exist_ok=True)
-            log_file(edit_file).write_text(log)
+            log_file(edit_file).write_text(f"{whats[edit_file]}\n{log}")
             print(f"{round_of(edit_file)}: tried", flush=True)
 
 
@@ -292,7 +292,7 @@ def shown(log, label):
 def faults_of_log(edit_file):
     """Whether a part of a round's log does not end with the verdict that the crate is not proved."""
     for entry in project.wrong_versions(edit_file):
-        if not refused.search(shown(log_of(edit_file), entry.label)):
+        if not refused.search(shown(log_of(edit_file) or "", entry.label)):
             yield f"{round_of(edit_file)}: {entry.label}: the check had another verdict than that it is not proved"
 
 

@@ -108,7 +108,7 @@ class Function(namedtuple("Function", "crate module owner name public exported s
 
 def functions_in(text, crate, module):
     """The functions of a code file."""
-    found = list(re.finditer(r'(?m)^(?:impl (\w+)|( *)(pub )?(?:pub\(\w+\) )?(extern "C" )?fn (\w+))', text))
+    found = list(re.finditer(r'(?m)^(?:impl (?:[\w:]+ for )?(\w+)|( *)(pub )?(?:pub\(\w+\) )?(extern "C" )?fn (\w+))', text))
     owner = ""
     for match, end in zip(found, [match.start() for match in found[1:]] + [len(text)]):
         if match[1]:
