@@ -108,8 +108,8 @@ class Function(namedtuple("Function", "crate module owner name public exported s
 
 def functions_in(text, crate, module):
     """The functions of a code file."""
-    found = list(re.finditer(r'(?m)^(?:impl (?:[\w:]+ for )?(\w+)|( *)(pub )?(?:pub\(\w+\) )?(extern "C" )?fn (\w+))', text))
-    owner = ""
+    begins = r'(?m)^(?:impl (?:[\w:]+ for )?(\w+)|( *)(pub )?(?:pub\(\w+\) )?(extern "C" )?fn (\w+))'
+    found, owner = list(re.finditer(begins, text)), ""
     for match, end in zip(found, [match.start() for match in found[1:]] + [len(text)]):
         if match[1]:
             owner = match[1]
