@@ -1,1 +1,1 @@
-mod SameContracts
+pub mod SameContracts
