@@ -52,15 +52,18 @@ module _ (n : ℕ) (l : List ℕ) (h : Array n l) where
       below x j hx hj = rw (← or-shl x j) (or_lt 8 x (2 ^ j) hx (pow-lt {i = j} {j = 8} hj))
 
 -- An id of at most 16 bytes.
-pub id-from-fits : (id : List ℕ) → length id ≤ 16 → Bytes id → IdFits (id_from id)
+pub id-made-fits : (s : List ℕ) → length s ≤ 16 → Bytes s → IdFits (id_from s)
 unfolding id_from
-id-from-fits id short h = record {
+id-made-fits id short h = record {
   bytes = (
     omega (arith, length-append id (replicate (16 - length id) 0), length-replicate {A = ℕ} (16 - length id) 0),
     bytes-append id (replicate (16 - length id) 0) h (zero-bytes (16 - length id)),
   );
   len = omega arith;
 }
+
+pub id-from-fits : (id : List ℕ) → length id ≤ 16 → Bytes id → IdFits (id_from id)
+id-from-fits = id-made-fits
 
 -- The id heard in some bytes.
 pub heard-fits : (bytes : List ℕ) → Bytes bytes → IdFits (shown_heard (hear bytes)).id
@@ -71,6 +74,6 @@ heard-fits bytes h = go (hear bytes) (heard-bytes bytes h)
     go nothing t = no-id-fits
     go (one id) t =
         chosen (λ (x : Hearing). IdFits x.id) (ltb 16 (length id)) _ _ (λ e. no-id-fits)
-        (λ e. id-from-fits id (ltb-false 16 (length id) e) t)
+        (λ e. id-made-fits id (ltb-false 16 (length id) e) t)
     go unaddressed t = no-id-fits
     go garble t = no-id-fits

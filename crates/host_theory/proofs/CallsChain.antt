@@ -31,7 +31,7 @@ use Rattle.host_theory.proofs.NumbersFit.{no-progress}
 use Rattle.host_theory.proofs.RefusedBytes.{kept, unheld, exported-lent}
 use Rattle.host_theory.proofs.BuffersRead.{held-read, held-coded, held-behind}
 use Rattle.host_theory.proofs.ClientFits.{StartedFits, ToldFits, select-fits, deselect-fits, attach-fits}
-use Rattle.host_theory.proofs.ClientFits.{attach-to-fits, discover-fits, info-fits, erase-fits, flash-fits}
+use Rattle.host_theory.proofs.ClientFits.{attach-to-fits, discover-fits, info-fits, erase-fits, flash-starts-fits}
 use Rattle.host_theory.proofs.ClientFits.{reset-fits, set-baud-fits, request-fits, record-fits, failed-fits}
 
 -- The answer of each call fits.
@@ -55,7 +55,7 @@ made-fits c h (start_attach (some bytes)) g l = started-fits _ (attach-to-fits c
 made-fits c h (start_discover given) g l = started-fits _ (discover-fits c h given g)
 made-fits c h start_info g l = started-fits _ (info-fits c h)
 made-fits c h start_erase g l = started-fits _ (erase-fits c h)
-made-fits c h (start_flash image) g l = started-fits _ (flash-fits c h image l)
+made-fits c h (start_flash image) g l = started-fits _ (flash-starts-fits c h image l)
 made-fits c h (start_reset bootloader in_boot) g l = started-fits _ (reset-fits c h bootloader in_boot)
 made-fits c h (start_set_baud baud bootloader in_boot) g l = started-fits _ (set-baud-fits c h baud bootloader in_boot l)
 made-fits c h (request image buffer) g l = started-fits _ (request-fits c h image buffer)

@@ -67,10 +67,10 @@ use Rattle.host_answer.specs.Numbers.{heard_tag, outcome_note, refusal_note, not
 use Rattle.host_state.specs.State.{IdFits, TableFits, WalkFits, Fits}
 use Rattle.host_state.proofs.Laws.{no-id-fits, no-table-fits, no-walk-fits}
 use Rattle.refinement.proofs.client.RequestBytes.{payload-length}
-use Rattle.host_theory.proofs.ByteArrays.{chosen, id-from-fits, heard-fits}
+use Rattle.host_theory.proofs.ByteArrays.{chosen, id-made-fits, heard-fits}
 use Rattle.host_theory.proofs.WalkFits.{standing-fits, step_fits}
 use Rattle.host_theory.proofs.TurnFits.{PhaseFits, TurnFits, JobFits, turn-flat, turn-back}
-use Rattle.host_theory.proofs.NumbersFit.{SaysFits, ProgressFits, no-progress, going-fits, refusing-fits}
+use Rattle.host_theory.proofs.NumbersFit.{SaysFits, ProgressFits, no-progress, going-on-fits, refusing-fits}
 use Rattle.host_theory.proofs.NumbersFit.{bare-fits, end_fits}
 use Rattle.host_theory.proofs.JobsFit.{ThenFits, NextFits, accepted-fits, declined-fits}
 
@@ -81,7 +81,7 @@ pub record StartedFits (s : Started) : Type 0 where
 
 onward-says : SaysFits Says.Onward
 unfolding note_of
-onward-says = going-fits 0 0 (omega arith)
+onward-says = going-on-fits 0 0 (omega arith)
 
 -- A walk that begins under a prefix.
 begin-fits : (x : Id) → IdFits x → WalkFits (begin x)
@@ -153,7 +153,7 @@ module _ (c : Client) (h : Fits c) where
   select-fits bytes bits k =
       chosen StartedFits (ltb 16 (length bytes)) _ _ (λ e. bad-fits)
       (λ e. chosen StartedFits (ltb (8 * length bytes) bits) _ _ (λ f. bad-fits)
-      (λ f. starts-fits (Select Probing) tt (id_from bytes) (id-from-fits bytes (ltb-false 16 (length bytes) e) k) bits
+      (λ f. starts-fits (Select Probing) tt (id_from bytes) (id-made-fits bytes (ltb-false 16 (length bytes) e) k) bits
       (omega (arith, ltb-false 16 (length bytes) e, ltb-false (8 * length bytes) bits f)) no_walk no-walk-fits))
 
   pub deselect-fits : StartedFits (start_deselect c)
@@ -169,14 +169,14 @@ module _ (c : Client) (h : Fits c) where
   attach-to-fits bytes k =
       chosen StartedFits (ltb 16 (length bytes)) _ _ (λ e. bad-fits)
       (λ e. starts-fits (Select (Seeking true)) tt (id_from bytes)
-      (id-from-fits bytes (ltb-false 16 (length bytes) e) k) 0 (omega arith) no_walk no-walk-fits)
+      (id-made-fits bytes (ltb-false 16 (length bytes) e) k) 0 (omega arith) no_walk no-walk-fits)
 
   pub discover-fits : (bytes : List ℕ) → Bytes bytes → StartedFits (start_discover c bytes)
   unfolding start_discover
   discover-fits bytes k =
       chosen StartedFits (ltb 16 (length bytes)) _ _ (λ e. bad-fits)
       (λ e. starts-fits (Select (Walking Asked)) tt no_id no-id-fits 0 (omega arith) (begin (id_from bytes))
-      (begin-fits (id_from bytes) (id-from-fits bytes (ltb-false 16 (length bytes) e) k)))
+      (begin-fits (id_from bytes) (id-made-fits bytes (ltb-false 16 (length bytes) e) k)))
 
   pub info-fits : StartedFits (start_info c)
   unfolding start_info size_of
@@ -186,23 +186,29 @@ module _ (c : Client) (h : Fits c) where
   unfolding start_erase size_of
   erase-fits = demands-fits (Demand (Informing Clear)) (omega arith)
 
-  pub flash-fits : (image : List ℕ) → length image < 2 ^ 64 → StartedFits (start_flash c image)
+  pub flash-starts-fits : (s : List ℕ) → length s < 2 ^ 64 → StartedFits (start_flash c s)
   unfolding start_flash size_of
-  flash-fits image k = demands-fits (Demand (Informing (Load (length image)))) k
+  flash-starts-fits image k = demands-fits (Demand (Informing (Load (length image)))) k
+
+  pub flash-fits : (image : List ℕ) → length image < 2 ^ 64 → StartedFits (start_flash c image)
+  flash-fits = flash-starts-fits
+
+  reset-starts-fits : (r : Reset) (b : Bool) → r.baud < 2 ^ 8 → StartedFits (resets c r b)
+  unfolding resets
+  reset-starts-fits reset in_boot k = chosen StartedFits in_boot _ _ (λ e. demands-fits (Demand (Resetting reset)) k)
+      (λ e. demands-fits (Leave reset) k)
 
   resets-fits : (reset : Reset) (in_boot : Bool) → reset.baud < 2 ^ 8 → StartedFits (resets c reset in_boot)
-  unfolding resets
-  resets-fits reset in_boot k = chosen StartedFits in_boot _ _ (λ e. demands-fits (Demand (Resetting reset)) k)
-      (λ e. demands-fits (Leave reset) k)
+  resets-fits = reset-starts-fits
 
   pub reset-fits : (bootloader in_boot : Bool) → StartedFits (start_reset c bootloader in_boot)
   unfolding start_reset
-  reset-fits bootloader in_boot = resets-fits _ in_boot (omega arith)
+  reset-fits bootloader in_boot = reset-starts-fits _ in_boot (omega arith)
 
   pub set-baud-fits : (baud : ℕ) (bootloader in_boot : Bool) → baud < 256
       → StartedFits (start_set_baud c baud bootloader in_boot)
   unfolding start_set_baud
-  set-baud-fits baud bootloader in_boot k = resets-fits _ in_boot k
+  set-baud-fits baud bootloader in_boot k = reset-starts-fits _ in_boot k
 
 -- Requests: none has a payload of more than 1,024 bytes, whatever the client.
 payload-short : (c : Client) (p : Phase) (image : List ℕ) → length (frame_of c p image).payload ≤ 1024
@@ -226,9 +232,9 @@ frame_small c p image = omega (arith, frame-length (frame_of c p image), payload
 
 handing-fits : (p : Phase) (n : ℕ) → n < 2 ^ 64 → SaysFits (handing p n)
 unfolding handing note_of
-handing-fits (Select s) n k = going-fits 1 n k
-handing-fits (Demand j) n k = going-fits 1 n k
-handing-fits (Leave reset) n k = going-fits 4 n k
+handing-fits (Select s) n k = going-on-fits 1 n k
+handing-fits (Demand j) n k = going-on-fits 1 n k
+handing-fits (Leave reset) n k = going-on-fits 4 n k
 
 module _ (c : Client) (h : Fits c) where
   handed-fits : (p : Phase) → PhaseFits p → Fits (handed c p)
@@ -271,14 +277,18 @@ pub record ToldFits (t : Told) : Type 0 where
   pub found : TableFits t.found
 
 module _ (c : Client) (h : Fits c) where
-  over-fits : (says : Says) → SaysFits says → (x : Id) → IdFits x → (t : Table) → TableFits t
-      → (at : ℕ) → at < 2 ^ 64 → ToldFits (over c says x t at)
+  ended-fits : (says : Says) → SaysFits says → (x : Id) → IdFits x → (t : Table) → TableFits t
+      → (place : ℕ) → place < 2 ^ 64 → ToldFits (over c says x t place)
   unfolding over
-  over-fits says s x i t k at small =
+  ended-fits says s x i t k at small =
       record { client = idle-fits c h; says = s; rest = small; progress = no-progress; id = i; found = k }
 
+  over-fits : (says : Says) → SaysFits says → (x : Id) → IdFits x → (t : Table) → TableFits t
+      → (at : ℕ) → at < 2 ^ 64 → ToldFits (over c says x t at)
+  over-fits = ended-fits
+
   stops-fits : (says : Says) → SaysFits says → (at : ℕ) → at < 2 ^ 64 → ToldFits (stops c says at)
-  stops-fits says s at small = over-fits says s no_id no-id-fits no_table no-table-fits at small
+  stops-fits says s at small = ended-fits says s no_id no-id-fits no_table no-table-fits at small
 
   onward-fits : (p : Phase) → PhaseFits p → (w : Walk) → WalkFits w → (at : ℕ) → at < 2 ^ 64
       → ToldFits (onward c p w at)
@@ -323,20 +333,20 @@ stop-says End.Unaddressed = end_fits 23 5 0 false
 module _ (c : Client) (h : Fits c) (at : ℕ) (small : at < 2 ^ 64) where
   attaches-fits : (any : Bool) (x : Id) → IdFits x → ToldFits (attaches c any x at)
   unfolding attaches note_of outcome_note
-  attaches-fits any x k = over-fits (holding c any x) (holding-fits c h any x k) _
+  attaches-fits any x k = ended-fits (holding c any x) (holding-fits c h any x k) _
       (end_fits 0 2 0 any) x k no_table no-table-fits at small
 
   walked-fits : (g : Goes) (w : Walk) → WalkFits w → ToldFits (walked c g w at)
   unfolding walked note_of outcome_note
   walked-fits (Steps.On p) w v = onward-fits c h (Select (Walking p)) tt w v at small
-  walked-fits Steps.Done w v = over-fits (cleared c) (cleared-fits c h) _ (end_fits 0 3 0 false) no_id no-id-fits
+  walked-fits Steps.Done w v = ended-fits (cleared c) (cleared-fits c h) _ (end_fits 0 3 0 false) no_id no-id-fits
       w.found v.found at small
   walked-fits (Steps.Stopped end) w v = stops-fits c h _ (stop-says end) at small
 
   backed-fits : (given : Bool) → ToldFits (backed c given at)
   unfolding backed note_of refusal_note
   backed-fits given =
-      chosen ToldFits given _ _ (λ e. over-fits (cleared c) (cleared-fits c h) _ (bare-fits _) c.prefix
+      chosen ToldFits given _ _ (λ e. ended-fits (cleared c) (cleared-fits c h) _ (bare-fits _) c.prefix
       h.prefix no_table no-table-fits at small)
       (λ e. stops-fits (cleared c) (cleared-fits c h) _ (bare-fits _) at small)
 
@@ -344,7 +354,7 @@ module _ (c : Client) (h : Fits c) (at : ℕ) (small : at < 2 ^ 64) where
     met-fits : (given : Bool) (d : Heard) → ToldFits (met c given d x at)
     unfolding met note_of refusal_note
     met-fits given Heard.Nothing =
-        chosen ToldFits given _ _ (λ e. over-fits c h _ (bare-fits _) c.prefix
+        chosen ToldFits given _ _ (λ e. ended-fits c h _ (bare-fits _) c.prefix
         h.prefix no_table no-table-fits at small) (λ e. stops-fits c h _ (bare-fits _) at small)
     met-fits given Heard.One = attaches-fits true x k
     met-fits given Heard.TooLong = stops-fits c h _ (bare-fits _) at small
@@ -357,7 +367,7 @@ module _ (c : Client) (h : Fits c) (at : ℕ) (small : at < 2 ^ 64) where
     unfolding probed note_of refusal_note outcome_note
     probed-fits d =
         chosen ToldFits (is_long d) _ _ (λ e. stops-fits c h _ (bare-fits _) at small)
-        (λ e. over-fits c h _ (end_fits 0 1 (heard_tag d) false) x k no_table no-table-fits at small)
+        (λ e. ended-fits c h _ (end_fits 0 1 (heard_tag d) false) x k no_table no-table-fits at small)
 
     hears-fits : (s : Search) (d : Heard) → ToldFits (hears c s d x at)
     unfolding hears note_of outcome_note
@@ -375,9 +385,8 @@ payload-bytes bytes payload end b e =
     (bytes_take (length payload) (drop (end - (2 + length payload)) bytes)
     (bytes_drop (end - (2 + length payload)) bytes b))
 
-status-byte : (bytes : List ℕ) (status end : ℕ) → Bytes bytes
-    → answer bytes ≡ answered (device status) end → status < 256
-status-byte bytes status end b e = go f.right f.frame framed f.says
+status-fits : (s : List ℕ) (status end : ℕ) → Bytes s → answer s ≡ answered (device status) end → status < 256
+status-fits bytes status end b e = go f.right f.frame framed f.says
   where
     f : Found bytes (device status) end
     f = answer-found bytes (device status) end e
@@ -398,6 +407,10 @@ status-byte bytes status end b e = go f.right f.frame framed f.says
         which true q = absurd (let z : ◌≡◌ {A = ℕ} 0 1 = cc in omega arith)
         which false q = let same : x.status ≡ status = cc in omega arith
     go false x k q = let same : ◌≡◌ {A = ℕ} 3 status = cc in omega arith
+
+status-byte : (bytes : List ℕ) (status end : ℕ) → Bytes bytes
+    → answer bytes ≡ answered (device status) end → status < 256
+status-byte = status-fits
 
 module _ (c : Client) (h : Fits c) where
   goes-fits : (n : Next) → NextFits n → (at : ℕ) → at < 2 ^ 64 → ToldFits (goes c n at)
@@ -426,7 +439,7 @@ module _ (c : Client) (h : Fits c) (image bytes : List ℕ) (small : length imag
           (accepted-fits payload image (payload-bytes bytes payload end b e) i small j k) end
           (omega (arith, answer-end bytes (ok payload) end e))
       go (answered (device status) end) e =
-          goes-fits c h (declined j status) (declined-fits status (status-byte bytes status end b e) j k) end
+          goes-fits c h (declined j status) (declined-fits status (status-fits bytes status end b e) j k) end
           (omega (arith, answer-end bytes (device status) end e))
 
   answered-fits : (p : Phase) → PhaseFits p → ToldFits (answered_to c p image bytes)

@@ -78,13 +78,16 @@ abbrev Below : ℕ → Erase → Type 0
 Below c (At a) = a < c
 Below c Done = Unit {0}
 
-after-below : (i : PaperFrame.Info) (a : ℕ) → Below i.capacity (erase_after i a)
-after-below i a = go (dec_lt 0 i.erase_size) (dec_lt (a + i.erase_size) i.capacity)
+next-below : (i : PaperFrame.Info) (address : ℕ) → Below i.capacity (erase_after i address)
+next-below i a = go (dec_lt 0 i.erase_size) (dec_lt (a + i.erase_size) i.capacity)
   where
     go : Dec (0 < i.erase_size) → Dec (a + i.erase_size < i.capacity) → Below i.capacity (erase_after i a)
     go (yes e) (yes l) = subst (Below i.capacity) (next-erase i a (λ z. omega arith) (a + i.erase_size) refl l) l
     go (yes e) (no l) = subst (Below i.capacity) (last-erase i a (λ z. omega arith) (omega arith)) tt
     go (no e) d = subst (Below i.capacity) (still i a (omega arith)) tt
+
+after-below : (i : PaperFrame.Info) (a : ℕ) → Below i.capacity (erase_after i a)
+after-below = next-below
 
 on-erase : (c : ℕ) (e : Erase) → Below c e → (f : ℕ → Next) (g : Next) → ((a : ℕ) → a < c → NextFits (f a))
     → NextFits g → NextFits (on_erase e f g)
@@ -167,7 +170,7 @@ module _ (info : Info) (hi : InfoFits info) where
       → NextFits (erased why info address)
   unfolding erased
   erased-fits why h address k =
-      on-erase info.capacity (erase_after (paper_info info) address) (after-below (paper_info info) address) _ _
+      on-erase info.capacity (erase_after (paper_info info) address) (next-below (paper_info info) address) _ _
       (λ next small. record { progress = made; then = (h, (hi, omega (arith, small, hi.capacity))) })
       (record { progress = made; then = cleared-fits why h })
     where

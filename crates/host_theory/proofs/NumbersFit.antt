@@ -28,9 +28,12 @@ SaysFits says = NoteFits (note_of says)
 abbrev pub ProgressFits : Progress → Type 0
 ProgressFits p = GainFits (gain_of p)
 
-pub going-fits : (says n : ℕ) → n < 2 ^ 64 → NoteFits (going says n)
+pub going-on-fits : (says length : ℕ) → length < 2 ^ 64 → NoteFits (going says length)
 unfolding going
-going-fits says n h = record { length = h; first = omega arith; second = omega arith; info = no-info-fits }
+going-on-fits says n h = record { length = h; first = omega arith; second = omega arith; info = no-info-fits }
+
+pub going-fits : (says n : ℕ) → n < 2 ^ 64 → NoteFits (going says n)
+going-fits = going-on-fits
 
 pub ending-fits : (number outcome heard : ℕ) (any : Bool) (info : Info) → InfoFits info
     → NoteFits (ending number outcome heard any info)

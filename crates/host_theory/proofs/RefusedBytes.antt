@@ -98,9 +98,12 @@ refused-with Onward h = clash false h refl
 refused-with (Over o) h = clash (changes_no_state (outcome_note o).number) h (outcome-number o).0
 refused-with (Refused r) h = (r, (refl, ap changes_no_state (sym (refusal-number r).0) ∙ h))
 
-pub said-number : (says : Says) → code_of says % 256 ≡ (note_of says).number
+note-number : (says : Says) → code_of says % 256 ≡ (note_of says).number
 unfolding code_of
-said-number says = code-number (note_of says).number (note_of says).length (number-byte says)
+note-number says = code-number (note_of says).number (note_of says).length (number-byte says)
+
+pub said-number : (says : Says) → code_of says % 256 ≡ (note_of says).number
+said-number = note-number
 
 -- The client and the request buffer are as before the call.
 abbrev Kept : Client → Call → Type 0
@@ -194,7 +197,7 @@ module _ (s a : List ℕ) where
   unfolding held handed leaves
   held-untouched call h =
       let k : changes_no_state (note_of (made (loaded s) call).told.says).number ≡ true =
-      ap changes_no_state (sym (said-number (made (loaded s) call).told.says)) ∙ h in
+      ap changes_no_state (sym (note-number (made (loaded s) call).told.says)) ∙ h in
       (rw k, (kept (loaded s) call k).1)
 
   pub untouched : (call : Call) → Untouched call (exported s a call)

@@ -23,7 +23,7 @@ use Rattle.walk_step.specs.Steps.{settled, done, tell, step}
 use Rattle.host_state.specs.State.{Array, IdFits, TableFits, WalkFits}
 use Rattle.host_state.proofs.Laws.{no-id-fits, no-walk-fits}
 use Rattle.host_theory.proofs.ByteArrays.{chosen, array-set, array-cut, array-bit}
-use Rattle.host_theory.proofs.TableFits.{keep-fits, sorted-fits}
+use Rattle.host_theory.proofs.TableFits.{kept-fits, rows-sorted-fits}
 
 abbrev NextFits : Next → Type 0
 NextFits n = WalkFits n.walk
@@ -91,7 +91,7 @@ module _ (w : Walk) (h : WalkFits w) where
     kept-fits =
         chosen NextFits (ltb w.found.count 64) _ _
         (λ e. leave_fits (finding w _)
-        (finding-fits w h _ (keep-fits w.found h.found (ltb-true w.found.count 64 e) (record { id = x }) k)))
+        (finding-fits w h _ (kept-fits w.found h.found (ltb-true w.found.count 64 e) (record { id = x }) k)))
         (λ e. no-walk-fits)
 
     confirming-fits : NextFits (confirming w x)
@@ -138,7 +138,7 @@ module _ (w : Walk) (h : WalkFits w) (x : Id) (k : IdFits x) where
   tell-fits Asked d few = hears-fits w h x k d
   tell-fits Mine d few = mine-fits d
   tell-fits (Other good) d few = other_fits good d
-  tell-fits Leaving d few = finding-fits no_walk no-walk-fits _ (sorted-fits w.found h.found few)
+  tell-fits Leaving d few = finding-fits no_walk no-walk-fits _ (rows-sorted-fits w.found h.found few)
 
   pub step_fits : (p : Phase) (d : Heard) → NextFits (step w p d x)
   unfolding step stopped

@@ -59,5 +59,8 @@ within-run (select p f) (next bytes rs) k = omega (arith, within-run (f (hear by
             two : j ≡ suc k + j - suc k
             two = omega arith
 
+pub count-fits : (p : Prefix) (rs : Records) → (over_records (discover p) rs 0).1 < 65536
+count-fits pre rs = omega (arith, within-run (discover pre) rs 0, discover-bound (wire_of rs 0) pre)
+
 pub few-selects : (pre : Prefix) (rs : Records) → (over_records (discover pre) rs 0).1 < 65536
-few-selects pre rs = omega (arith, within-run (discover pre) rs 0, discover-bound (wire_of rs 0) pre)
+few-selects = count-fits

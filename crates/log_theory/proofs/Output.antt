@@ -49,7 +49,7 @@ use Rattle.log_feed.specs.Pieces.{pieces, concat}
 use Rattle.log_theory.specs.WholeTalk.{talk, opened_by, run_of}
 use Rattle.log_theory.proofs.ReadToEnd.{talk-ended}
 use Rattle.log_theory.proofs.WholeInput.{whole-text}
-use Rattle.log_theory.proofs.CountFits.{few-selects}
+use Rattle.log_theory.proofs.CountFits.{count-fits}
 use Rattle.log_theory.proofs.RecordsAreTalk.{numbered, Closed, asked-stands, talks}
 
 -- The answer of a run that has ended.
@@ -148,7 +148,7 @@ module _ (given : Id) (bytes : All (λ b. b < 256) given) (rs : Records) where
       ap (λ (t : Started). text (answer (talk (from t) rs))) (started ∙ ap started_as (short-starts e))
       ∙ closed-text (talk (Run.asked (client_of first) 0) rs) (over_records (discover (bits_of given)) rs 0).0
       (over_records (discover (bits_of given)) rs 0).1
-      (few-selects (bits_of given) rs)
+      (count-fits (bits_of given) rs)
       (rw (resume-start (bits_of given))
       (talks rs (Run.asked (client_of first) 0) (going (starting (bits_of given))) 0
       (asked-stands 0 none (starting (bits_of given)) (first_fits e) 0 0 refl)))

@@ -6,8 +6,11 @@ use borrow.Author.Tests.{lt-ltb, le-ltb, le-leb, lt-leb, eq-eqb, ne_eqb}
 pub cond_yes : {A : Type 0} (b : Bool) (x y r : A) → b ≡ true → r ≡ x → r ≡ cond b x y
 cond_yes b x y r h e = rw h e
 
+pub cond_else : {A : Type 0} (b : Bool) (x y r : A) → b ≡ false → r ≡ y → r ≡ cond b x y
+cond_else b x y r h e = rw h e
+
 pub cond_no : {A : Type 0} (b : Bool) (x y r : A) → b ≡ false → r ≡ y → r ≡ cond b x y
-cond_no b x y r h e = rw h e
+cond_no = cond_else
 
 pub and_yes : (a b : Bool) → a ≡ true → b ≡ true → (a && b) ≡ true
 and_yes a b h k = rw (h, k)
@@ -21,7 +24,7 @@ and-not-right false b h = refl
 
 pub ruleset ways = (
   cond_yes,
-  cond_no,
+  cond_else,
   and_yes,
   and-not-left,
   and-not-right,

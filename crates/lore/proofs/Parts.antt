@@ -19,17 +19,20 @@ part-between (suc a) zero xs = rw (zero-sub (suc a))
 part-between (suc a) (suc n) [] = take_all (suc n - suc a) [] (omega arith)
 part-between (suc a) (suc n) (x ∷ xs) = rw (suc-sub-suc n a) (part-between a n xs)
 
-pub mid-all : (a : ℕ) (xs ys : List ℕ) → put_mid a (length xs - a) xs ys ≡ take a xs ++ ys
-mid-all a xs ys =
+mid-rest : (at : ℕ) (b d : List ℕ) → put_mid at (length b - at) b d ≡ take at b ++ d
+mid-rest a xs ys =
     ap (λ (r : List ℕ). take a xs ++ (ys ++ r))
     (drop_of_length-le (drop a xs) {i = length xs - a} (omega (arith, length-drop a xs)))
     ∙ ap (λ (r : List ℕ). take a xs ++ r) (append-nil ys)
+
+pub mid-all : (a : ℕ) (xs ys : List ℕ) → put_mid a (length xs - a) xs ys ≡ take a xs ++ ys
+mid-all = mid-rest
 
 -- A list written to the front of such a part.
 pub put-part : (at : ℕ) (s b d : List ℕ) → d ≡ s ++ drop (length s) (take (length b - at) (drop at b))
     → put_mid at (length b - at) b d ≡ take at b ++ s ++ drop (at + length s) b
 put-part at s b d e =
-    mid-all at b d
+    mid-rest at b d
     ∙ ap (λ (r : List ℕ). take at b ++ r)
     (e ∙ ap (λ (r : List ℕ). s ++ drop (length s) r) (part-all at b)
     ∙ ap (λ (r : List ℕ). s ++ r) (drop-drop (length s) at b))

@@ -50,10 +50,13 @@ swap-sums a b c d = sym (together (bit_xor a b) c d) ∙ ap (λ (x : ℕ). bit_x
     together : (a b c : ℕ) → bit_xor (bit_xor a b) c ≡ bit_xor a (bit_xor b c)
     together a b c = ap (λ (x : ℕ). bit_xor x c) (xor_comm a b) ∙ xor-swap b a c ∙ xor_comm (bit_xor b c) a
 
-pub xor-back : (a b : ℕ) → bit_xor (bit_xor a b) b ≡ a
-xor-back a b =
+xor-twice : (a b : ℕ) → bit_xor (bit_xor a b) b ≡ a
+xor-twice a b =
     ap (bit_xor (bit_xor a b)) (sym (xor_zero_l b)) ∙ swap-sums a b 0 b
     ∙ ap₂ bit_xor (xor_zero_r a) (xor_self b) ∙ xor_zero_r a
 
+pub xor-back : (a b : ℕ) → bit_xor (bit_xor a b) b ≡ a
+xor-back = xor-twice
+
 pub xor_same : (a b c : ℕ) → bit_xor a c ≡ bit_xor b c → a ≡ b
-xor_same a b c e = sym (xor-back a c) ∙ ap (λ (x : ℕ). bit_xor x c) e ∙ xor-back b c
+xor_same a b c e = sym (xor-twice a c) ∙ ap (λ (x : ℕ). bit_xor x c) e ∙ xor-twice b c

@@ -55,9 +55,9 @@ le-number (b ∷ bs) h = ap₂ ◌∷◌ (low b (number bs) h.0)
     high b n h = omega arith
 
 -- A field is its first byte, then the field after it.
-pub field-suc : (at k : ℕ) (s : List ℕ) → field at (suc k) s ≡ get_or s at 0 + 256 * field (at + 1) k s
+field-next : (at k : ℕ) (s : List ℕ) → field at (suc k) s ≡ get_or s at 0 + 256 * field (at + 1) k s
 unfolding number
-field-suc at k s = go (dec_lt at (length s))
+field-next at k s = go (dec_lt at (length s))
   where
     go : Dec (at < length s) → field at (suc k) s ≡ get_or s at 0 + 256 * field (at + 1) k s
     go (yes h) = rw (drop-cons s at 0 h, add-one at)
@@ -71,6 +71,9 @@ field-suc at k s = go (dec_lt at (length s))
           take-nil k,
         ) (omega arith)
 
+pub field-suc : (at k : ℕ) (s : List ℕ) → field at (suc k) s ≡ get_or s at 0 + 256 * field (at + 1) k s
+field-suc = field-next
+
 pub field-none : (at : ℕ) (s : List ℕ) → field at 0 s ≡ 0
 unfolding number
 field-none at s = refl
@@ -81,9 +84,9 @@ field-add zero k at s = rw (field-none at s, add-zero at, zero-add k) (omega ari
 field-add (suc j) k at s =
     rw (
       suc-add j k,
-      field-suc at (j + k) s,
+      field-next at (j + k) s,
       field-add j k (at + 1) s,
-      field-suc at j s,
+      field-next at j s,
       next at j,
       pow-suc 256 j,
       mul_assoc (256 ^ j) 256 (field (at + suc j) k s),
@@ -95,7 +98,7 @@ field-add (suc j) k at s =
 
 -- The same for 2, 4 and 8 bytes, from the values that the code reads.
 pub field-2 : (s : List ℕ) (at a b : ℕ) → a ≡ get_or s at 0 → b ≡ get_or s (at + 1) 0 → a + 256 * b ≡ field at 2 s
-field-2 s at a b ea eb = rw (field-suc at 1 s, field-suc (at + 1) 0 s, field-none (at + 1 + 1) s, ← ea, ← eb)
+field-2 s at a b ea eb = rw (field-next at 1 s, field-next (at + 1) 0 s, field-none (at + 1 + 1) s, ← ea, ← eb)
     (omega arith)
 
 pub field-4 : (s : List ℕ) (at a b c d : ℕ) → a ≡ get_or s at 0 → b ≡ get_or s (at + 1) 0 → c ≡ get_or s (at + 2) 0
@@ -105,7 +108,7 @@ field-4 s at a b c d ea eb ec ed =
     let low : a + 256 * b ≡ field at 2 s = field-2 s at a b ea eb in
     let high : c + 256 * d ≡ field (at + 2) 2 s =
     field-2 s (at + 2) c d ec (ed ∙ ap (λ (i : ℕ). get_or s i 0) (plus at)) in
-    rw (field-suc at 3 s, field-suc (at + 1) 2 s, ← ea, ← eb, one at, ← high) (omega arith)
+    rw (field-next at 3 s, field-next (at + 1) 2 s, ← ea, ← eb, one at, ← high) (omega arith)
   where
     plus : (at : ℕ) → at + 3 ≡ at + 2 + 1
     plus at = omega arith

@@ -42,10 +42,13 @@ module _ (f : Frame) (h : Fits f) where
       le-length 2 (check (frame_body f)),
     )
 
-    pub old-read : read (old_bytes f ++ more) ≡ bad_check 0 f
-    old-read =
+    old-spoilt : read (old_bytes f ++ more) ≡ bad_check 0 f
+    old-spoilt =
         read-checked f h (check (frame_body f)) (check-fits (frame_body f) (body_bytes f h)) more false
         (ne_eqb (frame_check (frame_body f)) (check (frame_body f)) apart)
+
+    pub old-read : read (old_bytes f ++ more) ≡ bad_check 0 f
+    old-read = old-spoilt
 
     pub old-heard : hear (old_bytes f ++ more) ≡ garble
     unfolding hear clean
@@ -54,7 +57,7 @@ module _ (f : Frame) (h : Fits f) where
         go : (n : ℕ) → length (old_bytes f ++ more) ≡ n
             → on_some (frames n (old_bytes f ++ more)) garble (λ fs. replies_heard (replies fs)) ≡ garble
         go zero e = absurd (omega (arith, old-long))
-        go (suc n) e = rw (frames-first n (old_bytes f ++ more) (omega (arith, old-long)), old-read)
+        go (suc n) e = rw (frames-first n (old_bytes f ++ more) (omega (arith, old-long)), old-spoilt)
 
     pub old-answered : (f.status ≡ 0 → ⊥) → answer (old_bytes f ++ more) ≡ answered (device status-CrcMismatch) (size f)
     unfolding answer answer_from
@@ -63,4 +66,4 @@ module _ (f : Frame) (h : Fits f) where
         go : (n : ℕ) → length (old_bytes f ++ more) ≡ n
             → answer_from n 0 (old_bytes f ++ more) ≡ answered (device status-CrcMismatch) (size f)
         go zero e = absurd (omega (arith, old-long))
-        go (suc n) e = rw (old-read, ne_eqb f.status 0 z) (ap (answered (device status-CrcMismatch)) (omega arith))
+        go (suc n) e = rw (old-spoilt, ne_eqb f.status 0 z) (ap (answered (device status-CrcMismatch)) (omega arith))
