@@ -35,10 +35,13 @@ else counts as none.
 """
 import functools
 import hashlib
+import os
 import pathlib
+import queue
 import re
 import subprocess
 import tempfile
+from concurrent.futures import ThreadPoolExecutor
 
 import project
 from project import Faults, root
@@ -262,15 +265,29 @@ def try_round(edit_file, copy):
 
 
 def try_rounds(edit_files):
-    """Tries rounds, and keeps their logs."""
+    """Tries rounds, the lowest crates first, and keeps their logs. A check takes two processors, so there are half as
+    many copies as processors."""
     order, whats = list(project.crates()), {file: what_of(file) for file in edit_files}
-    with tempfile.TemporaryDirectory() as folder:
-        project.copy_crates(pathlib.Path(folder))
-        for edit_file in sorted(edit_files, key=lambda file: order.index(project.crate_of(file))):
-            log = try_round(edit_file, pathlib.Path(folder))
+    many = min(max(os.cpu_count() // 2, 1), len(edit_files))
+    with tempfile.TemporaryDirectory() as folder, ThreadPoolExecutor(many) as pool:
+        free = queue.Queue()
+        for number in range(many):
+            copy = pathlib.Path(folder) / str(number)
+            copy.mkdir()
+            project.copy_crates(copy)
+            free.put(copy)
+
+        def work(edit_file):
+            copy = free.get()
+            try:
+                log = try_round(edit_file, copy)
+            finally:
+                free.put(copy)
             log_file(edit_file).parent.mkdir(parents=True, exist_ok=True)
             log_file(edit_file).write_text(f"{whats[edit_file]}\n{log}")
             print(f"{round_of(edit_file)}: tried", flush=True)
+
+        list(pool.map(work, sorted(edit_files, key=lambda file: order.index(project.crate_of(file)))))
 
 
 def try_all(edit_files, anew):
