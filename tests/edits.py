@@ -216,8 +216,8 @@ def tried(entries, crate):
             before.setdefault(file, text)
             (crate / file).write_text(text.replace(old, new))
     printed = project.check(crate)[1]
-    files = {file for file, _, _ in error.findall(printed) if pathlib.PurePath(file).name == "Answers.antt"}
-    texts = {file: (crate / file).read_text() for file in files}
+    files = {file for file, _, _ in error.findall(printed) if re.fullmatch(r"proofs/.+/Answers\.antt", file)}
+    texts = {file: (crate / file).read_text() for file in files if (crate / file).exists()}
     followed = {file: renamed(text, stale_in(printed, file)) for file, text in texts.items()}
     if followed != texts:
         before = {**texts, **before}
