@@ -354,7 +354,7 @@ class File:
         elif words[0] == "unfolding":
             return
         elif words[0] == "use":
-            self.use(read, text)
+            self.use(read, text.removeprefix("pub "))
         elif words[0] in ("infixl", "infixr"):
             self.fixity[words[2]] = (words[0][-1], int(words[1]))
         elif words[0] in ("data", "record"):

@@ -104,8 +104,8 @@ class File:
                 inner = next(k for k in range(end, j) if is_code(self.source[k]))
                 module = (range(i + 1, end + 1), self.words(i, end)[2:-1])
                 self.block(end, j, column(self.source[inner]), outer + [module])
-            elif text.startswith("use "):
-                self.use(text, i + 1)
+            elif text.startswith(("use ", "pub use ")):
+                self.use(text.removeprefix("pub "), i + 1)
             elif not re.match(r"(?:pub )?(?:mod|ruleset) |infix|unfolding ", text):
                 self.item(self.words(i, j), set(range(i + 1, j + 1)), outer)
 
@@ -208,7 +208,10 @@ def meaning(module, name):
     if (folder, steps[0]) == ("specs", "contracts") and is_function(crate, tuple(steps[1:])):
         return Kit(module, name)  # a function's contract, as the checker makes it of the code
     path = root.joinpath("crates", crate, folder, *steps[:-1], f"{steps[-1]}.antt")
-    return file(path).known.get(name) if path.exists() else None
+    if not path.exists():
+        return None
+    f = file(path)
+    return meaning(*f.imports[name]) if name in f.imports and name not in f.known else f.known.get(name)
 
 
 def is_function(crate, path):

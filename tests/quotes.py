@@ -18,7 +18,7 @@ from project import Faults, root
 sources = {"01": project.documents / "01-scope.md", "02": project.documents / "02-change-requests.md"}
 withdrawn = {"W-202": "A5 included"}  # words of document 01 that a request of document 02 takes back
 quoted = re.compile(r'(?:(W-\d+): )?"([^"]+)"')
-definition = re.compile(r"(?:unfoldable |abbrev )?pub (?:data |record )?(?!mod )(\S+)")
+definition = re.compile(r"(?:unfoldable |abbrev )?pub (?:data |record )?(?!mod |use )(\S+)")
 
 
 def joined(text):
