@@ -32,14 +32,14 @@ put-fits t h i small x k = record {
   count = h.count;
 }
 
-pub kept-fits : (k : Table) → TableFits k → k.count < 64 → (x : Entry) → IdFits x.id → TableFits (keep k x)
+pub row-kept-fits : (k : Table) → TableFits k → k.count < 64 → (x : Entry) → IdFits x.id → TableFits (keep k x)
 unfolding keep
-kept-fits t h small x k =
+row-kept-fits t h small x k =
     let p : TableFits (put t t.count x) = put-fits t h t.count small x k in
     record { ids = p.ids; lens = p.lens; count = omega arith }
 
 pub keep-fits : (t : Table) → TableFits t → t.count < 64 → (x : Entry) → IdFits x.id → TableFits (keep t x)
-keep-fits = kept-fits
+keep-fits = row-kept-fits
 
 row_fits : (t : Table) → TableFits t → (i : ℕ) → i < 64 → RowFits (row t i)
 unfolding row

@@ -23,7 +23,7 @@ use Rattle.walk_step.specs.Steps.{settled, done, tell, step}
 use Rattle.host_state.specs.State.{Array, IdFits, TableFits, WalkFits}
 use Rattle.host_state.proofs.Laws.{no-id-fits, no-walk-fits}
 use Rattle.host_theory.proofs.ByteArrays.{chosen, array-set, array-cut, array-bit}
-use Rattle.host_theory.proofs.TableFits.{kept-fits, rows-sorted-fits}
+use Rattle.host_theory.proofs.TableFits.{row-kept-fits, rows-sorted-fits}
 
 abbrev NextFits : Next → Type 0
 NextFits n = WalkFits n.walk
@@ -91,7 +91,7 @@ module _ (w : Walk) (h : WalkFits w) where
     kept-fits =
         chosen NextFits (ltb w.found.count 64) _ _
         (λ e. leave_fits (finding w _)
-        (finding-fits w h _ (kept-fits w.found h.found (ltb-true w.found.count 64 e) (record { id = x }) k)))
+        (finding-fits w h _ (row-kept-fits w.found h.found (ltb-true w.found.count 64 e) (record { id = x }) k)))
         (λ e. no-walk-fits)
 
     confirming-fits : NextFits (confirming w x)
