@@ -63,7 +63,14 @@ id-made-fits id short h = record {
 }
 
 pub id-from-fits : (id : List ℕ) → length id ≤ 16 → Bytes id → IdFits (id_from id)
-id-from-fits = id-made-fits
+unfolding id_from
+id-from-fits id short h = record {
+  bytes = (
+    omega (arith, length-append id (replicate (16 - length id) 0), length-replicate {A = ℕ} (16 - length id) 0),
+    bytes-append id (replicate (16 - length id) 0) h (zero-bytes (16 - length id)),
+  );
+  len = omega arith;
+}
 
 -- The id heard in some bytes.
 pub heard-fits : (bytes : List ℕ) → Bytes bytes → IdFits (shown_heard (hear bytes)).id

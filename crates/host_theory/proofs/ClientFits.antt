@@ -191,7 +191,8 @@ module _ (c : Client) (h : Fits c) where
   flash-starts-fits image k = demands-fits (Demand (Informing (Load (length image)))) k
 
   pub flash-fits : (image : List ℕ) → length image < 2 ^ 64 → StartedFits (start_flash c image)
-  flash-fits = flash-starts-fits
+  unfolding start_flash size_of
+  flash-fits image k = demands-fits (Demand (Informing (Load (length image)))) k
 
   reset-starts-fits : (r : Reset) (b : Bool) → r.baud < 2 ^ 8 → StartedFits (resets c r b)
   unfolding resets
@@ -199,7 +200,9 @@ module _ (c : Client) (h : Fits c) where
       (λ e. demands-fits (Leave reset) k)
 
   resets-fits : (reset : Reset) (in_boot : Bool) → reset.baud < 2 ^ 8 → StartedFits (resets c reset in_boot)
-  resets-fits = reset-starts-fits
+  unfolding resets
+  resets-fits reset in_boot k = chosen StartedFits in_boot _ _ (λ e. demands-fits (Demand (Resetting reset)) k)
+      (λ e. demands-fits (Leave reset) k)
 
   pub reset-fits : (bootloader in_boot : Bool) → StartedFits (start_reset c bootloader in_boot)
   unfolding start_reset
@@ -285,7 +288,9 @@ module _ (c : Client) (h : Fits c) where
 
   over-fits : (says : Says) → SaysFits says → (x : Id) → IdFits x → (t : Table) → TableFits t
       → (at : ℕ) → at < 2 ^ 64 → ToldFits (over c says x t at)
-  over-fits = ended-fits
+  unfolding over
+  over-fits says s x i t k at small =
+      record { client = idle-fits c h; says = s; rest = small; progress = no-progress; id = i; found = k }
 
   stops-fits : (says : Says) → SaysFits says → (at : ℕ) → at < 2 ^ 64 → ToldFits (stops c says at)
   stops-fits says s at small = ended-fits says s no_id no-id-fits no_table no-table-fits at small
@@ -410,7 +415,27 @@ status-fits bytes status end b e = go f.right f.frame framed f.says
 
 status-byte : (bytes : List ℕ) (status end : ℕ) → Bytes bytes
     → answer bytes ≡ answered (device status) end → status < 256
-status-byte = status-fits
+status-byte bytes status end b e = go f.right f.frame framed f.says
+  where
+    f : Found bytes (device status) end
+    f = answer-found bytes (device status) end e
+
+    known : Read (drop f.from bytes) f.skip f.frame f.right
+    known = read_known _ _ _ _ f.reads
+
+    framed : f.frame.status < 256
+    framed =
+        subst (λ (n : ℕ). n < 256) (sym (ap (λ (x : Frame). x.status) known.frame))
+        (byte-below (drop f.skip (drop f.from bytes)) 2
+        (bytes_drop f.skip (drop f.from bytes) (bytes_drop f.from bytes b)))
+
+    go : (right : Bool) (x : Frame) → x.status < 256 → said_by right x ≡ device status → status < 256
+    go true x k q = which (eqb x.status 1) q
+      where
+        which : (b : Bool) → cond b (ok x.payload) (device x.status) ≡ device status → status < 256
+        which true q = absurd (let z : ◌≡◌ {A = ℕ} 0 1 = cc in omega arith)
+        which false q = let same : x.status ≡ status = cc in omega arith
+    go false x k q = let same : ◌≡◌ {A = ℕ} 3 status = cc in omega arith
 
 module _ (c : Client) (h : Fits c) where
   goes-fits : (n : Next) → NextFits n → (at : ℕ) → at < 2 ^ 64 → ToldFits (goes c n at)

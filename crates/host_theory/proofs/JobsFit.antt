@@ -87,7 +87,12 @@ next-below i a = go (dec_lt 0 i.erase_size) (dec_lt (a + i.erase_size) i.capacit
     go (no e) d = subst (Below i.capacity) (still i a (omega arith)) tt
 
 after-below : (i : PaperFrame.Info) (a : ℕ) → Below i.capacity (erase_after i a)
-after-below = next-below
+after-below i a = go (dec_lt 0 i.erase_size) (dec_lt (a + i.erase_size) i.capacity)
+  where
+    go : Dec (0 < i.erase_size) → Dec (a + i.erase_size < i.capacity) → Below i.capacity (erase_after i a)
+    go (yes e) (yes l) = subst (Below i.capacity) (next-erase i a (λ z. omega arith) (a + i.erase_size) refl l) l
+    go (yes e) (no l) = subst (Below i.capacity) (last-erase i a (λ z. omega arith) (omega arith)) tt
+    go (no e) d = subst (Below i.capacity) (still i a (omega arith)) tt
 
 on-erase : (c : ℕ) (e : Erase) → Below c e → (f : ℕ → Next) (g : Next) → ((a : ℕ) → a < c → NextFits (f a))
     → NextFits g → NextFits (on_erase e f g)

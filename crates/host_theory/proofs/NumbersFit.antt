@@ -33,7 +33,8 @@ unfolding going
 going-on-fits says n h = record { length = h; first = omega arith; second = omega arith; info = no-info-fits }
 
 pub going-fits : (says n : ℕ) → n < 2 ^ 64 → NoteFits (going says n)
-going-fits = going-on-fits
+unfolding going
+going-fits says n h = record { length = h; first = omega arith; second = omega arith; info = no-info-fits }
 
 pub ending-fits : (number outcome heard : ℕ) (any : Bool) (info : Info) → InfoFits info
     → NoteFits (ending number outcome heard any info)

@@ -103,7 +103,8 @@ unfolding code_of
 note-number says = code-number (note_of says).number (note_of says).length (number-byte says)
 
 pub said-number : (says : Says) → code_of says % 256 ≡ (note_of says).number
-said-number = note-number
+unfolding code_of
+said-number says = code-number (note_of says).number (note_of says).length (number-byte says)
 
 -- The client and the request buffer are as before the call.
 abbrev Kept : Client → Call → Type 0

@@ -39,7 +39,10 @@ row-kept-fits t h small x k =
     record { ids = p.ids; lens = p.lens; count = omega arith }
 
 pub keep-fits : (t : Table) → TableFits t → t.count < 64 → (x : Entry) → IdFits x.id → TableFits (keep t x)
-keep-fits = row-kept-fits
+unfolding keep
+keep-fits t h small x k =
+    let p : TableFits (put t t.count x) = put-fits t h t.count small x k in
+    record { ids = p.ids; lens = p.lens; count = omega arith }
 
 row_fits : (t : Table) → TableFits t → (i : ℕ) → i < 64 → RowFits (row t i)
 unfolding row
@@ -87,4 +90,10 @@ rows-sorted-fits t h few =
     (omega (arith, (sort-whole (rows t 0 t.count) ws).0, rows-length t.count t 0))
 
 pub sorted-fits : (t : Table) → TableFits t → t.count ≤ 64 → TableFits (sorted t)
-sorted-fits = rows-sorted-fits
+unfolding sorted
+sorted-fits t h few =
+    let ws : All Whole (rows t 0 t.count) =
+    rows_whole t.count t (sized_of t h.ids.0 h.lens.0) 0 (omega arith) in
+    puts-fit (sort_rows (rows t 0 t.count)) t h
+    (sort-fits (rows t 0 t.count) (rows_fit t.count t h 0 (omega arith))) 0
+    (omega (arith, (sort-whole (rows t 0 t.count) ws).0, rows-length t.count t 0))

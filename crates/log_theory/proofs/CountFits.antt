@@ -63,4 +63,4 @@ pub count-fits : (p : Prefix) (rs : Records) → (over_records (discover p) rs 0
 count-fits pre rs = omega (arith, within-run (discover pre) rs 0, discover-bound (wire_of rs 0) pre)
 
 pub few-selects : (pre : Prefix) (rs : Records) → (over_records (discover pre) rs 0).1 < 65536
-few-selects = count-fits
+few-selects pre rs = omega (arith, within-run (discover pre) rs 0, discover-bound (wire_of rs 0) pre)

@@ -10,7 +10,7 @@ pub cond_else : {A : Type 0} (b : Bool) (x y r : A) → b ≡ false → r ≡ y 
 cond_else b x y r h e = rw h e
 
 pub cond_no : {A : Type 0} (b : Bool) (x y r : A) → b ≡ false → r ≡ y → r ≡ cond b x y
-cond_no = cond_else
+cond_no b x y r h e = rw h e
 
 pub and_yes : (a b : Bool) → a ≡ true → b ≡ true → (a && b) ≡ true
 and_yes a b h k = rw (h, k)

@@ -22,7 +22,10 @@ module _ (s d l : List ℕ) (i : ℕ) (e : l ≡ take i s ++ drop i d) where
       same i s h k = omega arith
 
   pub copy_done : i ≤ length s → length s ≤ i → l ≡ s ++ drop (length s) d
-  copy_done = copy_ended
+  copy_done h k = rw (← same i s h k, take-length s) at e
+    where
+      same : (i : ℕ) (s : List ℕ) → i ≤ length s → length s ≤ i → length s ≡ i
+      same i s h k = omega arith
 
 -- A fill: the source is one value, repeated.
 module _ (n v : ℕ) (d l : List ℕ) (i : ℕ) (e : l ≡ take i (replicate n v) ++ drop i d) where

@@ -26,7 +26,10 @@ mid-rest a xs ys =
     ∙ ap (λ (r : List ℕ). take a xs ++ r) (append-nil ys)
 
 pub mid-all : (a : ℕ) (xs ys : List ℕ) → put_mid a (length xs - a) xs ys ≡ take a xs ++ ys
-mid-all = mid-rest
+mid-all a xs ys =
+    ap (λ (r : List ℕ). take a xs ++ (ys ++ r))
+    (drop_of_length-le (drop a xs) {i = length xs - a} (omega (arith, length-drop a xs)))
+    ∙ ap (λ (r : List ℕ). take a xs ++ r) (append-nil ys)
 
 -- A list written to the front of such a part.
 pub put-part : (at : ℕ) (s b d : List ℕ) → d ≡ s ++ drop (length s) (take (length b - at) (drop at b))

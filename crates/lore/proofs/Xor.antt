@@ -56,7 +56,9 @@ xor-twice a b =
     ∙ ap₂ bit_xor (xor_zero_r a) (xor_self b) ∙ xor_zero_r a
 
 pub xor-back : (a b : ℕ) → bit_xor (bit_xor a b) b ≡ a
-xor-back = xor-twice
+xor-back a b =
+    ap (bit_xor (bit_xor a b)) (sym (xor_zero_l b)) ∙ swap-sums a b 0 b
+    ∙ ap₂ bit_xor (xor_zero_r a) (xor_self b) ∙ xor_zero_r a
 
 pub xor_same : (a b c : ℕ) → bit_xor a c ≡ bit_xor b c → a ≡ b
 xor_same a b c e = sym (xor-twice a c) ∙ ap (λ (x : ℕ). bit_xor x c) e ∙ xor-twice b c

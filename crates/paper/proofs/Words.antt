@@ -72,7 +72,20 @@ field-next at k s = go (dec_lt at (length s))
         ) (omega arith)
 
 pub field-suc : (at k : ℕ) (s : List ℕ) → field at (suc k) s ≡ get_or s at 0 + 256 * field (at + 1) k s
-field-suc = field-next
+unfolding number
+field-suc at k s = go (dec_lt at (length s))
+  where
+    go : Dec (at < length s) → field at (suc k) s ≡ get_or s at 0 + 256 * field (at + 1) k s
+    go (yes h) = rw (drop-cons s at 0 h, add-one at)
+    go (no h) =
+        let past : length s ≤ at = omega arith in
+        rw (
+          drop_of_length-le s {i = at} past,
+          drop_of_length-le s {i = at + 1} (omega arith),
+          get_or-eq_default s 0
+              {n = at} past,
+          take-nil k,
+        ) (omega arith)
 
 pub field-none : (at : ℕ) (s : List ℕ) → field at 0 s ≡ 0
 unfolding number

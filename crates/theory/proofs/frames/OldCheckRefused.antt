@@ -48,7 +48,9 @@ module _ (f : Frame) (h : Fits f) where
         (ne_eqb (frame_check (frame_body f)) (check (frame_body f)) apart)
 
     pub old-read : read (old_bytes f ++ more) ≡ bad_check 0 f
-    old-read = old-spoilt
+    old-read =
+        read-checked f h (check (frame_body f)) (check-fits (frame_body f) (body_bytes f h)) more false
+        (ne_eqb (frame_check (frame_body f)) (check (frame_body f)) apart)
 
     pub old-heard : hear (old_bytes f ++ more) ≡ garble
     unfolding hear clean
