@@ -16,14 +16,12 @@ pub fn low_bits(x: u8, j: usize) -> u8
 }
 
 // Clears bit k and the bits above it in the same byte; other bytes stay as they are.
-pub fn cut(bytes: [u8; MAX_BYTES], k: usize) -> [u8; MAX_BYTES]
+pub fn cut(mut bytes: [u8; MAX_BYTES], k: usize) -> [u8; MAX_BYTES]
     requires { k < 128 }
     ensures { result ≡ cut bytes k }
 {
-    let mut out = bytes;
-    let i = k / 8;
-    out[i] = low_bits(out[i], k % 8);
-    out
+    bytes[k / 8] = low_bits(bytes[k / 8], k % 8);
+    bytes
 }
 
 // Whether bit k is the same in both.
@@ -31,9 +29,7 @@ pub fn agree(x: [u8; MAX_BYTES], y: [u8; MAX_BYTES], k: usize) -> bool
     requires { k < 128 }
     ensures { result ≡ beq (bit x k) (bit y k) }
 {
-    let a = crate::bit_at(x, k);
-    let b = crate::bit_at(y, k);
-    a == b
+    crate::bit_at(x, k) == crate::bit_at(y, k)
 }
 
 // Whether the id begins with the first `bits` bits of the path.
@@ -41,19 +37,5 @@ pub fn begins(id: Id, path: [u8; MAX_BYTES], bits: usize) -> bool
     requires { bits ≤ 128 }
     ensures { result ≡ begins (take bits (bits_of path)) (bits_of (id_of id)) }
 {
-    let n = id.size();
-    let x = id.bytes;
-    let mut k = 0;
-    loop {
-        if bits <= k {
-            return true;
-        }
-        if 8 * n <= k {
-            return false;
-        }
-        if !agree(path, x, k) {
-            return false;
-        }
-        k += 1;
-    }
+    (0..bits).all(|k| k < 8 * id.size() && agree(path, id.bytes, k))
 }

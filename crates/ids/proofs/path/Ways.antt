@@ -1,62 +1,57 @@
 -- Lemmas for `ids::path::begins`, which compares an id with the first bits of a path.
-use Prim.Native.Nat.{ℕ, suc, ◌+◌, ◌*◌, ◌<◌, ◌≤◌}
-use mathlib.Core.Bool.{Bool, true, false, not, beq}
+use Prim.Native.Nat.{ℕ, zero, suc, ◌+◌, ◌*◌, ◌<◌, ◌≤◌}
+use mathlib.Core.Bool.{Bool, false, beq, ◌&&◌}
 use mathlib.Core.List.{List, ◌∷◌}
 use mathlib.Core.Path.{◌≡◌, refl, sym, ◌∙◌, ap}
+use native.Mathlib.Decide.{dec_lt}
 use native.Mathlib.Numerals.{add-one}
 use native.Mathlib.Omega.{arith}
+use lib.Dec.{ltb}
 use lib.ListN.{length, take, drop, length-take, drop_of_length-le}
 use lib.Seq.{drop-cons, get_or-take}
-use borrow.Author.Tests.{not-true, not-false}
+use borrow.Author.Tests.{lt-ltb, le-ltb}
+use Rattle.std.specs.List.{list_all, range_with_len}
 use Rattle.paper.specs.Hearing.{bit, bits_of, begins}
 use Rattle.paper.proofs.Bits.{bits-length, bits_at}
-use Rattle.ids.proofs.Ways.{sized, bit_in}
+use Rattle.ids.proofs.Ways.{bit_in}
 
-module _ (path x : List ℕ) (bits n k : ℕ) (plong : length path ≡ 16) (xlong : length x ≡ 16) (pb : bits ≤ 128)
-    (xn : n ≤ 16) where
+-- Whether an id of `size` bytes, with zeros or others after them, has bit k of the path.
+abbrev pub has_bit : List ℕ → List ℕ → ℕ → ℕ → Bool
+has_bit path x size k = ltb k (8 * size) && beq (bit path k) (bit x k)
+
+module _ (path x : List ℕ) (bits len : ℕ) (long : length path ≡ 16) (few : bits ≤ 128) where
   -- The bits from k on, as bit k and those after it: of the path, and of the id.
-  at_path : k < bits → drop k (take bits (bits_of path)) ≡ bit path k ∷ drop (k + 1) (take bits (bits_of path))
-  at_path h =
+  at_path : (k : ℕ) → k < bits → drop k (take bits (bits_of path)) ≡ bit path k ∷ drop (k + 1) (take bits (bits_of path))
+  at_path k h =
       rw (add-one k)
       (drop-cons (take bits (bits_of path)) k false (omega (arith, length-take bits (bits_of path), bits-length path))
       ∙ ap (λ (v : Bool). v ∷ drop (suc k) (take bits (bits_of path)))
       (get_or-take bits (bits_of path) k false h ∙ bits_at path k (omega arith)))
 
-  at-id : k < 8 * n → drop k (bits_of (take n x)) ≡ bit x k ∷ drop (k + 1) (bits_of (take n x))
-  at-id h =
+  at-id : (k : ℕ) → k < 8 * length (take len x)
+      → drop k (bits_of (take len x)) ≡ bit x k ∷ drop (k + 1) (bits_of (take len x))
+  at-id k h =
       rw (add-one k)
-      (drop-cons (bits_of (take n x)) k false (omega (arith, length-take n x, bits-length (take n x)))
-      ∙ ap (λ (v : Bool). v ∷ drop (suc k) (bits_of (take n x)))
-      (sym (bit_in x n n k (omega (arith, length-take n x)) (bit x k) h refl)))
+      (drop-cons (bits_of (take len x)) k false (omega (arith, bits-length (take len x)))
+      ∙ ap (λ (v : Bool). v ∷ drop (suc k) (bits_of (take len x)))
+      (sym (bit_in x len (length (take len x)) k refl (bit x k) h refl)))
 
-  module _ (q : begins (drop k (take bits (bits_of path))) (drop k (bits_of (take n x)))
-      ≡ begins (take bits (bits_of path)) (bits_of (take n x))) where
-    pub begins-again : (r : Bool) → k < bits → k < 8 * n → r ≡ beq (bit path k) (bit x k) → not r ≡ false
-        → begins (drop (k + 1) (take bits (bits_of path))) (drop (k + 1) (bits_of (take n x)))
-        ≡ begins (take bits (bits_of path)) (bits_of (take n x))
-    unfolding begins
-    begins-again r h g er e = rw (at_path h, at-id g, ← er, not-false r e) at q
+  -- The d bits from k on, which are the last of those compared.
+  from : (d k : ℕ) → k + d ≡ bits → list_all (has_bit path x (length (take len x))) (range_with_len k d)
+      ≡ begins (drop k (take bits (bits_of path))) (drop k (bits_of (take len x)))
+  unfolding begins
+  from zero k e = rw (drop_of_length-le (take bits (bits_of path)) {i = k} (omega (arith, length-take bits (bits_of path))))
+  from (suc d) k e =
+      elim (dec_lt k (8 * length (take len x))) [
+        | yes h ↦ rw (at_path k (omega arith), at-id k h, lt-ltb k (8 * length (take len x)) h)
+            (ap (λ (b : Bool). beq (bit path k) (bit x k) && b) (from d (k + 1) (omega arith)))
+        | no h ↦ rw (
+          at_path k (omega arith),
+          drop_of_length-le (bits_of (take len x)) {i = k} (omega (arith, bits-length (take len x))),
+          le-ltb k (8 * length (take len x)) (omega arith),
+        )
+      ]
 
-    module _ (xl : ℕ) (xe : n ≡ length (take xl x)) where
-      whole : begins (drop k (take bits (bits_of path))) (drop k (bits_of (take n x)))
-          ≡ begins (take bits (bits_of path)) (bits_of (take xl x))
-      whole = q ∙ ap (λ (y : List ℕ). begins (take bits (bits_of path)) (bits_of y)) (sized x xl n xe)
-
-      pub begins-end : bits ≤ k → true ≡ begins (take bits (bits_of path)) (bits_of (take xl x))
-      unfolding begins
-      begins-end h = rw (drop_of_length-le (take bits (bits_of path)) {i = k}
-          (omega (arith, length-take bits (bits_of path)))) at whole
-
-      pub begins-short : k < bits → 8 * n ≤ k → false ≡ begins (take bits (bits_of path)) (bits_of (take xl x))
-      unfolding begins
-      begins-short h g =
-          rw (
-            at_path h,
-            drop_of_length-le (bits_of (take n x)) {i = k}
-                (omega (arith, bits-length (take n x), length-take n x)),
-          ) at whole
-
-      pub begins-not : (r : Bool) → k < bits → k < 8 * n → r ≡ beq (bit path k) (bit x k) → not r ≡ true
-          → false ≡ begins (take bits (bits_of path)) (bits_of (take xl x))
-      unfolding begins
-      begins-not r h g er e = rw (at_path h, at-id g, ← er, not-true r e) at whole
+  pub begins_is : (r : Bool) → r ≡ list_all (has_bit path x (length (take len x))) (range_with_len 0 bits)
+      → r ≡ begins (take bits (bits_of path)) (bits_of (take len x))
+  begins_is r e = e ∙ from bits 0 (omega arith)

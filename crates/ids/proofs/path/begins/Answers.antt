@@ -1,16 +1,16 @@
 -- Answers to the goals of `ids::path::begins`.
+use native.Mathlib.Omega.{arith}
+use lib.ListN.{length}
+use mathlib.Core.Path.{refl}
 use borrow.Author.Rules.{rules}
-use Rattle.ids.proofs.path.Ways.{begins-again, begins-end, begins-short, begins-not}
+use borrow.Author.Tests.{tests}
+use Rattle.std.proofs.lemmas.Iterator.{YieldsList-from_range}
+use Rattle.std.proofs.lemmas.Iterator.Search.{all_from_yields_List}
+use Rattle.ids.specs.Ids.{id_of}
+use Rattle.ids.proofs.path.Ways.{has_bit, begins_is}
 use Rattle.ids.proofs.path.begins.Goals as goal
 
-pub returns-then-bits-k : goal.returns-then-bits-k
-returns-then-bits-k c = search (begins-end, rules)
-
-pub returns-then-n-k : goal.returns-then-n-k
-returns-then-n-k c = search (begins-short, rules)
-
-pub returns-then-not-agree : goal.returns-then-not-agree
-returns-then-not-agree c = search (begins-not, rules)
-
-pub loop-k-preserved : goal.loop-k-preserved
-loop-k-preserved c = (search rules, search rules, search rules, search rules, search (begins-again, rules))
+pub returns : goal.returns
+returns c = begins_is c.args.path c.args.id.bytes c.args.bits c.args.id.len (search rules) c.requires c.all.result
+    (all_from_yields_List (has_bit c.args.path c.args.id.bytes (length (id_of c.args.id))) _ _ c.all.result
+    c.all.ensures.ran (YieldsList-from_range 0 c.args.bits c.args.bits refl (omega arith)) (λ x b q k. search (rules, tests)))
