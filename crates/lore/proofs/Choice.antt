@@ -2,15 +2,10 @@
 use mathlib.Core.Bool.{Bool, true, false, cond, ◌&&◌, false≢true}
 use mathlib.Core.Path.{◌≡◌, refl, sym, ◌∙◌}
 use borrow.Author.Tests.{lt-ltb, le-ltb, le-leb, lt-leb, eq-eqb, ne_eqb}
+pub use Rattle.lore.proofs.CondNo.{cond_no}
 
 pub cond_yes : {A : Type 0} (b : Bool) (x y r : A) → b ≡ true → r ≡ x → r ≡ cond b x y
 cond_yes b x y r h e = rw h e
-
-pub cond_else : {A : Type 0} (b : Bool) (x y r : A) → b ≡ false → r ≡ y → r ≡ cond b x y
-cond_else b x y r h e = rw h e
-
-pub cond_no : {A : Type 0} (b : Bool) (x y r : A) → b ≡ false → r ≡ y → r ≡ cond b x y
-cond_no b x y r h e = rw h e
 
 pub and_yes : (a b : Bool) → a ≡ true → b ≡ true → (a && b) ≡ true
 and_yes a b h k = rw (h, k)
@@ -24,7 +19,7 @@ and-not-right false b h = refl
 
 pub ruleset ways = (
   cond_yes,
-  cond_else,
+  cond_no,
   and_yes,
   and-not-left,
   and-not-right,

@@ -6,7 +6,8 @@ use native.Mathlib.Numerals.{add-one}
 use native.Mathlib.Omega.{arith}
 use native.Mathlib.Nat.{le_of_lt}
 use lib.ListN.{length, take, drop, get_or, set, replicate, length-replicate, get_or-replicate}
-use lib.Seq.{drop-cons, set_at, take-suc, take-length, length-take-le}
+pub use Rattle.lore.proofs.CopyDone.{copy_done}
+use lib.Seq.{drop-cons, set_at, take-suc, length-take-le}
 
 module _ (s d l : List ℕ) (i : ℕ) (e : l ≡ take i s ++ drop i d) where
   pub copy_more : i < length s → length s ≤ length d → set l i (get_or s i 0) ≡ take (i + 1) s ++ drop (i + 1) d
@@ -14,18 +15,6 @@ module _ (s d l : List ℕ) (i : ℕ) (e : l ≡ take i s ++ drop i d) where
       rw (e, add-one i, take-suc s i 0 h, drop-cons d i 0 (omega arith))
       (set_at (take i s) (get_or d i 0) (drop (suc i) d) (get_or s i 0) i (length-take-le i s (le_of_lt h))
       ∙ sym (append_assoc (take i s) (get_or s i 0 ∷ []) (drop (suc i) d)))
-
-  copy_ended : i ≤ length s → length s ≤ i → l ≡ s ++ drop (length s) d
-  copy_ended h k = rw (← same i s h k, take-length s) at e
-    where
-      same : (i : ℕ) (s : List ℕ) → i ≤ length s → length s ≤ i → length s ≡ i
-      same i s h k = omega arith
-
-  pub copy_done : i ≤ length s → length s ≤ i → l ≡ s ++ drop (length s) d
-  copy_done h k = rw (← same i s h k, take-length s) at e
-    where
-      same : (i : ℕ) (s : List ℕ) → i ≤ length s → length s ≤ i → length s ≡ i
-      same i s h k = omega arith
 
 -- A fill: the source is one value, repeated.
 module _ (n v : ℕ) (d l : List ℕ) (i : ℕ) (e : l ≡ take i (replicate n v) ++ drop i d) where
@@ -36,5 +25,5 @@ module _ (n v : ℕ) (d l : List ℕ) (i : ℕ) (e : l ≡ take i (replicate n v
 
   pub fill_done : i ≤ n → n ≤ i → l ≡ replicate n v ++ drop n d
   fill_done h k =
-      copy_ended (replicate n v) d l i e (rw (length-replicate n v) h) (rw (length-replicate n v) k)
+      copy_done (replicate n v) d l i e (rw (length-replicate n v) h) (rw (length-replicate n v) k)
       ∙ ap (λ (m : ℕ). replicate n v ++ drop m d) (length-replicate n v)

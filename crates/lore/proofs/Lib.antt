@@ -1,5 +1,11 @@
+pub mod CondNo
 pub mod Choice
+pub mod CopyDone
 pub mod Copy
 pub mod Lists
+pub mod MidAll
+pub mod PartBetween
 pub mod Parts
+pub mod XorSums
+pub mod XorBack
 pub mod Xor

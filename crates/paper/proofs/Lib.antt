@@ -8,4 +8,6 @@ pub mod Instances
 pub mod Packed
 pub mod Readings
 pub mod Addresses
+pub mod FieldSuc
+pub mod FieldParts
 pub mod Words

@@ -3,5 +3,6 @@ pub mod IdBits
 pub mod CheckParts
 pub mod FramesReadBack
 pub mod RecordsHeard
+pub mod OldRead
 pub mod OldCheckRefused
 pub mod TextReadsBack
