@@ -30,14 +30,13 @@ pub fn crc_pair(c: u16, a: u8, b: u8) -> u16
 pub fn crc16(start: u16, bytes: &[u8]) -> u16
     ensures { result ≡ crc_from start bytes.now }
 {
+    let (pairs, last) = bytes.as_chunks::<2>();
     let mut c = start;
-    let mut i = 0;
-    while i + 1 < bytes.len() {
-        c = crc_pair(c, bytes[i], bytes[i + 1]);
-        i += 2;
+    for [a, b] in pairs {
+        c = crc_pair(c, *a, *b);
     }
-    if i < bytes.len() {
-        return crc_byte(c, bytes[i]);
+    for b in last {
+        c = crc_byte(c, *b);
     }
     c
 }

@@ -1,11 +1,12 @@
-pub mod CondNo
 pub mod Choice
-pub mod CopyDone
+pub mod Chunks
+pub mod CondNo
 pub mod Copy
+pub mod CopyDone
 pub mod Lists
 pub mod MidAll
 pub mod PartBetween
 pub mod Parts
-pub mod XorSums
-pub mod XorBack
 pub mod Xor
+pub mod XorBack
+pub mod XorSums
