@@ -1,9 +1,7 @@
 -- A lemma for each way through the client's functions, with the facts known there as its premises.
 use Prim.Native.Nat.{ℕ}
-use mathlib.Core.Bool.{Bool, true, false, not, cond}
-use lib.Dec.{eqb}
+use mathlib.Core.Bool.{Bool, true, false, cond}
 use mathlib.Core.Path.{◌≡◌, refl, ◌∙◌, ap}
-use borrow.Author.Tests.{ne_eqb}
 use Rattle.ids.specs.declared.Id.{Id}
 use Rattle.ids.specs.Ids.{no_id}
 use Rattle.walk_table.specs.declared.Table.{Table}
@@ -11,13 +9,7 @@ use Rattle.walk_table.specs.Rows.{no_table, giving}
 use Rattle.walk.specs.declared.Walk.{Walk}
 use Rattle.walk.specs.declared.Place.{Place}
 use Rattle.walk.specs.Moves.{place_of, walk_of, no_walk, begin}
-use Rattle.image.specs.declared.Info.{Info}
-use Rattle.client.specs.declared.Purpose.{Purpose}
-use Rattle.client.specs.declared.Purpose.TheVariants.{Load}
-use Rattle.client.specs.declared.Job.{Job}
-use Rattle.client.specs.declared.Job.TheVariants.{Informing, Erasing, Writing, Verifying}
 use Rattle.client.specs.declared.Phase.{Phase}
-use Rattle.client.specs.declared.Phase.TheVariants.{Demand}
 use Rattle.client.specs.declared.Turn.{Turn}
 use Rattle.client.specs.declared.Turn.TheVariants.{Idle, Ready, Waiting}
 use Rattle.client.specs.declared.Client.{Client}
@@ -31,9 +23,9 @@ use Rattle.client.specs.declared.Touch.{Touch}
 use Rattle.client.specs.declared.Touch.TheVariants.{Same}
 use Rattle.client.specs.declared.Change.{Change}
 use Rattle.client.specs.declared.Verdict.{Verdict}
-use Rattle.client.specs.Numbers.{number_of, changes_no_state}
-use Rattle.client.specs.Clients.{on_turn, begun, turned, fresh, idle, holding, cleared, attached, running, differs}
-use Rattle.client.specs.Clients.{other_for, other_image, refuses, over, stops, onward}
+use Rattle.client.specs.Numbers.{number_of}
+use Rattle.client.specs.Clients.{on_turn, begun, turned, fresh, idle, holding, cleared, attached, refuses, over, stops}
+use Rattle.client.specs.Clients.{onward}
 use Rattle.client.specs.Verdicts.{client_of, renewed, started_of, still, changed, given, told_of}
 
 -- The choice by turn, where the turn is known.
@@ -56,57 +48,9 @@ pub attached-is : (c : Client) → record { any = c.attached; id = c.id } ≡ at
 unfolding attached
 attached-is c = refl
 
-module _ (t : Turn) where
-  pub not-running : t ≡ Idle → false ≡ running t
-  unfolding running
-  not-running e = rw e
-
-  pub ready-runs : (p : Phase) → t ≡ Ready p → true ≡ running t
-  unfolding running
-  ready-runs p e = rw e
-
-  pub waiting-runs : (p : Phase) → t ≡ Waiting p → true ≡ running t
-  unfolding running
-  waiting-runs p e = rw e
-
 -- The number of a known refusal.
 pub number_is : (r q : Refusal) (n : ℕ) → r ≡ q → n ≡ number_of q → n ≡ number_of r
 number_is r q n e f = rw e f
-
--- The test of a refusal's number: one that matches, and the last comparison.
-module _ (n : ℕ) where
-  pub changes-none : (k : ℕ) → n ≡ k → true ≡ changes_no_state k → true ≡ changes_no_state n
-  changes-none k e h = rw e h
-
-  pub last-number : (n ≡ 13 → ⊥) → (n ≡ 16 → ⊥) → (n ≡ 20 → ⊥) → eqb n 21 ≡ changes_no_state n
-  last-number h₁ h₂ h₃ = rw (ne_eqb n 13 h₁, ne_eqb n 16 h₂, ne_eqb n 20 h₃)
-
--- The tests for an image of another length.
-module _ (m n : ℕ) (b : Bool) where
-  pub differs-load : (why : Purpose) → why ≡ Load m → b ≡ not (eqb m n) → b ≡ differs why n
-  unfolding differs
-  differs-load why e f = rw e f
-
-  module _ (j : Job) where
-    pub other-informing : (why : Purpose) → j ≡ Informing why → b ≡ differs why n → b ≡ other_for j n
-    unfolding other_for
-    other-informing why e f = rw e f
-
-    pub other-erasing : (why : Purpose) (i : Info) (a : ℕ) → j ≡ Erasing why i a → b ≡ differs why n → b ≡ other_for j n
-    unfolding other_for
-    other-erasing why i a e f = rw e f
-
-    pub other-writing : (i : Info) (o k : ℕ) → j ≡ Writing m i o k → b ≡ not (eqb m n) → b ≡ other_for j n
-    unfolding other_for
-    other-writing i o k e f = rw e f
-
-    pub other-verifying : (i : Info) → j ≡ Verifying m i → b ≡ not (eqb m n) → b ≡ other_for j n
-    unfolding other_for
-    other-verifying i e f = rw e f
-
-pub other-demand : (n : ℕ) (b : Bool) (p : Phase) (j : Job) → p ≡ Demand j → b ≡ other_for j n → b ≡ other_image p n
-unfolding other_image
-other-demand n b p j e f = rw e f
 
 -- Fronts, and the verdicts and openings decided on them.
 pub no-walk-is : (p : Place) (t : Table) (w : Walk) → walk_of p no_table ≡ no_walk → t ≡ no_table → w ≡ walk_of p t

@@ -249,62 +249,43 @@ pub fn number(r: Refusal) -> u8
 pub fn changes_no_state(number: u8) -> bool
     ensures { result ≡ changes_no_state number }
 {
-    if number == 13 {
-        return true;
-    }
-    if number == 16 {
-        return true;
-    }
-    if number == 20 {
-        return true;
-    }
-    number == 21
+    matches!(number, 13 | 16 | 20 | 21)
 }
 
 // Whether an operation runs.
+#[tactic(auto, unfolding(crate::specs::Clients::running))]
 pub fn running(turn: Turn) -> bool
     ensures { result ≡ running turn }
 {
-    match turn {
-        Turn::Idle => false,
-        Turn::Ready(_) => true,
-        Turn::Waiting(_) => true,
-    }
+    !matches!(turn, Turn::Idle)
 }
 
 // Whether an image of n bytes has another length than the one that a flash was started with.
+#[tactic(auto, unfolding(crate::specs::Clients::differs))]
 fn differs(why: Purpose, n: usize) -> bool
     ensures { result ≡ differs why n }
 {
-    match why {
-        Purpose::Tell => false,
-        Purpose::Clear => false,
-        Purpose::Load(m) => m != n,
-    }
+    matches!(why, Purpose::Load(m) if m != n)
 }
 
 // The same for a job. Only the jobs of a flash have an image.
+#[tactic(auto, unfolding(crate::specs::Clients::other_for))]
 fn other_for(job: Job, n: usize) -> bool
     ensures { result ≡ other_for job n }
 {
     match job {
-        Job::Informing(why) => differs(why, n),
-        Job::Erasing(why, _, _) => differs(why, n),
-        Job::Writing(m, _, _, _) => m != n,
-        Job::Verifying(m, _) => m != n,
+        Job::Informing(why) | Job::Erasing(why, ..) => differs(why, n),
+        Job::Writing(m, ..) | Job::Verifying(m, _) => m != n,
         Job::Resetting(_) => false,
     }
 }
 
 // The same for any phase: false where no flash runs.
+#[tactic(auto, unfolding(crate::specs::Clients::other_image))]
 pub fn other_image(phase: Phase, n: usize) -> bool
     ensures { result ≡ other_image phase n }
 {
-    match phase {
-        Phase::Select(_) => false,
-        Phase::Demand(job) => other_for(job, n),
-        Phase::Leave(_) => false,
-    }
+    matches!(phase, Phase::Demand(job) if other_for(job, n))
 }
 
 // The client of a front and a walk.

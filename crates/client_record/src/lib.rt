@@ -176,11 +176,7 @@ pub fn decide(f: Front, p: Place, count: usize, image: &[u8], bytes: &[u8]) -> V
 fn awaits(turn: Turn) -> bool
     ensures { result ≡ on_turn turn false (λ p. false) (λ p. true) }
 {
-    match turn {
-        Turn::Idle => false,
-        Turn::Ready(_) => false,
-        Turn::Waiting(_) => true,
-    }
+    matches!(turn, Turn::Waiting(_))
 }
 
 // The link failed after the request.

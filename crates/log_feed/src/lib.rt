@@ -24,34 +24,21 @@ struct Span {
 fn joins(stage: Stage) -> bool
     ensures { result ≡ joins stage }
 {
-    match stage {
-        Stage::First => false,
-        Stage::Running => true,
-        Stage::Ended(_) => false,
-    }
+    matches!(stage, Stage::Running)
 }
 
 // Whether a place is inside a line.
 fn inside(place: Place) -> bool
     ensures { result ≡ inside place }
 {
-    match place {
-        Place::Start => false,
-        Place::Even => true,
-        Place::Odd(_) => true,
-    }
+    !matches!(place, Place::Start)
 }
 
 // Whether there was no event: the piece was read to its end.
 fn more(e: Event) -> bool
     ensures { result ≡ more e }
 {
-    match e {
-        Event::More => true,
-        Event::Line => false,
-        Event::Empty => false,
-        Event::Bad => false,
-    }
+    matches!(e, Event::More)
 }
 
 // A log before its first byte.

@@ -92,8 +92,7 @@ pub fn halts(e: Event, joined: bool, over: bool) -> bool
     match e {
         Event::More => false,
         Event::Line => over || !joined,
-        Event::Empty => true,
-        Event::Bad => true,
+        Event::Empty | Event::Bad => true,
     }
 }
 

@@ -31,12 +31,8 @@ fn outcome(o: Outcome) -> u8
     ensures { result ≡ outcome o }
 {
     match o {
-        Outcome::Quiet => 0,
-        Outcome::Heard(_) => 0,
-        Outcome::Attached(_) => 0,
-        Outcome::Found => 0,
-        Outcome::Knows(_) => 0,
         Outcome::Unaddressed => 23,
+        _ => 0,
     }
 }
 
@@ -45,9 +41,7 @@ pub fn code(says: Says) -> u8
     ensures { result ≡ code says }
 {
     match says {
-        Says::Granted(_) => 0,
-        Says::Closing(_) => 0,
-        Says::Onward => 0,
+        Says::Granted(_) | Says::Closing(_) | Says::Onward => 0,
         Says::Over(o) => outcome(o),
         Says::Refused(r) => client::number(r),
     }
@@ -56,11 +50,7 @@ pub fn code(says: Says) -> u8
 pub fn is_ended(stage: Stage) -> bool
     ensures { result ≡ is_ended stage }
 {
-    match stage {
-        Stage::First => false,
-        Stage::Running => false,
-        Stage::Ended(_) => true,
-    }
+    matches!(stage, Stage::Ended(_))
 }
 
 // A run before line one.
@@ -92,25 +82,13 @@ pub fn ended(client: Client, selects: u16, found: Table, code: u8) -> Replay
 fn is_granted(says: Says) -> bool
     ensures { result ≡ is_granted says }
 {
-    match says {
-        Says::Granted(_) => true,
-        Says::Closing(_) => false,
-        Says::Onward => false,
-        Says::Over(_) => false,
-        Says::Refused(_) => false,
-    }
+    matches!(says, Says::Granted(_))
 }
 
 fn is_onward(says: Says) -> bool
     ensures { result ≡ is_onward says }
 {
-    match says {
-        Says::Granted(_) => false,
-        Says::Closing(_) => false,
-        Says::Onward => true,
-        Says::Over(_) => false,
-        Says::Refused(_) => false,
-    }
+    matches!(says, Says::Onward)
 }
 
 // Asks for the next Select, and counts it if it is granted. If not, the run ends.
