@@ -37,7 +37,7 @@ class Calls:
         texts = {project.place_of(path): path.read_text() for path in project.code_files()}
         for caller in every:
             text = texts[caller.crate, caller.module]
-            written = re.findall(r"(?<![\w.:])((?:\w+::)*\w+)\(", caller.body)
+            written = re.findall(r"(?<![\w.:])((?:\w+::)*\w+)(?:::<[^()]*>)?\(", caller.body)
             steps = [tuple(caller.owner if step == "Self" else step for step in path.split("::")) for path in written]
             self.paths[caller] = {project.resolved(path, caller.crate, caller.module, text) for path in steps}
             self.methods[caller] = set(re.findall(r"\.(\w+)\(", caller.body))

@@ -107,30 +107,47 @@ class Function(namedtuple("Function", "crate module owner name public exported s
 
 
 def functions_in(text, crate, module):
-    """The functions of a code file."""
-    begins = r'(?m)^(?:impl (?:[\w:]+ for )?(\w+)|( *)(pub )?(?:pub\(\w+\) )?(extern "C" )?fn (\w+))'
+    """The functions of a code file, those that a trait only declares among them."""
+    begins = (r'(?m)^(?:impl(?:<.*?>)? (?:(?P<trait>[\w:]+)(?:<(?P<of>.*?)>)? for )?(?P<type>\w+)'
+              r'|(?:pub )?trait (?P<declared>\w+)'
+              r'|(?P<within> *)(?P<public>pub )?(?:pub\(\w+\) )?(?P<exported>extern "C" )?fn (?P<name>\w+))')
     found, owner = list(re.finditer(begins, text)), ""
     for match, end in zip(found, [match.start() for match in found[1:]] + [len(text)]):
-        if match[1]:
-            owner = match[1]
+        if not match["name"]:
+            owner = match["declared"] or owner_of(match["type"], match["trait"], match["of"])
             continue
         clauses, body = contract_and_body(re.sub(r"//.*", "", text[match.start():end]))
-        yield Function(crate, module, owner if match[2] else "", match[5], bool(match[3]), bool(match[4]),
-                       match.start(), clauses, body)
+        yield Function(crate, module, owner if match["within"] else "", match["name"], bool(match["public"]),
+                       bool(match["exported"]), match.start(), clauses, body)
+
+
+def owner_of(type_name, trait, of):
+    """The name of the block of an `impl`, as in the paths of its functions' proofs: the type, or `U16Word2` for
+    `impl Word<2> for u16`."""
+    if not trait:
+        return type_name
+    words = [type_name, trait.split("::")[-1], *re.findall(r"\w+", of or "")]
+    return "".join(word[0].upper() + word[1:] for word in words)
 
 
 def contract_and_body(text):
-    """The clauses of a function's contract, and its body."""
-    clauses, at = [], 0
+    """The clauses of a function's contract, and its body; "" if it has none, being declared in a trait."""
+    clauses, at, within = [], 0, 0
     while True:
-        opens = re.compile(r"(?:\b(requires|ensures) (?:(\w+) )?)?\{").search(text, at)
-        if not opens[1]:
-            return tuple(clauses), text[opens.end():]
-        at, depth = opens.end(), 1
-        while depth:
-            depth += (text[at] == "{") - (text[at] == "}")
-            at += 1
-        clauses.append(Clause(opens[1], opens[2] or "", " ".join(text[opens.end():at - 1].split())))
+        sign = re.compile(r"\b(requires|ensures) (?:(\w+) )?\{|[][(){;]").search(text, at)
+        at = sign.end()
+        if sign[1]:
+            begin, depth = at, 1
+            while depth:
+                depth += (text[at] == "{") - (text[at] == "}")
+                at += 1
+            clauses.append(Clause(sign[1], sign[2] or "", " ".join(text[begin:at - 1].split())))
+        elif sign[0] == "{":
+            return tuple(clauses), text[at:]
+        elif sign[0] == ";" and not within:
+            return tuple(clauses), ""
+        else:
+            within += (sign[0] in "([") - (sign[0] in ")]")
 
 
 def functions():

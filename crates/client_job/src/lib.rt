@@ -169,7 +169,7 @@ fn verified(info: Info, payload: &[u8], image: &[u8]) -> Then
         return Then::Refused(Refusal::ShortVerify);
     }
     let expected = crc::crc16(crc::START, image);
-    let actual = wire::get16(payload, 0);
+    let actual = wire::get(payload, 0);
     if expected == actual {
         return Then::Over(Outcome::Knows(info));
     }

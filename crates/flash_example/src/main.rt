@@ -35,7 +35,7 @@ fn pod(command: u8, room: &mut [u8]) -> usize {
     if command == wire::VERIFY {
         let c = crc::crc16(crc::START, b"abcde");
         let mut check = [0u8; 2];
-        wire::put16(&mut check, 0, c);
+        wire::put(&mut check, 0, c);
         return reply(wire::VERIFY, &check, room);
     }
     reply(command, b"", room)

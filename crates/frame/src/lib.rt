@@ -33,8 +33,8 @@ pub fn put_head(buf: &mut [u8], head: Head, n: u16)
     ensures { buf.new ≡ head_of head n ++ drop 10 buf.old }
 {
     put_tag(buf, head);
-    wire::put32(buf, 4, head.address);
-    wire::put16(buf, 8, n);
+    wire::put(buf, 4, head.address);
+    wire::put(buf, 8, n);
 }
 
 // Writes the payload: the bytes given, then pad bytes FF.
@@ -55,7 +55,7 @@ pub fn seal(buf: &mut [u8], n: usize)
     ensures { buf.new ≡ sealed n buf.old }
 {
     let c = crc::crc16(crc::START, &buf[1..n]);
-    wire::put16(buf, n, c);
+    wire::put(buf, n, c);
 }
 
 // Writes a frame whose payload is the bytes given, then pad bytes FF: at most 1,024 bytes.

@@ -29,7 +29,7 @@ fn write_tags(n: Note, g: Gain, out: &mut [u8])
     let made = wire::flag(g.made, 1);
     let key = wire::flag(n.key, 1);
     let x = [n.number, n.says, n.outcome, n.heard, any, made, key, 0];
-    wire::arrays::put_8_bytes(out, 0, x);
+    wire::arrays::put_bytes(out, 0, x);
 }
 
 // Bytes 8 to 39: the four numbers of 8 bytes.
@@ -37,10 +37,10 @@ fn write_sizes(n: Note, g: Gain, rest: usize, out: &mut [u8])
     requires { size ≤ length out.old }
     ensures { out.new ≡ take 8 out.old ++ sizes n g rest ++ drop 40 out.old }
 {
-    wire::put64(out, 8, rest as u64);
-    wire::put64(out, 16, n.length);
-    wire::put64(out, 24, g.done);
-    wire::put64(out, 32, g.total);
+    wire::put(out, 8, rest as u64);
+    wire::put(out, 16, n.length);
+    wire::put(out, 24, g.done);
+    wire::put(out, 32, g.total);
 }
 
 // Bytes 40 to 47: the two numbers of 4 bytes.
@@ -48,8 +48,8 @@ fn write_pair(n: Note, out: &mut [u8])
     requires { size ≤ length out.old }
     ensures { out.new ≡ take 40 out.old ++ pair n ++ drop 48 out.old }
 {
-    wire::put32(out, 40, n.first);
-    wire::put32(out, 44, n.second);
+    wire::put(out, 40, n.first);
+    wire::put(out, 44, n.second);
 }
 
 // Bytes 0 to 65: all numbers of the answer.
@@ -95,5 +95,5 @@ pub fn write_list(bytes: &[u8], out: &mut [u8])
     }
     wire::paste(out, 83, &bytes[239..1327]);
     walk_table::sort(&mut out[83..], n);
-    wire::put64(out, 1171, n as u64);
+    wire::put(out, 1171, n as u64);
 }

@@ -26,7 +26,7 @@ fn load_id(bytes: &[u8], at: usize) -> Id
     requires { at + 17 ≤ length bytes.now }
     ensures { result ≡ loaded_id at bytes.now }
 {
-    let b = wire::arrays::take_16_bytes(bytes, at);
+    let b = wire::arrays::take_bytes(bytes, at);
     Id {
         bytes: b,
         len: bytes[at + 16],
@@ -58,12 +58,12 @@ pub fn load_place(bytes: &[u8]) -> Place
     requires { size ≤ length bytes.now }
     ensures { result ≡ place_of (loaded bytes.now).walk }
 {
-    let path = wire::arrays::take_16_bytes(bytes, 87);
-    let marks = wire::arrays::take_128_bytes(bytes, 111);
+    let path = wire::arrays::take_bytes(bytes, 87);
+    let marks = wire::arrays::take_bytes(bytes, 111);
     let candidate = load_id(bytes, 1335);
     Place {
         path,
-        depth: wire::get64(bytes, 103) as usize,
+        depth: wire::get::<8, u64>(bytes, 103) as usize,
         marks,
         candidate,
     }
@@ -74,7 +74,7 @@ pub fn count(bytes: &[u8]) -> usize
     requires { size ≤ length bytes.now }
     ensures { result ≡ (loaded bytes.now).walk.found.count }
 {
-    wire::get64(bytes, 1327) as usize
+    wire::get::<8, u64>(bytes, 1327) as usize
 }
 
 pub fn save_id(bytes: &mut [u8], at: usize, x: Id)
@@ -84,8 +84,8 @@ pub fn save_id(bytes: &mut [u8], at: usize, x: Id)
     ensures x_len { length (saved_id x) ≡ 17 }
 {
     let b = x.bytes;
-    wire::arrays::put_16_bytes(bytes, at, b);
-    wire::put8(bytes, at + 16, x.len);
+    wire::arrays::put_bytes(bytes, at, b);
+    wire::put(bytes, at + 16, x.len);
 }
 
 // Saves what comes before the prefix: the seed, the attached id and the turn.
@@ -97,8 +97,8 @@ fn save_head(f: Front, bytes: &mut [u8])
     let id = f.id;
     let turn = f.turn;
     let x = host_turn::flat_of(turn);
-    wire::put8(bytes, 0, f.seed);
-    wire::put8(bytes, 1, wire::flag(f.attached, 1));
+    wire::put(bytes, 0, f.seed);
+    wire::put(bytes, 1, wire::flag(f.attached, 1));
     save_id(bytes, 2, id);
     host_turn_bytes::save_flat(bytes, 19, x);
 }
@@ -112,7 +112,7 @@ pub fn save_front(f: Front, bytes: &mut [u8])
     let prefix = f.prefix;
     save_head(f, bytes);
     save_id(bytes, 69, prefix);
-    wire::put8(bytes, 86, f.bits);
+    wire::put(bytes, 86, f.bits);
 }
 
 // Saves the walk's place; the list stays as it is.
@@ -123,9 +123,9 @@ fn save_place(p: Place, bytes: &mut [u8])
     let path = p.path;
     let marks = p.marks;
     let candidate = p.candidate;
-    wire::arrays::put_16_bytes(bytes, 87, path);
-    wire::put64(bytes, 103, p.depth as u64);
-    wire::arrays::put_128_bytes(bytes, 111, marks);
+    wire::arrays::put_bytes(bytes, 87, path);
+    wire::put(bytes, 103, p.depth as u64);
+    wire::arrays::put_bytes(bytes, 111, marks);
     save_id(bytes, 1335, candidate);
 }
 
@@ -141,7 +141,7 @@ fn keep(entry: Entry, bytes: &mut [u8])
         return;
     }
     walk_table::set_row(&mut bytes[239..], n, entry);
-    wire::put64(bytes, 1327, n as u64 + 1);
+    wire::put(bytes, 1327, n as u64 + 1);
 }
 
 // Empties the list.

@@ -33,10 +33,10 @@ pub fn load_flat(bytes: &[u8], at: usize) -> Flat
         other: bytes[at + 5] == 1,
         job: bytes[at + 6],
         purpose: bytes[at + 7],
-        size: wire::get64(bytes, at + 8) as usize,
+        size: wire::get::<8, u64>(bytes, at + 8) as usize,
         info,
-        address: wire::get32(bytes, at + 34),
-        offset: wire::get64(bytes, at + 38),
+        address: wire::get(bytes, at + 34),
+        offset: wire::get(bytes, at + 38),
         retries: bytes[at + 46],
         reset,
     }
@@ -53,7 +53,7 @@ fn save_tags(bytes: &mut [u8], at: usize, f: Flat)
     let x = [
         f.turn, f.kind, f.search, given, f.step, other, f.job, f.purpose,
     ];
-    wire::arrays::put_8_bytes(bytes, at, x);
+    wire::arrays::put_bytes(bytes, at, x);
 }
 
 fn save_reset(bytes: &mut [u8], at: usize, z: Reset)
@@ -61,9 +61,9 @@ fn save_reset(bytes: &mut [u8], at: usize, z: Reset)
     ensures { bytes.new
         ≡ take at bytes.old ++ saved_reset z ++ drop (at + 3) bytes.old }
 {
-    wire::put8(bytes, at, wire::flag(z.bootloader, 1));
-    wire::put8(bytes, at + 1, wire::flag(z.given, 1));
-    wire::put8(bytes, at + 2, z.baud);
+    wire::put(bytes, at, wire::flag(z.bootloader, 1));
+    wire::put(bytes, at + 1, wire::flag(z.given, 1));
+    wire::put(bytes, at + 2, z.baud);
 }
 
 // How far a job has come: the erase address, the write offset and its retries; and the reset's arguments.
@@ -73,9 +73,9 @@ fn save_work(bytes: &mut [u8], at: usize, f: Flat)
         ≡ take at bytes.old ++ work f ++ drop (at + 16) bytes.old }
 {
     let reset = f.reset;
-    wire::put32(bytes, at, f.address);
-    wire::put64(bytes, at + 4, f.offset);
-    wire::put8(bytes, at + 12, f.retries);
+    wire::put(bytes, at, f.address);
+    wire::put(bytes, at + 4, f.offset);
+    wire::put(bytes, at + 12, f.retries);
     save_reset(bytes, at + 13, reset);
 }
 
@@ -86,7 +86,7 @@ pub fn save_flat(bytes: &mut [u8], at: usize, f: Flat)
 {
     let info = f.info;
     save_tags(bytes, at, f);
-    wire::put64(bytes, at + 8, f.size as u64);
+    wire::put(bytes, at + 8, f.size as u64);
     image::info_bytes::save(bytes, at + 16, info);
     save_work(bytes, at + 34, f);
 }

@@ -25,14 +25,14 @@ pub fn load(bytes: &[u8], at: usize) -> Info
     ensures { result ≡ loaded_info at bytes.now }
 {
     Info {
-        capacity: wire::get32(bytes, at),
-        erase_size: wire::get16(bytes, at + 4),
-        boot_version: wire::get16(bytes, at + 6),
-        app_version: wire::get16(bytes, at + 8),
+        capacity: wire::get(bytes, at),
+        erase_size: wire::get(bytes, at + 4),
+        boot_version: wire::get(bytes, at + 6),
+        app_version: wire::get(bytes, at + 8),
         mode: bytes[at + 10],
         boot_baud: bytes[at + 11],
-        compat: wire::get32(bytes, at + 12),
-        max_payload: wire::get16(bytes, at + 16),
+        compat: wire::get(bytes, at + 12),
+        max_payload: wire::get(bytes, at + 16),
     }
 }
 
@@ -42,10 +42,10 @@ fn save_geometry(bytes: &mut [u8], at: usize, i: Info)
     ensures { bytes.new
         ≡ take at bytes.old ++ geometry i ++ drop (at + 10) bytes.old }
 {
-    wire::put32(bytes, at, i.capacity);
-    wire::put16(bytes, at + 4, i.erase_size);
-    wire::put16(bytes, at + 6, i.boot_version);
-    wire::put16(bytes, at + 8, i.app_version);
+    wire::put(bytes, at, i.capacity);
+    wire::put(bytes, at + 4, i.erase_size);
+    wire::put(bytes, at + 6, i.boot_version);
+    wire::put(bytes, at + 8, i.app_version);
 }
 
 pub fn save(bytes: &mut [u8], at: usize, i: Info)
@@ -54,8 +54,8 @@ pub fn save(bytes: &mut [u8], at: usize, i: Info)
         ≡ take at bytes.old ++ saved_info i ++ drop (at + 18) bytes.old }
 {
     save_geometry(bytes, at, i);
-    wire::put8(bytes, at + 10, i.mode);
-    wire::put8(bytes, at + 11, i.boot_baud);
-    wire::put32(bytes, at + 12, i.compat);
-    wire::put16(bytes, at + 16, i.max_payload);
+    wire::put(bytes, at + 10, i.mode);
+    wire::put(bytes, at + 11, i.boot_baud);
+    wire::put(bytes, at + 12, i.compat);
+    wire::put(bytes, at + 16, i.max_payload);
 }

@@ -66,7 +66,7 @@ pub fn image_compat(image: &[u8]) -> Compat
         return Compat::Missing;
     }
     if n % 4 == 2 {
-        return Compat::Key(wire::get32(image, n - 6));
+        return Compat::Key(wire::get(image, n - 6));
     }
     Compat::Missing
 }

@@ -1,11 +1,11 @@
 -- Byte order for any width: numbers written and read back, bytes read and written back.
 use Prim.Native.Nat.{ℕ, zero, suc, ◌+◌, ◌*◌, ◌/◌, ◌%◌, ◌^◌, ◌<◌}
-use mathlib.Core.List.{List, [], ◌∷◌, ◌++◌}
+use mathlib.Core.List.{List, [], ◌∷◌}
 use mathlib.Core.Path.{◌≡◌, refl, sym, ◌∙◌, ap, ap₂}
 use native.Mathlib.Omega.{arith}
 use native.Mathlib.Nat.{pow-suc, pow-succ', mul_assoc, mod-add-div}
 use lib.ListN.{length}
-pub use Rattle.paper.proofs.FieldParts.{field-none, field-add, field-2, field-4, field-8}
+pub use Rattle.paper.proofs.FieldParts.{field-none, field-add}
 pub use Rattle.paper.proofs.FieldSuc.{field-suc}
 use Rattle.paper.specs.Count.{All}
 use Rattle.paper.specs.Frame.{le, number}
@@ -52,24 +52,3 @@ le-number (b ∷ bs) h = ap₂ ◌∷◌ (low b (number bs) h.0)
 
     high : (b n : ℕ) → b < 256 → (b + 256 * n) / 256 ≡ n
     high b n h = omega arith
-
--- Eight bytes are the four low ones, then the four high ones.
-pub le-8 : (x : ℕ) → le 4 (x % 4294967296) ++ le 4 (x / 4294967296) ≡ le 8 x
-unfolding le
-le-8 x = ap₂ ◌++◌ (ap₂ ◌∷◌ (b₀ x) (ap₂ ◌∷◌ (b₁ x) (ap₂ ◌∷◌ (b₂ x) (ap (λ (y : ℕ). y ∷ []) (b₃ x)))))
-    (ap (le 4) (high x))
-  where
-    b₀ : (x : ℕ) → x % 4294967296 % 256 ≡ x % 256
-    b₀ x = omega arith
-
-    b₁ : (x : ℕ) → x % 4294967296 / 256 % 256 ≡ x / 256 % 256
-    b₁ x = omega arith
-
-    b₂ : (x : ℕ) → x % 4294967296 / 256 / 256 % 256 ≡ x / 256 / 256 % 256
-    b₂ x = omega arith
-
-    b₃ : (x : ℕ) → x % 4294967296 / 256 / 256 / 256 % 256 ≡ x / 256 / 256 / 256 % 256
-    b₃ x = omega arith
-
-    high : (x : ℕ) → x / 4294967296 ≡ x / 256 / 256 / 256 / 256
-    high x = omega arith

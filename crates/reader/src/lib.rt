@@ -50,7 +50,7 @@ fn fields(s: &[u8], base: usize, n: usize) -> Frame
         command: s[1],
         status: s[2],
         flags: s[3],
-        address: wire::get32(s, 4),
+        address: wire::get(s, 4),
         payload: base + 10,
         len: n,
         end: base + (12 + n),
@@ -64,7 +64,7 @@ fn right_check(s: &[u8], n: usize) -> bool
 {
     let e = 10 + n;
     let c = crc::crc16(crc::START, &s[1..e]);
-    c == wire::get16(s, e)
+    c == wire::get(s, e)
 }
 
 // Reads a frame whose head says n bytes of payload. s and base as above.
@@ -96,7 +96,7 @@ fn read_synced(s: &[u8], base: usize) -> Reading
     if s.len() < 10 {
         Reading::Short
     } else {
-        read_sized(s, base, wire::get16(s, 8))
+        read_sized(s, base, wire::get(s, 8))
     }
 }
 

@@ -3,8 +3,9 @@
 
 pub mod arrays;
 
-ghost use Rattle.std.specs.Prelude.{◌≡◌, cond, [], ◌∷◌, ◌++◌, ◌+◌, ◌≤◌, ◌<◌, length, take, drop, replicate};
-ghost use Rattle.paper.specs.Frame.{le, field};
+ghost use Rattle.std.specs.Prelude.{ℕ, List, ◌≡◌, refl, cond, [], ◌∷◌, ◌++◌, ◌+◌, ◌^◌, ◌≤◌, ◌<◌, length, take, drop, replicate};
+ghost use Rattle.paper.specs.Frame.{le, number, field};
+ghost use Rattle.wire.specs.Words.{one_byte};
 
 // The longest payload of a frame, in bytes.
 pub const MAX_PAYLOAD: usize = 1024;
@@ -54,28 +55,6 @@ pub enum Placed {
     Short(usize),
 }
 
-// Widening casts, with the bound that a caller needs.
-pub fn wide16(x: u8) -> u16
-    ensures value { result ≡ x }
-    ensures upper_bound { result < 256 }
-{
-    x as u16
-}
-
-pub fn wide32(x: u8) -> u32
-    ensures value { result ≡ x }
-    ensures upper_bound { result < 256 }
-{
-    x as u32
-}
-
-pub fn wide64(x: u32) -> u64
-    ensures value { result ≡ x }
-    ensures upper_bound { result < 0x1_0000_0000 }
-{
-    x as u64
-}
-
 // The value of a flag if it is set, else 0.
 pub fn flag(on: bool, value: u8) -> u8
     ensures { result ≡ cond on value 0 }
@@ -86,63 +65,100 @@ pub fn flag(on: bool, value: u8) -> u8
     0
 }
 
-pub fn get16(s: &[u8], at: usize) -> u16
-    requires { at + 2 ≤ length s.now }
-    ensures { result ≡ field at 2 s.now }
-{
-    wide16(s[at]) + 0x100 * wide16(s[at + 1])
+// A number of N bytes, lowest byte first.
+pub trait Word<const N: usize>: Copy {
+    // The number that it is.
+    ghost value: { Self → ℕ };
+
+    ghost bytes: { Self → List ℕ };
+
+    fn of_bytes(b: &[u8; N]) -> Self
+        ensures { value result ≡ number b.now };
+
+    fn to_bytes(self) -> [u8; N]
+        ensures { result ≡ bytes self };
+
+    ghost lowest_first: { (x : Self) → value x < 256 ^ N → bytes x ≡ le N (value x) };
 }
 
-pub fn get32(s: &[u8], at: usize) -> u32
-    requires { at + 4 ≤ length s.now }
-    ensures { result ≡ field at 4 s.now }
-{
-    let low = wide32(s[at]) + 0x100 * wide32(s[at + 1]);
-    let high = wide32(s[at + 2]) + 0x100 * wide32(s[at + 3]);
-    low + 0x1_0000 * high
+impl Word<1> for u8 {
+    ghost value = { λ x. x };
+
+    ghost bytes = { λ x. x ∷ [] };
+
+    ghost lowest_first = { one_byte };
+
+    fn of_bytes(b: &[u8; 1]) -> u8 {
+        b[0]
+    }
+
+    fn to_bytes(self) -> [u8; 1] {
+        [self]
+    }
 }
 
-pub fn get64(s: &[u8], at: usize) -> u64
-    requires { at + 8 ≤ length s.now }
-    ensures { result ≡ field at 8 s.now }
-{
-    wide64(get32(s, at)) + 0x1_0000_0000 * wide64(get32(s, at + 4))
+impl Word<2> for u16 {
+    ghost value = { λ x. x };
+
+    ghost bytes = { le 2 };
+
+    ghost lowest_first = { λ x fits. refl };
+
+    fn of_bytes(b: &[u8; 2]) -> u16 {
+        u16::from_le_bytes(*b)
+    }
+
+    fn to_bytes(self) -> [u8; 2] {
+        u16::to_le_bytes(self)
+    }
 }
 
-pub fn put8(buf: &mut [u8], at: usize, x: u8)
-    requires { at + 1 ≤ length buf.old }
-    ensures { buf.new ≡ take at buf.old ++ (x ∷ []) ++ drop (at + 1) buf.old }
-{
-    buf[at] = x;
+impl Word<4> for u32 {
+    ghost value = { λ x. x };
+
+    ghost bytes = { le 4 };
+
+    ghost lowest_first = { λ x fits. refl };
+
+    fn of_bytes(b: &[u8; 4]) -> u32 {
+        u32::from_le_bytes(*b)
+    }
+
+    fn to_bytes(self) -> [u8; 4] {
+        u32::to_le_bytes(self)
+    }
 }
 
-pub fn put16(buf: &mut [u8], at: usize, x: u16)
-    requires { at + 2 ≤ length buf.old }
-    ensures { buf.new ≡ take at buf.old ++ le 2 x ++ drop (at + 2) buf.old }
-{
-    buf[at] = (x % 0x100) as u8;
-    buf[at + 1] = (x / 0x100 % 0x100) as u8;
+impl Word<8> for u64 {
+    ghost value = { λ x. x };
+
+    ghost bytes = { le 8 };
+
+    ghost lowest_first = { λ x fits. refl };
+
+    fn of_bytes(b: &[u8; 8]) -> u64 {
+        u64::from_le_bytes(*b)
+    }
+
+    fn to_bytes(self) -> [u8; 8] {
+        u64::to_le_bytes(self)
+    }
 }
 
-pub fn put32(buf: &mut [u8], at: usize, x: u32)
-    requires { at + 4 ≤ length buf.old }
-    ensures { buf.new ≡ take at buf.old ++ le 4 x ++ drop (at + 4) buf.old }
+// The number at a place of a slice.
+pub fn get<const N: usize, W: Word<N>>(s: &[u8], at: usize) -> W
+    requires { at + N ≤ length s.now }
+    ensures { W.value result ≡ field at N s.now }
 {
-    let x1 = x / 0x100;
-    let x2 = x1 / 0x100;
-    let x3 = x2 / 0x100;
-    buf[at] = (x % 0x100) as u8;
-    buf[at + 1] = (x1 % 0x100) as u8;
-    buf[at + 2] = (x2 % 0x100) as u8;
-    buf[at + 3] = (x3 % 0x100) as u8;
+    W::of_bytes(&arrays::take_bytes(s, at))
 }
 
-pub fn put64(buf: &mut [u8], at: usize, x: u64)
-    requires { at + 8 ≤ length buf.old }
-    ensures { buf.new ≡ take at buf.old ++ le 8 x ++ drop (at + 8) buf.old }
+// Writes a number to a place of a buffer.
+pub fn put<const N: usize, W: Word<N>>(buf: &mut [u8], at: usize, x: W)
+    requires { at + N ≤ length buf.old }
+    ensures { buf.new ≡ take at buf.old ++ W.bytes x ++ drop (at + N) buf.old }
 {
-    put32(buf, at, (x % 0x1_0000_0000) as u32);
-    put32(buf, at + 4, (x / 0x1_0000_0000) as u32);
+    arrays::put_bytes(buf, at, x.to_bytes());
 }
 
 // Writes src to dst from a place on.

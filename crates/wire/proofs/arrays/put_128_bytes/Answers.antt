@@ -1,7 +1,0 @@
--- Answers to the goals of `wire::arrays::put_128_bytes`.
-use Rattle.wire.proofs.arrays.Ways.{put-array}
-use borrow.Author.Rules.{rules}
-use Rattle.wire.proofs.arrays.put_128_bytes.Goals as goal
-
-pub returns : goal.returns
-returns c = search (put-array 128, rules)

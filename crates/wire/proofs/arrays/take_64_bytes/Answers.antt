@@ -1,7 +1,0 @@
--- Answers to the goals of `wire::arrays::take_64_bytes`.
-use Rattle.wire.proofs.arrays.Ways.{taken}
-use borrow.Author.Rules.{rules}
-use Rattle.wire.proofs.arrays.take_64_bytes.Goals as goal
-
-pub returns : goal.returns
-returns c = search (taken 64, rules)
