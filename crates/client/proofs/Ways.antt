@@ -8,7 +8,7 @@ use Rattle.walk_table.specs.declared.Table.{Table}
 use Rattle.walk_table.specs.Rows.{no_table, giving}
 use Rattle.walk.specs.declared.Walk.{Walk}
 use Rattle.walk.specs.declared.Place.{Place}
-use Rattle.walk.specs.Moves.{place_of, walk_of, no_walk, begin}
+use Rattle.walk.specs.Moves.{place_of, walk_of, no_walk}
 use Rattle.client.specs.declared.Phase.{Phase}
 use Rattle.client.specs.declared.Turn.{Turn}
 use Rattle.client.specs.declared.Turn.TheVariants.{Idle, Ready, Waiting}
@@ -18,7 +18,6 @@ use Rattle.client.specs.declared.Progress.TheVariants.{None}
 use Rattle.client.specs.declared.Says.{Says}
 use Rattle.client.specs.declared.Says.TheVariants.{Onward, Refused}
 use Rattle.client.specs.declared.Front.{Front}
-use Rattle.client.specs.declared.Opening.{Opening}
 use Rattle.client.specs.declared.Touch.{Touch}
 use Rattle.client.specs.declared.Touch.TheVariants.{Same}
 use Rattle.client.specs.declared.Change.{Change}
@@ -26,7 +25,7 @@ use Rattle.client.specs.declared.Verdict.{Verdict}
 use Rattle.client.specs.Numbers.{number_of}
 use Rattle.client.specs.Clients.{on_turn, begun, turned, fresh, idle, holding, cleared, attached, refuses, over, stops}
 use Rattle.client.specs.Clients.{onward}
-use Rattle.client.specs.Verdicts.{client_of, renewed, started_of, still, changed, given, told_of}
+use Rattle.client.specs.Verdicts.{client_of, still, changed, given, told_of}
 
 -- The choice by turn, where the turn is known.
 module _ {A : Type 0} (t : Turn) (a : A) (f g : Phase → A) where
@@ -114,15 +113,3 @@ module _ (f : Front) where
     where
       go : (no_table ≡ no_table → told_of r w ≡ onward (client_of f w) p w at) → told_of r w ≡ onward (client_of f w) p w at
       go k = k refl
-
-module _ (b : Bool) (x : Id) (w : Walk) where
-  pub walk-stays : b ≡ false → w ≡ renewed b x w
-  walk-stays e = rw e
-
-  pub walk_begins : (p : Place) (t : Table) (r : Walk) → b ≡ true → walk_of p no_table ≡ begin x → t ≡ no_table
-      → r ≡ walk_of p t → r ≡ renewed b x w
-  walk_begins p t r e h f g = g ∙ rw (f, e) h
-
-pub started-is : (o : Opening) (w v : Walk) (c : Client) → v ≡ renewed o.begins o.from w
-    → c ≡ client_of o.front v → record { says = o.says; client = c } ≡ started_of o w
-started-is o w v c e f = rw (f, e)

@@ -1,5 +1,5 @@
 -- A call's answer and the client after it, from what was decided without the walk.
-use Rattle.std.specs.Prelude.{Bool, cond}
+use Rattle.std.specs.Prelude.{Option, Some, None}
 use Rattle.ids.specs.declared.Id.{Id}
 use Rattle.ids.specs.Ids.{no_id}
 use Rattle.walk_table.specs.declared.Table.{Table}
@@ -40,12 +40,13 @@ client_of f w = record {
 }
 
 -- The walk after a start or a request: begun under a prefix, or unchanged.
-abbrev pub renewed : Bool → Id → Walk → Walk
-renewed begins x w = cond begins (begin x) w
+abbrev pub renewed : Option Id → Walk → Walk
+renewed (Some x) w = begin x
+renewed None w = w
 
 -- The answer by value to a start or a request.
 abbrev pub started_of : Opening → Walk → Started
-started_of o w = record { says = o.says; client = client_of o.front (renewed o.begins o.from w) }
+started_of o w = record { says = o.says; client = client_of o.front (renewed o.begins w) }
 
 -- A value for each case.
 abbrev pub on_touch {ℓ} : {A : Type ℓ} → Touch → A → A → A → A → A → A

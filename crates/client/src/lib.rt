@@ -169,14 +169,13 @@ pub struct Front {
     pub bits: u8,
 }
 
-// A start or a request, decided without the walk: whether the walk begins anew, and under which prefix. Where no
-// discovery begins, the prefix is empty and the new walk all zero.
+// A start or a request, decided without the walk. If the walk begins anew, begins has its prefix: an empty one for an
+// operation that is no discovery, whose walk is all zero.
 #[derive(Clone, Copy)]
 pub struct Opening {
     pub says: Says,
     pub front: Front,
-    pub begins: bool,
-    pub from: Id,
+    pub begins: Option<Id>,
 }
 
 // How a record changes the walk. Same: not at all. Moves: to another place. Keeps: to another place, with one more
@@ -422,12 +421,10 @@ impl Front {
     pub fn refuse(self, r: Refusal) -> Opening
         ensures { (w : Walk) → started_of result w ≡ refuse (client_of self w) r }
     {
-        let from = Id::none();
         Opening {
             says: Says::Refused(r),
             front: self,
-            begins: false,
-            from,
+            begins: None,
         }
     }
 
@@ -530,22 +527,21 @@ impl Verdict {
 impl Opening {
     // The client's walk after a start or a request.
     fn walk(self, w: Walk) -> Walk
-        ensures { result ≡ renewed self.begins self.from w }
+        ensures { result ≡ renewed self.begins w }
     {
-        if self.begins {
-            let from = self.from;
-            return walk::walk_of(walk::begin(from), Table::none());
+        match self.begins {
+            Some(from) => walk::walk_of(walk::begin(from), Table::none()),
+            None => w,
         }
-        w
     }
 
     // The answer by value, for a client with this walk.
     pub fn started(self, w: Walk) -> Started
         ensures { result ≡ started_of self w }
     {
-        let says = self.says;
-        let front = self.front;
-        let client = client_of(front, self.walk(w));
-        Started { says, client }
+        Started {
+            says: self.says,
+            client: client_of(self.front, self.walk(w)),
+        }
     }
 }

@@ -28,6 +28,7 @@ use Rattle.client.specs.declared.Refusal.TheVariants.{ShortBuffer, OtherImage, O
 use Rattle.client.specs.declared.Says.TheVariants.{Granted, Closing}
 use Rattle.client.specs.declared.Started.{Started}
 use Rattle.client.specs.Clients.{other_image, idle, turned, refuse}
+use Rattle.std.specs.Prelude.{Some, None}
 use Rattle.client.specs.Verdicts.{front_of, client_of, started_of}
 use Rattle.client.proofs.Ways.{at-idle, at_ready, at-waiting}
 use Rattle.client_request.specs.Request.{asks, next_seed, seeded, search_frame, frame_of, handing, handed, granted}
@@ -49,10 +50,10 @@ module _ (f : Front) (p : Place) (s : Search) where
   asks-seeking given n e en t = rw (e, en)
 
 -- A request that is handed out.
-module _ (f g : Front) (p : Phase) (n : ℕ) (x : Id) where
+module _ (f g : Front) (p : Phase) (n : ℕ) where
   pub handed-select : (s : Search) (seed : ℕ) → p ≡ Select s
       → ((w : Walk) → client_of g w ≡ turned (client_of f w) (Waiting p)) → seed ≡ next_seed f.seed → (w : Walk)
-      → started_of (record { says = Granted n; front = front_of (seeded (client_of g w) seed); begins = false; from = x })
+      → started_of (record { says = Granted n; front = front_of (seeded (client_of g w) seed); begins = None })
       w ≡ record { says = handing p n; client = handed (client_of f w) p }
   unfolding handing handed
   handed-select s seed ep e es w =
@@ -61,17 +62,17 @@ module _ (f g : Front) (p : Phase) (n : ℕ) (x : Id) where
 
   pub handed-demand : (j : Job) → p ≡ Demand j → ((w : Walk) → client_of g w ≡ turned (client_of f w) (Waiting p))
       → (w : Walk)
-      → started_of (record { says = Granted n; front = g; begins = false; from = x }) w
+      → started_of (record { says = Granted n; front = g; begins = None }) w
       ≡ record { says = handing p n; client = handed (client_of f w) p }
   unfolding handing handed
   handed-demand j ep e w = rw ep (ap (λ (c : Client). record { says = Granted n; client = c }) (rw ep at e w))
 
-  pub handed-leave : (reset : Reset) → p ≡ Leave reset → ((w : Walk) → client_of g no_walk ≡ idle (client_of f w))
+  pub handed-leave : (x : Id) (reset : Reset) → p ≡ Leave reset → ((w : Walk) → client_of g no_walk ≡ idle (client_of f w))
       → x ≡ no_id → (w : Walk)
-      → started_of (record { says = Closing n; front = g; begins = true; from = x }) w
+      → started_of (record { says = Closing n; front = g; begins = Some x }) w
       ≡ record { says = handing p n; client = handed (client_of f w) p }
   unfolding handing handed
-  handed-leave reset ep e ex w = rw (ep, ex, begin-none, e w)
+  handed-leave x reset ep e ex w = rw (ep, ex, begin-none, e w)
 
 pub granted-as : (f : Front) (p : Phase) (r : Opening) (v q : Placed) → v ≡ q
     → ((w : Walk) → started_of r w ≡ granted (client_of f w) p q) → (w : Walk)

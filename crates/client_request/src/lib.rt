@@ -49,36 +49,28 @@ fn handed(f: Front, phase: Phase, n: usize) -> Opening
     ensures { (w : Walk) → started_of result w
         ≡ record { says = handing phase n; client = handed (client_of f w) phase } }
 {
-    let from = Id::none();
     match phase {
         Phase::Select(_) => {
-            let mut front = f.turned(Turn::Waiting(phase));
-            front.seed = next_seed(f.seed);
+            let front = Front {
+                seed: next_seed(f.seed),
+                ..f.turned(Turn::Waiting(phase))
+            };
             Opening {
                 says: Says::Granted(n),
                 front,
-                begins: false,
-                from,
+                begins: None,
             }
         }
-        Phase::Demand(_) => {
-            let front = f.turned(Turn::Waiting(phase));
-            Opening {
-                says: Says::Granted(n),
-                front,
-                begins: false,
-                from,
-            }
-        }
-        Phase::Leave(_) => {
-            let front = f.idle();
-            Opening {
-                says: Says::Closing(n),
-                front,
-                begins: true,
-                from,
-            }
-        }
+        Phase::Demand(_) => Opening {
+            says: Says::Granted(n),
+            front: f.turned(Turn::Waiting(phase)),
+            begins: None,
+        },
+        Phase::Leave(_) => Opening {
+            says: Says::Closing(n),
+            front: f.idle(),
+            begins: Some(Id::none()),
+        },
     }
 }
 
@@ -128,8 +120,7 @@ pub fn ask(f: Front, p: Place, image: &[u8], buffer: &mut [u8]) -> Opening
     ensures { (t : Table) → record { answer = started_of result (walk_of p t); bytes = buffer.new }
         ≡ request (client_of f (walk_of p t)) image.now buffer.old }
 {
-    let t = f.turn;
-    match t {
+    match f.turn {
         Turn::Idle => f.refuse(Refusal::OutOfTurn),
         Turn::Ready(phase) => {
             if client::other_image(phase, image.len()) {
@@ -146,6 +137,5 @@ pub fn request(c: Client, image: &[u8], buffer: &mut [u8]) -> Started
     ensures { record { answer = result; bytes = buffer.new }
         ≡ request c image.now buffer.old }
 {
-    let w = c.walk;
-    ask(c.front(), w.place(), image, buffer).started(w)
+    ask(c.front(), c.walk.place(), image, buffer).started(c.walk)
 }

@@ -25,6 +25,7 @@ use Rattle.client.specs.Clients.{begun, running, refuse}
 use Rattle.client.specs.Verdicts.{front_of, client_of, started_of}
 use Rattle.client_start.specs.Start.{starts, demands, bad_prefix, start_select, start_deselect, start_attach}
 use Rattle.client_start.specs.Start.{start_attach_to, start_discover}
+use Rattle.std.specs.Prelude.{Some}
 
 -- The opening r gives the answer d, for the client of front f with any walk.
 abbrev Opens : Front → Opening → (Client → Started) → Type 0
@@ -47,7 +48,7 @@ module _ (f : Front) (b : Bool) (eb : b ≡ running f.turn) where
 
   pub starts-now : (g : Front) (p : Phase) (x y : Id) (bits : ℕ) → b ≡ false
       → ((w : Walk) → client_of g w ≡ begun (client_of f w) (Ready p) x bits w)
-      → Opens f (record { says = Onward; front = g; begins = true; from = y }) (λ c. starts c p x bits (begin y))
+      → Opens f (record { says = Onward; front = g; begins = Some y }) (λ c. starts c p x bits (begin y))
   unfolding starts
   starts-now g p x y bits h e w = rw (← eb, h, e (begin y))
 

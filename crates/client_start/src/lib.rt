@@ -19,16 +19,14 @@ use ids::Id;
 fn starts(f: Front, phase: Phase, prefix: Id, bits: u8, from: Id) -> Opening
     ensures { (w : Walk) → started_of result w ≡ starts (client_of f w) phase prefix bits (begin from) }
 {
-    let t = f.turn;
-    if client::running(t) {
+    if client::running(f.turn) {
         return f.refuse(Refusal::OutOfTurn);
     }
     let front = f.begun(Turn::Ready(phase), prefix, bits);
     Opening {
         says: Says::Onward,
         front,
-        begins: true,
-        from,
+        begins: Some(from),
     }
 }
 
@@ -43,8 +41,7 @@ fn demands(f: Front, phase: Phase) -> Opening
 fn bad_prefix(f: Front) -> Opening
     ensures { (w : Walk) → started_of result w ≡ bad_prefix (client_of f w) }
 {
-    let t = f.turn;
-    if client::running(t) {
+    if client::running(f.turn) {
         return f.refuse(Refusal::OutOfTurn);
     }
     f.refuse(Refusal::BadPrefix)
@@ -72,8 +69,7 @@ pub fn open_select(f: Front, prefix: &[u8], bits: usize) -> Opening
 pub fn start_select(c: Client, prefix: &[u8], bits: usize) -> Started
     ensures { result ≡ start_select c prefix.now bits }
 {
-    let w = c.walk;
-    open_select(c.front(), prefix, bits).started(w)
+    open_select(c.front(), prefix, bits).started(c.walk)
 }
 
 pub fn open_deselect(f: Front) -> Opening
@@ -85,8 +81,7 @@ pub fn open_deselect(f: Front) -> Opening
 pub fn start_deselect(c: Client) -> Started
     ensures { result ≡ start_deselect c }
 {
-    let w = c.walk;
-    open_deselect(c.front()).started(w)
+    open_deselect(c.front()).started(c.walk)
 }
 
 // Attach to the only pod on the wire.
@@ -105,8 +100,7 @@ pub fn open_attach(f: Front) -> Opening
 pub fn start_attach(c: Client) -> Started
     ensures { result ≡ start_attach c }
 {
-    let w = c.walk;
-    open_attach(c.front()).started(w)
+    open_attach(c.front()).started(c.walk)
 }
 
 // Attach to the one pod whose id begins with a prefix.
@@ -128,8 +122,7 @@ pub fn open_attach_to(f: Front, prefix: &[u8]) -> Opening
 pub fn start_attach_to(c: Client, prefix: &[u8]) -> Started
     ensures { result ≡ start_attach_to c prefix.now }
 {
-    let w = c.walk;
-    open_attach_to(c.front(), prefix).started(w)
+    open_attach_to(c.front(), prefix).started(c.walk)
 }
 
 // Find every pod whose id begins with a prefix.
@@ -151,8 +144,7 @@ pub fn open_discover(f: Front, prefix: &[u8]) -> Opening
 pub fn start_discover(c: Client, prefix: &[u8]) -> Started
     ensures { result ≡ start_discover c prefix.now }
 {
-    let w = c.walk;
-    open_discover(c.front(), prefix).started(w)
+    open_discover(c.front(), prefix).started(c.walk)
 }
 
 // Ask for the device information.
@@ -165,8 +157,7 @@ pub fn open_info(f: Front) -> Opening
 pub fn start_info(c: Client) -> Started
     ensures { result ≡ start_info c }
 {
-    let w = c.walk;
-    open_info(c.front()).started(w)
+    open_info(c.front()).started(c.walk)
 }
 
 // Erase the whole app region.
@@ -179,8 +170,7 @@ pub fn open_erase(f: Front) -> Opening
 pub fn start_erase(c: Client) -> Started
     ensures { result ≡ start_erase c }
 {
-    let w = c.walk;
-    open_erase(c.front()).started(w)
+    open_erase(c.front()).started(c.walk)
 }
 
 // Flash an image. The host lends an image of this length to each call until the flash has ended.
@@ -193,8 +183,7 @@ pub fn open_flash(f: Front, image: &[u8]) -> Opening
 pub fn start_flash(c: Client, image: &[u8]) -> Started
     ensures { result ≡ start_flash c image.now }
 {
-    let w = c.walk;
-    open_flash(c.front(), image).started(w)
+    open_flash(c.front(), image).started(c.walk)
 }
 
 // In the bootloader the reply is awaited. Otherwise the operation ends when the request is handed out.
@@ -222,8 +211,7 @@ pub fn open_reset(f: Front, bootloader: bool, in_boot: bool) -> Opening
 pub fn start_reset(c: Client, bootloader: bool, in_boot: bool) -> Started
     ensures { result ≡ start_reset c bootloader in_boot }
 {
-    let w = c.walk;
-    open_reset(c.front(), bootloader, in_boot).started(w)
+    open_reset(c.front(), bootloader, in_boot).started(c.walk)
 }
 
 // Store a baud for the bootloader, then reset.
@@ -241,6 +229,5 @@ pub fn open_set_baud(f: Front, baud: u8, bootloader: bool, in_boot: bool) -> Ope
 pub fn start_set_baud(c: Client, baud: u8, bootloader: bool, in_boot: bool) -> Started
     ensures { result ≡ start_set_baud c baud bootloader in_boot }
 {
-    let w = c.walk;
-    open_set_baud(c.front(), baud, bootloader, in_boot).started(w)
+    open_set_baud(c.front(), baud, bootloader, in_boot).started(c.walk)
 }

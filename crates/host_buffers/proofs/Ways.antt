@@ -178,12 +178,12 @@ module _ (n : Note) (r : ℕ) (er : r ≡ coded n.number n.length) (s a a₁ a�
         (rw h)
 
     pub started-saved : (s₁ s₂ : List ℕ) → b ≡ false
-        → s₁ ≡ with_walk (renewed o.begins o.from (loaded_walk 87 s)) s → s₂ ≡ saved_front o.front ++ drop 87 s₁
+        → s₁ ≡ with_walk (renewed o.begins (loaded_walk 87 s)) s → s₂ ≡ saved_front o.front ++ drop 87 s₁
         → record { code = r; state = s₂; answer = a₂ } ≡ leaves (told_by (started_of o (loaded s).walk)) s a
     unfolding told_by loaded
     started-saved s₁ s₂ h e₃ e₄ =
         left o.says n r en er a a₁ a₂ room_a l₁ l₂ s b eb None no_id 0 no_table o.front _ s₂ e₁' e₂
-        (rw h (saved-in o.front (renewed o.begins o.from (loaded_walk 87 s)) s s₁ s₂ room_s e₃ e₄))
+        (rw h (saved-in o.front (renewed o.begins (loaded_walk 87 s)) s s₁ s₂ room_s e₃ e₄))
 
 -- The answer's list.
 module _ (c : Change) (s a r : List ℕ) where

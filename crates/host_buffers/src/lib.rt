@@ -57,20 +57,15 @@ pub fn told(v: Verdict, state: &mut [u8], answer: &mut [u8]) -> u64
     ensures { record { code = result; state = state.new; answer = answer.new }
         ≡ leaves (told_of v (loaded state.old).walk) state.old answer.old }
 {
-    let says = v.says;
-    let front = v.front;
-    let change = v.change;
-    let progress = v.progress;
-    let id = v.id;
-    let note = host_answer::numbers::note_of(says);
-    host_answer::write_front(note, progress, id, v.rest, answer);
-    lists(change, state, answer);
+    let note = host_answer::numbers::note_of(v.says);
+    host_answer::write_front(note, v.progress, v.id, v.rest, answer);
+    lists(v.change, state, answer);
     let code = crate::codes::coded(note.number, note.length);
     if client::changes_no_state(note.number) {
         return code;
     }
-    host_state::apply(change, state);
-    host_state::save_front(front, state);
+    host_state::apply(v.change, state);
+    host_state::save_front(v.front, state);
     code
 }
 
@@ -83,18 +78,15 @@ pub fn started(o: Opening, state: &mut [u8], answer: &mut [u8]) -> u64
         ≡ leaves (told_by (started_of o (loaded state.old).walk)) state.old
         answer.old }
 {
-    let says = o.says;
-    let front = o.front;
-    let from = o.from;
-    let n = host_answer::numbers::note_of(says);
+    let n = host_answer::numbers::note_of(o.says);
     host_answer::write_front(n, Progress::None, Id::none(), 0, answer);
     host_answer::no_list(answer);
     let code = crate::codes::coded(n.number, n.length);
     if client::changes_no_state(n.number) {
         return code;
     }
-    host_state::renew(o.begins, from, state);
-    host_state::save_front(front, state);
+    host_state::renew(o.begins, state);
+    host_state::save_front(o.front, state);
     code
 }
 

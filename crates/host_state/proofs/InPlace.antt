@@ -1,11 +1,11 @@
 -- Lemmas for the functions that change a client's bytes in place: one for each path through the code.
 use Prim.Native.Nat.{ℕ, ◌+◌, ◌-◌, ◌<◌, ◌≤◌}
-use mathlib.Core.Bool.{Bool, true, false, not}
+use Rattle.std.specs.Prelude.{Option, Some, None}
 use mathlib.Core.List.{List, ◌++◌}
 use mathlib.Core.Path.{◌≡◌, refl, sym, ◌∙◌, ap, ap₂}
 use native.Mathlib.Decide.{dec_lt}
 use native.Mathlib.Omega.{arith}
-use borrow.Author.Tests.{lt-ltb, le-ltb, not-true, not-false}
+use borrow.Author.Tests.{lt-ltb, le-ltb}
 use lib.ListN.{length, take, drop, replicate, length-drop, length-append, length-replicate}
 use lib.Seq.{drop-drop, length-take-le}
 use borrow.Rule.Slice.PartMut.{put_mid}
@@ -108,15 +108,15 @@ module _ (s : List ℕ) where
           go (no h) = rw (le-ltb list.count 64 (omega arith)) length-list
 
 module _ (s : List ℕ) (room : size ≤ length s) (hb : Bytes s) where
-  module _ (b : Bool) (x : Id) where
-    pub renew-no : not b ≡ true → s ≡ with_walk (renewed b x (loaded_walk 87 s)) s
-    renew-no e = walk-stays s hb room ∙ rw (not-true b e)
+  module _ (b : Option Id) where
+    pub renew-no : b ≡ None → s ≡ with_walk (renewed b (loaded_walk 87 s)) s
+    renew-no e = walk-stays s hb room ∙ rw e
 
-    pub renew-yes : (d₁ d₂ : List ℕ) (q : Place) → not b ≡ false → d₁ ≡ with_table no_table s
-        → walk_of q no_table ≡ begin x → d₂ ≡ with_place q d₁ → d₂ ≡ with_walk (renewed b x (loaded_walk 87 s)) s
-    renew-yes d₁ d₂ q e e₁ h e₂ = e₂
+    pub renew-yes : (x : Id) (d₁ d₂ : List ℕ) (q : Place) → b ≡ Some x → d₁ ≡ with_table no_table s
+        → walk_of q no_table ≡ begin x → d₂ ≡ with_place q d₁ → d₂ ≡ with_walk (renewed b (loaded_walk 87 s)) s
+    renew-yes x d₁ d₂ q e e₁ h e₂ = e₂
         ∙ placed-in s d₁ q no_table room (ap length table-zero ∙ length-replicate {A = ℕ} 1096 0) e₁
-        ∙ rw (not-false b e, h)
+        ∙ rw (e, h)
 
   module _ (c : Change) where
     pub apply-same : c.touch ≡ Same → s ≡ with_walk (changed c (loaded_walk 87 s)) s

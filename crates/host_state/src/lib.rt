@@ -152,18 +152,17 @@ fn clear(bytes: &mut [u8])
     wire::fill(&mut bytes[239..], 1096, 0);
 }
 
-// The walk after a start or a request: a new one under the prefix `from`, or as it was.
-pub fn renew(begins: bool, from: Id, bytes: &mut [u8])
+// The walk after a start or a request: a new one under the prefix given, or as it was.
+pub fn renew(begins: Option<Id>, bytes: &mut [u8])
     requires room { size ≤ length bytes.old }
     requires bytes { Bytes bytes.old }
     ensures { bytes.new
-        ≡ with_walk (renewed begins from (loaded_walk 87 bytes.old)) bytes.old }
+        ≡ with_walk (renewed begins (loaded_walk 87 bytes.old)) bytes.old }
 {
-    if !begins {
-        return;
+    if let Some(from) = begins {
+        clear(bytes);
+        save_place(walk::begin(from), bytes);
     }
-    clear(bytes);
-    save_place(walk::begin(from), bytes);
 }
 
 // The walk after a record, changed as the verdict says.
@@ -183,7 +182,7 @@ pub fn apply(change: Change, bytes: &mut [u8])
             keep(entry, bytes);
             save_place(place, bytes);
         }
-        Touch::Gives => renew(true, Id::none(), bytes),
-        Touch::Clears => renew(true, Id::none(), bytes),
+        Touch::Gives => renew(Some(Id::none()), bytes),
+        Touch::Clears => renew(Some(Id::none()), bytes),
     }
 }
