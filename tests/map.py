@@ -672,7 +672,7 @@ def discovery():
     parts = [
         level(host, heard, "what was heard"),
         upright(heard, read, taken("reader::read", "bytes", "at")),
-        upright(read, hear, shown("reader", "Reading")),
+        upright(read, hear, "a frame, or why none was read", shown("reader", "Unread")),
         upright(hear, decide, shown("hearing", "Hearing"), shown("hearing", "Heard")),
         level(client, decide, taken("client_record::decide", "f", "p", "count")),
         upright(decide, step, taken("walk_step::step", "p", "count", "phase", "h", "id")),

@@ -7,13 +7,14 @@ use native.Mathlib.Omega.{arith}
 use lib.ListN.{length, drop}
 use lib.Dec.{eqb}
 use borrow.Author.Tests.{eq-eqb, ne_eqb}
+use Rattle.std.specs.Prelude.{Result, Err}
 use Rattle.paper.specs.Frame as PaperFrame
 use Rattle.paper.specs.Frame.{read, short, too_long, bad_check, whole, status-CrcMismatch}
 use Rattle.paper.specs.Answers as PaperAnswers
 use Rattle.paper.specs.Answers.{answer_from, answer, lost, answered, device, ok, reply_of}
 use Rattle.reader.specs.declared.Frame.{Frame}
-use Rattle.reader.specs.declared.Reading.{Reading}
-use Rattle.reader.specs.declared.Reading.TheVariants.{Short, TooLong}
+use Rattle.reader.specs.declared.Unread.{Unread}
+use Rattle.reader.specs.declared.Unread.TheVariants.{Short, TooLong}
 use Rattle.reader.specs.Shown.{frame_at, shown_from}
 use Rattle.hearing.specs.declared.Answered.{Answered}
 use Rattle.hearing.specs.declared.Answered.TheVariants.{Lost, Device, Ok}
@@ -35,7 +36,7 @@ abbrev reply : Bool → PaperFrame.Frame → PaperAnswers.Reply
 reply true f = reply_of f
 reply false f = device status-CrcMismatch
 
-module _ (right : Bool) (bytes : List ℕ) (at : ℕ) (x : Reading) (e : x ≡ shown_from at (read (drop at bytes)))
+module _ (right : Bool) (bytes : List ℕ) (at : ℕ) (x : Result Frame Unread) (e : x ≡ shown_from at (read (drop at bytes)))
     (f : Frame) (c : x ≡ read_as right f) where
   found : Shows bytes at f right
   found = shows right bytes at x e f c
@@ -87,7 +88,7 @@ replied-shown at f = go (eqb f.status 1)
     go true = ap (λ (i : ℕ). Ok i (length f.payload) (at + PaperFrame.size f)) (place at (length f.payload))
     go false = refl
 
-module _ (bytes : List ℕ) (at : ℕ) (x : Reading) (e : x ≡ shown_from at (read (drop at bytes)))
+module _ (bytes : List ℕ) (at : ℕ) (x : Result Frame Unread) (e : x ≡ shown_from at (read (drop at bytes)))
     (r : Reach bytes at) where
   pub answers-whole : (f : Frame) → x ≡ read_as true f → (f.status ≡ 0 → ⊥) → (a : Answered) → a ≡ replied_by f
       → a ≡ shown_answer (answer bytes)
@@ -104,11 +105,11 @@ module _ (bytes : List ℕ) (at : ℕ) (x : Reading) (e : x ≡ shown_from at (r
   answers-bad f c z = ap shown_answer (halted false bytes at x e f c r z)
 
 -- The readings without a frame: too long, or short.
-abbrev pub lost_as : Bool → Reading
-lost_as true = TooLong
-lost_as false = Short
+abbrev pub lost_as : Bool → Result Frame Unread
+lost_as true = Err TooLong
+lost_as false = Err Short
 
-pub ended : (long : Bool) (bytes : List ℕ) (at : ℕ) (x : Reading) → x ≡ shown_from at (read (drop at bytes))
+pub ended : (long : Bool) (bytes : List ℕ) (at : ℕ) (x : Result Frame Unread) → x ≡ shown_from at (read (drop at bytes))
     → Reach bytes at → x ≡ lost_as long → Lost ≡ shown_answer (answer bytes)
 unfolding answer_from
 ended long bytes at x e r c = ap shown_answer (go long (read (drop at bytes)) refl (sym e ∙ c) r.left r.same)

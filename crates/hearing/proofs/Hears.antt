@@ -12,13 +12,13 @@ use mir.Val.{Fits}
 use lib.Seq.{drop-drop}
 use lib.Dec.{eqb}
 use borrow.Author.Tests.{ne_eqb}
+use Rattle.std.specs.Prelude.{Result, Ok}
 use Rattle.paper.proofs.Readings.{Read, read_known, frames-first, frames-none}
 use Rattle.paper.specs.Frame as Paper
 use Rattle.paper.specs.Frame.{read, size, short, too_long, bad_check, whole}
 use Rattle.paper.specs.Hearing.{hear, frames, replies, replies_heard, on_some, clean, one, unaddressed, garble}
 use Rattle.reader.specs.declared.Frame.{Frame}
-use Rattle.reader.specs.declared.Reading.{Reading}
-use Rattle.reader.specs.declared.Reading.TheVariants.{Whole}
+use Rattle.reader.specs.declared.Unread.{Unread}
 use Rattle.reader.specs.Shown.{frame_at, shown_from}
 use Rattle.hearing.specs.declared.Hearing.{Hearing}
 use Rattle.hearing.specs.declared.Heard.TheVariants.{Unaddressed, Garble}
@@ -82,8 +82,8 @@ stands-concluded (one-reply p f es w eb) = rw (es, eb) (go (eqb p.status 1) (eqb
 stands-concluded (more-replies p q ps) = refl
 
 -- Any reading other than a whole frame, in the form of the code's test.
-abbrev pub Unfit : Reading → Type 0
-Unfit x = (f : Frame) → x ≡ Whole f → ⊥
+abbrev pub Unfit : Result Frame Unread → Type 0
+Unfit x = (f : Frame) → x ≡ Ok f → ⊥
 
 unfit-unclean : (at : ℕ) (y : Paper.Reading) → Unfit (shown_from at y) → clean y ≡ none
 unfolding clean
@@ -145,11 +145,11 @@ module _ (bytes : List ℕ) (at : ℕ) (rs : Replies) (h : at < length bytes) (r
                 ∙ (rw (first n, e, drop-drop (size p) at bytes) at q);
           }
 
-  module _ (x : Reading) (e : x ≡ shown_from at (read (drop at bytes))) where
+  module _ (x : Result Frame Unread) (e : x ≡ shown_from at (read (drop at bytes))) where
     pub hears-unfit : Unfit x → (g : Hearing) → g ≡ heard_as Garble → g ≡ shown_heard (hear bytes)
     hears-unfit u g q = q ∙ ap shown_heard (unclean (unfit-unclean at (read (drop at bytes)) (rw e at u)))
 
-    module _ (f : Frame) (c : x ≡ Whole f) where
+    module _ (f : Frame) (c : x ≡ Ok f) where
       found : Shows bytes at f true
       found = shows true bytes at x e f c
 

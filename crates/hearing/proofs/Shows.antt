@@ -6,18 +6,19 @@ use mathlib.Core.Path.{◌≡◌, refl, sym, ◌∙◌, ap}
 use native.Mathlib.Omega.{arith}
 use native.Mathlib.Nat.{add_assoc}
 use lib.ListN.{length, drop, length-drop}
+use Rattle.std.specs.Prelude.{Result, Ok, Err}
 use Rattle.paper.proofs.Readings.{framed, read_known}
 use Rattle.paper.specs.Frame as Paper
 use Rattle.paper.specs.Frame.{read, size, short, too_long, bad_check, whole}
 use Rattle.reader.specs.declared.Frame.{Frame}
-use Rattle.reader.specs.declared.Reading.{Reading}
-use Rattle.reader.specs.declared.Reading.TheVariants.{BadCheck, Whole}
+use Rattle.reader.specs.declared.Unread.{Unread}
+use Rattle.reader.specs.declared.Unread.TheVariants.{BadCheck}
 use Rattle.reader.specs.Shown.{frame_at, shown_from}
 
 -- The code's reading of a frame, by whether its check is right.
-abbrev pub read_as : Bool → Frame → Reading
-read_as true f = Whole f
-read_as false f = BadCheck f
+abbrev pub read_as : Bool → Frame → Result Frame Unread
+read_as true f = Ok f
+read_as false f = Err (BadCheck f)
 
 -- f is the frame that the paper reads from the place at on, after skip bytes.
 pub record Shows (bytes : List ℕ) (at : ℕ) (f : Frame) (right : Bool) : Type 0 where
@@ -26,7 +27,7 @@ pub record Shows (bytes : List ℕ) (at : ℕ) (f : Frame) (right : Bool) : Type
   pub shown : f ≡ frame_at (at + skip) frame
   pub came : read (drop at bytes) ≡ framed right skip frame
 
-pub shows : (right : Bool) (bytes : List ℕ) (at : ℕ) (x : Reading) → x ≡ shown_from at (read (drop at bytes))
+pub shows : (right : Bool) (bytes : List ℕ) (at : ℕ) (x : Result Frame Unread) → x ≡ shown_from at (read (drop at bytes))
     → (f : Frame) → x ≡ read_as right f → Shows bytes at f right
 shows right bytes at x e f c = go right (read (drop at bytes)) refl (sym e ∙ c)
   where
@@ -53,7 +54,7 @@ module _ (bytes : List ℕ) (at : ℕ) (f : Frame) (right : Bool) (s : Shows byt
   end-within =
       omega (arith, end_is, length-drop at bytes, (read_known (drop at bytes) s.skip s.frame right s.came).room)
 
-module _ (right : Bool) (bytes : List ℕ) (at : ℕ) (x : Reading) (e : x ≡ shown_from at (read (drop at bytes)))
+module _ (right : Bool) (bytes : List ℕ) (at : ℕ) (x : Result Frame Unread) (e : x ≡ shown_from at (read (drop at bytes)))
     (f : Frame) (c : x ≡ read_as right f) where
   pub inside : f.end ≤ length bytes
   inside = end-within bytes at f right (shows right bytes at x e f c)

@@ -8,7 +8,7 @@ ghost use Rattle.hearing.specs.Heard.{is_long, Within, heard_as, noted, one_hear
 ghost use Rattle.hearing.specs.Heard.{shown_answer};
 
 use ids::Id;
-use reader::{Frame, Reading};
+use reader::{Frame, Unread};
 
 // What one Select heard. An id over 16 bytes is TooLong.
 #[derive(Clone, Copy)]
@@ -110,7 +110,7 @@ pub fn hear(bytes: &[u8]) -> Hearing
     let mut replies = Replies::None;
     while at < bytes.len() {
         let r = reader::read(bytes, at);
-        let Reading::Whole(f) = r else {
+        let Ok(f) = r else {
             return heard_as(Heard::Garble);
         };
         if f.payload != at + 10 {
@@ -130,20 +130,20 @@ pub fn answer(bytes: &[u8]) -> Answered
     let found = loop {
         let r = reader::read(bytes, at);
         match r {
-            Reading::Short => break Answered::Lost,
-            Reading::TooLong => break Answered::Lost,
-            Reading::BadCheck(bad) => {
-                if bad.status != wire::REQUEST {
-                    break Answered::Device(wire::CRC_MISMATCH, bad.end);
-                }
-                at = bad.end;
-            }
-            Reading::Whole(f) => {
+            Ok(f) => {
                 if f.status != wire::REQUEST {
                     break replied(f);
                 }
                 at = f.end;
             }
+            Err(Unread::BadCheck(bad)) => {
+                if bad.status != wire::REQUEST {
+                    break Answered::Device(wire::CRC_MISMATCH, bad.end);
+                }
+                at = bad.end;
+            }
+            Err(Unread::Short) => break Answered::Lost,
+            Err(Unread::TooLong) => break Answered::Lost,
         }
     };
     found

@@ -1,46 +1,43 @@
 -- Lemmas for each path through the reader: the search for A5, the check, and a frame with its places in the record.
 use Prim.Native.Nat.{ℕ, ◌+◌, ◌-◌, ◌<◌, ◌≤◌}
-use mathlib.Core.Bool.{Bool, true, false, cond}
+use mathlib.Core.Bool.{Bool, true, false, cond, not}
 use mathlib.Core.List.{List}
 use mathlib.Core.Path.{◌≡◌, refl, sym, ◌∙◌, ap}
 use native.Mathlib.Nat.{add-zero, le_of_lt}
 use native.Mathlib.Omega.{arith}
-use native.Mathlib.Numerals.{add-one}
-use lib.ListN.{length, get_or, take, drop, length-drop, drop_of_length-le}
-use lib.Seq.{drop-cons, drop-drop, length-take-le}
+use lib.ListN.{length, take, drop, length-drop, drop_of_length-le}
+use lib.Seq.{drop-drop, length-take-le}
 use lib.Dec.{eqb, ltb}
-use borrow.Author.Tests.{eq-eqb, ne_eqb, le-ltb}
+use Rattle.std.specs.Prelude.{Option, Some, None, Result, Ok, Err}
+use Rattle.std.specs.List.{position, position_or_len}
+use Rattle.std.specs.Option.{unwrap_or}
+use Rattle.std.proofs.lemmas.List.Recursion.{is_position_or_len}
+use Rattle.std.proofs.lemmas.List.Sums.{prefix_len-le-length}
+use borrow.Author.Tests.{le-ltb, ltb-false}
 use Rattle.lore.proofs.Parts.{part-all, part-between}
 use Rattle.paper.specs.Frame as Paper
 use Rattle.paper.specs.Frame.{field, byte, skipped, check, crc_from, right_check, read_sized, read_synced, read, short}
 use Rattle.paper.specs.Frame.{too_long, bad_check, whole}
 use Rattle.reader.specs.declared.Frame.{Frame}
-use Rattle.reader.specs.declared.Reading.{Reading}
-use Rattle.reader.specs.declared.Reading.TheVariants.{Short, BadCheck, Whole}
+use Rattle.reader.specs.declared.Unread.{Unread}
+use Rattle.reader.specs.declared.Unread.TheVariants.{Short, BadCheck}
 use Rattle.reader.specs.Shown.{frame_at, fields_at, shown_from}
 
--- The search for A5 at place i: it is there, it is not there, or the bytes end.
-module _ (s : List ℕ) (i : ℕ) (e : i + skipped (drop i s) ≡ skipped s) where
-  pub found : i < length s → get_or s i 0 ≡ 0xA5 → i ≡ skipped s
-  unfolding skipped
-  found h q = omega (arith, e, none)
-    where
-      none : skipped (drop i s) ≡ 0
-      none = rw (drop-cons s i 0) (simp (eq-eqb _ _ q))
+-- The bytes before the first A5, from its place as the library finds it.
+pub first : (s : List ℕ) (o : Option ℕ) (n : ℕ) → n ≡ unwrap_or o (length s) → o ≡ position (λ b. eqb b 0xA5) s
+    → n ≡ skipped s
+unfolding skipped
+first s o n en eo = en ∙ rw eo (go (ltb k (length s)) refl) ∙ sym same
+  where
+    k : ℕ
+    k = position_or_len (λ b. eqb b 0xA5) s
 
-  pub passed : i < length s → (get_or s i 0 ≡ 0xA5 → ⊥) → i + 1 + skipped (drop (i + 1) s) ≡ skipped s
-  unfolding skipped
-  passed h q = omega (arith, e, more)
-    where
-      more : skipped (drop i s) ≡ 1 + skipped (drop (i + 1) s)
-      more = rw (add-one i, drop-cons s i 0) (simp (ne_eqb _ _ q))
+    same : skipped s ≡ k
+    same = is_position_or_len skipped (λ b. eqb b 0xA5) refl (λ x xs. refl) s
 
-  pub ran_out : length s ≤ i → i ≡ skipped s
-  unfolding skipped
-  ran_out h = omega (arith, e, none)
-    where
-      none : skipped (drop i s) ≡ 0
-      none = rw (drop_of_length-le s {i = i} h)
+    go : (b : Bool) → ltb k (length s) ≡ b → unwrap_or (cond b (Some k) None) (length s) ≡ k
+    go true e = refl
+    go false e = omega (arith, prefix_len-le-length (λ b. not (eqb b 0xA5)) s, ltb-false k (length s) e)
 
 pub checked : (s : List ℕ) (n c w : ℕ) → c ≡ crc_from 0xFFFF (take (10 + n - 1) (drop 1 s)) → w ≡ field (10 + n) 2 s
     → eqb c w ≡ right_check n s
@@ -65,16 +62,16 @@ fields-shown base n s h = rw (add-zero base, length-take-le n (drop 10 s) (omega
 
 module _ (s : List ℕ) (base n : ℕ) (f : Frame) (m : Bool) (small : n ≤ 1024) (room : 12 + n ≤ length s)
     (ef : f ≡ fields_at base n s) (em : m ≡ right_check n s) where
-  pub read_whole : m ≡ true → Whole f ≡ shown_from base (read_sized 0 n s)
+  pub read_whole : m ≡ true → Ok f ≡ shown_from base (read_sized 0 n s)
   unfolding read_sized
-  read_whole h = simp (le-ltb _ _ small, le-ltb _ _ room, sym em ∙ h) (ap Whole (ef ∙ sym (fields-shown base n s room)))
+  read_whole h = simp (le-ltb _ _ small, le-ltb _ _ room, sym em ∙ h) (ap Ok (ef ∙ sym (fields-shown base n s room)))
 
-  pub read-bad : m ≡ false → BadCheck f ≡ shown_from base (read_sized 0 n s)
+  pub read-bad : m ≡ false → Err (BadCheck f) ≡ shown_from base (read_sized 0 n s)
   unfolding read_sized
   read-bad h = simp (le-ltb _ _ small, le-ltb _ _ room, sym em ∙ h)
-      (ap BadCheck (ef ∙ sym (fields-shown base n s room)))
+      (ap (λ (g : Frame). Err (BadCheck g)) (ef ∙ sym (fields-shown base n s room)))
 
-pub read-sized : (s : List ℕ) (base w : ℕ) (r : Reading) → 10 ≤ length s → w ≡ field 8 2 s
+pub read-sized : (s : List ℕ) (base w : ℕ) (r : Result Frame Unread) → 10 ≤ length s → w ≡ field 8 2 s
     → r ≡ shown_from base (read_sized 0 w s) → r ≡ shown_from base (read_synced 0 s)
 unfolding read_synced
 read-sized s base w r h ew er = simp (le-ltb _ _ h, ← ew) er
@@ -100,7 +97,7 @@ shown-skipped at k s = go (ltb (length s) 10) (ltb Paper.most n) (ltb (length s)
     go false false false true = rw (add-zero (at + k))
     go false false false false = rw (add-zero (at + k))
 
-pub read-from : (s : List ℕ) (at k : ℕ) (r : Reading) → k ≡ skipped (take (length s - at) (drop at s))
+pub read-from : (s : List ℕ) (at k : ℕ) (r : Result Frame Unread) → k ≡ skipped (take (length s - at) (drop at s))
     → r ≡ shown_from (at + k) (read_synced 0 (take (length s - (at + k)) (drop (at + k) s)))
     → r ≡ shown_from at (read (drop at s))
 unfolding read
@@ -108,6 +105,6 @@ read-from s at k r ek er =
     let same : k ≡ skipped (drop at s) = rw (part-all at s) at ek in
     er ∙ rw (part-all (at + k) s, drop-drop, ← same) (shown-skipped at k (drop (at + k) s))
 
-pub read_past : (s : List ℕ) (at : ℕ) → length s < at → Short ≡ shown_from at (read (drop at s))
+pub read_past : (s : List ℕ) (at : ℕ) → length s < at → Err Short ≡ shown_from at (read (drop at s))
 unfolding read read_synced skipped
 read_past s at h = rw (drop_of_length-le s {i = at} (le_of_lt h))

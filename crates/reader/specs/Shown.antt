@@ -1,10 +1,10 @@
 -- The paper's frames and readings as values of the code, with their places in the record.
-use Rattle.std.specs.Prelude.{ℕ, ◌+◌, List, length}
+use Rattle.std.specs.Prelude.{ℕ, ◌+◌, List, Result, Ok, Err, length}
 use Rattle.paper.specs.Frame as Paper
 use Rattle.paper.specs.Frame.{byte, field, on_reading}
 use Rattle.reader.specs.declared.Frame.{Frame}
-use Rattle.reader.specs.declared.Reading.{Reading}
-use Rattle.reader.specs.declared.Reading.TheVariants.{Short, TooLong, BadCheck, Whole}
+use Rattle.reader.specs.declared.Unread.{Unread}
+use Rattle.reader.specs.declared.Unread.TheVariants.{Short, TooLong, BadCheck}
 
 -- A frame of the paper whose A5 is at a place.
 abbrev pub frame_at : ℕ → Paper.Frame → Frame
@@ -30,6 +30,9 @@ fields_at at n bytes = record {
   end = at + (12 + n);
 }
 
--- What the paper reads from a place of the record on.
-abbrev pub shown_from : ℕ → Paper.Reading → Reading
-shown_from at r = on_reading r Short TooLong (λ k f. BadCheck (frame_at (at + k) f)) (λ k f. Whole (frame_at (at + k) f))
+-- What the paper reads from a place of the record on: a whole frame, or why there is none.
+abbrev pub shown_from : ℕ → Paper.Reading → Result Frame Unread
+shown_from at r =
+    on_reading r (Err Short) (Err TooLong)
+    (λ k f. Err (BadCheck (frame_at (at + k) f)))
+    (λ k f. Ok (frame_at (at + k) f))

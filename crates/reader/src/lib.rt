@@ -17,12 +17,12 @@ pub struct Frame {
     pub end: usize,
 }
 
+// Why no whole frame was read. BadCheck: the check is wrong; the fields are still read.
 #[derive(Clone, Copy)]
-pub enum Reading {
+pub enum Unread {
     Short,
     TooLong,
     BadCheck(Frame),
-    Whole(Frame),
 }
 
 // How many bytes come before the first A5; all of them if there is none.
@@ -30,14 +30,7 @@ fn skipped(s: &[u8]) -> usize
     ensures value { result ≡ skipped s.now }
     ensures upper_bound { result ≤ length s.now }
 {
-    let mut i = 0;
-    while i < s.len() {
-        if s[i] == 0xA5 {
-            return i;
-        }
-        i += 1;
-    }
-    i
+    s.iter().position(|b| *b == 0xA5).unwrap_or(s.len())
 }
 
 // The fields of a frame with n bytes of payload. s begins with its A5; base is where s begins in the record.
@@ -68,46 +61,44 @@ fn right_check(s: &[u8], n: usize) -> bool
 }
 
 // Reads a frame whose head says n bytes of payload. s and base as above.
-fn read_sized(s: &[u8], base: usize, n: u16) -> Reading
+fn read_sized(s: &[u8], base: usize, n: u16) -> Result<Frame, Unread>
     requires { base + length s.now < 2 ^ 64 }
     ensures { result ≡ shown_from base (read_sized 0 n s.now) }
 {
     let len = n as usize;
     let size = 12 + len;
     if wire::MAX_PAYLOAD < len {
-        return Reading::TooLong;
+        return Err(Unread::TooLong);
     }
     if s.len() < size {
-        return Reading::Short;
+        return Err(Unread::Short);
     }
     let f = fields(s, base, len);
     if right_check(s, len) {
-        Reading::Whole(f)
+        Ok(f)
     } else {
-        Reading::BadCheck(f)
+        Err(Unread::BadCheck(f))
     }
 }
 
 // Reads the frame at the front of s. s begins with its A5, or is empty; base is where s begins in the record.
-fn read_synced(s: &[u8], base: usize) -> Reading
+fn read_synced(s: &[u8], base: usize) -> Result<Frame, Unread>
     requires { base + length s.now < 2 ^ 64 }
     ensures { result ≡ shown_from base (read_synced 0 s.now) }
 {
     if s.len() < 10 {
-        Reading::Short
-    } else {
-        read_sized(s, base, wire::get(s, 8))
+        return Err(Unread::Short);
     }
+    read_sized(s, base, wire::get(s, 8))
 }
 
 // Reads the next frame from a place of the record on; Short if the place is past the end.
-pub fn read(bytes: &[u8], at: usize) -> Reading
+pub fn read(bytes: &[u8], at: usize) -> Result<Frame, Unread>
     ensures { result ≡ shown_from at (read (drop at bytes.now)) }
 {
     if bytes.len() < at {
-        Reading::Short
-    } else {
-        let from = at + skipped(&bytes[at..]);
-        read_synced(&bytes[from..], from)
+        return Err(Unread::Short);
     }
+    let from = at + skipped(&bytes[at..]);
+    read_synced(&bytes[from..], from)
 }

@@ -5,26 +5,26 @@ use Rattle.hearing.proofs.Shows.{inside, less}
 use Rattle.hearing.proofs.Answers.{begun, further, ended, answers-whole, answers-bad}
 use Rattle.hearing.proofs.answer.Goals as goal
 
-pub loop-bad-init : goal.loop-bad-init
-loop-bad-init c = (search rules, begun _)
+pub loop-f-init : goal.loop-f-init
+loop-f-init c = (search rules, begun _)
 
-pub loop-bad-smaller-in-BadCheck : goal.loop-bad-smaller-in-BadCheck
-loop-bad-smaller-in-BadCheck c = search (less false, rules)
+pub loop-f-smaller-in-Ok : goal.loop-f-smaller-in-Ok
+loop-f-smaller-in-Ok c = search (less true, rules)
 
-pub loop-bad-preserved-in-BadCheck : goal.loop-bad-preserved-in-BadCheck
-loop-bad-preserved-in-BadCheck c = (search (inside false, rules), search (further false, rules))
+pub loop-f-preserved-in-Ok : goal.loop-f-preserved-in-Ok
+loop-f-preserved-in-Ok c = (search (inside true, rules), search (further true, rules))
 
-pub loop-bad-smaller : goal.loop-bad-smaller
-loop-bad-smaller c = search (less true, rules)
+pub loop-f-smaller : goal.loop-f-smaller
+loop-f-smaller c = search (less false, rules)
 
-pub loop-bad-preserved : goal.loop-bad-preserved
-loop-bad-preserved c = (search (inside true, rules), search (further true, rules))
+pub loop-f-preserved : goal.loop-f-preserved
+loop-f-preserved c = (search (inside false, rules), search (further false, rules))
 
-pub returns-in-Short : goal.returns-in-Short
-returns-in-Short c = search (ended false, rules)
+pub returns-in-Err-Short : goal.returns-in-Err-Short
+returns-in-Err-Short c = search (ended false, rules)
 
-pub returns-in-TooLong : goal.returns-in-TooLong
-returns-in-TooLong c = search (ended true, rules)
+pub returns-in-Err-TooLong : goal.returns-in-Err-TooLong
+returns-in-Err-TooLong c = search (ended true, rules)
 
 pub returns-then-bad-ne-REQUEST : goal.returns-then-bad-ne-REQUEST
 returns-then-bad-ne-REQUEST c = search (answers-bad, rules)

@@ -4,8 +4,8 @@ use lib.ListN.{length}
 use Rattle.hearing.proofs.Answers.{Reach}
 use Rattle.hearing.proofs.answer.Given as goal
 
-abbrev pub invariant-loop-bad : goal.invariant-loop-bad
-invariant-loop-bad l = (l.at ≤ length l.bytes) × Reach l.bytes l.at
+abbrev pub invariant-loop-f : goal.invariant-loop-f
+invariant-loop-f l = (l.at ≤ length l.bytes) × Reach l.bytes l.at
 
-abbrev pub decreases-loop-bad : goal.decreases-loop-bad
-decreases-loop-bad l = length l.bytes - l.at
+abbrev pub decreases-loop-f : goal.decreases-loop-f
+decreases-loop-f l = length l.bytes - l.at

@@ -6,5 +6,5 @@ use Rattle.reader.proofs.read.Goals as goal
 pub returns-then-bytes-at : goal.returns-then-bytes-at
 returns-then-bytes-at c = search (read_past, rules)
 
-pub returns-else-bytes-at : goal.returns-else-bytes-at
-returns-else-bytes-at c = search (read-from, rules)
+pub returns : goal.returns
+returns c = search (read-from, rules)

@@ -9,5 +9,5 @@ pub returns-then-s-lt10 : goal.returns-then-s-lt10
 unfolding read_synced
 returns-then-s-lt10 c = search (ways, rules)
 
-pub returns-else-s-lt10 : goal.returns-else-s-lt10
-returns-else-s-lt10 c = search (read-sized, rules)
+pub returns : goal.returns
+returns c = search (read-sized, rules)
