@@ -676,7 +676,7 @@ def discovery():
         upright(hear, decide, shown("hearing", "Hearing"), shown("hearing", "Heard")),
         level(client, decide, taken("client_record::decide", "f", "p", "count")),
         upright(decide, step, taken("walk_step::step", "p", "count", "phase", "h", "id")),
-        upright(step, walked, shown("walk_step", "Move"), shown("walk_step", "Way")),
+        upright(step, walked, shown("walk_step", "Move"), shown("walk_step", "End")),
         level(walked, verdict, "what decide returns"),
         upright(verdict, apply, taken("host_state::apply", "change")),
         upright(verdict, told, taken("client_record::told", "v")),

@@ -6,6 +6,7 @@ use mathlib.Core.Bool.{Bool, true, false, cond}
 use mathlib.Core.List.{List}
 use mathlib.Core.Path.{◌≡◌, refl, sym, ◌∙◌}
 use lib.ListN.{length}
+use Rattle.std.specs.Prelude.{Result}
 use Rattle.paper.specs.Hearing.{hear}
 use Rattle.lore.proofs.Choice.{cond_yes, cond_no}
 use Rattle.ids.specs.declared.Id.{Id}
@@ -23,7 +24,6 @@ use Rattle.walk.specs.declared.Phase as Walk
 use Rattle.walk.specs.Moves.{walk_of, place_of, no_walk}
 use Rattle.hearing.specs.Heard.{is_long}
 use Rattle.walk_step.specs.declared.End.{End}
-use Rattle.walk_step.specs.declared.Way.TheVariants.{On, Keeps, Done, Stopped}
 use Rattle.walk_step.specs.declared.Move.{Move}
 use Rattle.walk_step.specs.Steps as Steps
 use Rattle.walk_step.specs.Joined.{joined}
@@ -40,14 +40,13 @@ use Rattle.client.specs.declared.Change.{Change}
 use Rattle.client.specs.declared.Verdict.{Verdict}
 use Rattle.client.specs.declared.Refusal.TheVariants.{Io, SeveralDevices, AmbiguousUid, LongId, OtherImage, OutOfTurn}
 use Rattle.client.specs.declared.Outcome.TheVariants as Outcome
-use Rattle.client.specs.declared.Says.{Says}
 use Rattle.client.specs.declared.Says.TheVariants.{Over, Refused}
 use Rattle.client.specs.declared.Told.{Told}
-use Rattle.client.specs.Clients.{on_turn, other_image, holding, cleared, refuses, over, stops, onward}
+use Rattle.client.specs.Clients.{on_turn, other_image, holding, cleared, refuses, over, stops}
 use Rattle.client.specs.Verdicts.{front_of, client_of, on_touch, changed, given, told_of}
 use Rattle.client.proofs.Ways.{at-waiting}
 use Rattle.client_record.specs.declared.After.{After}
-use Rattle.client_record.specs.Record.{attaches, met, backed, stop_of, walked, probed, hears, answered_to, record'}
+use Rattle.client_record.specs.Record.{attaches, met, backed, walked, probed, hears, answered_to, record'}
 use Rattle.client_record.specs.Record.{link_failed}
 
 -- The verdict r gives the answer a, for a client with any walk.
@@ -91,35 +90,9 @@ module _ (f : Front) (b : Bool) (h : Heard) (x : Id) (at : ℕ) (r : Verdict) wh
   unfolding met
   met-unaddressed n e g en q w = rw (e, g) (rw en at q w)
 
--- The answer of a discovery to a move, once it is joined with the walk's list.
-abbrev joined_in : Front → Move → ℕ → Walk → Told
+-- The answer of a discovery to a step, once it is joined with the walk's list.
+abbrev joined_in : Front → Result Move End → ℕ → Walk → Told
 joined_in f m at w = walked (client_of f w) (joined m w.found).goes (joined m w.found).walk at
-
-module _ (f : Front) (m : Move) (at : ℕ) (r : Verdict) where
-  pub walked_on : (p : Walk.Phase) → m.way ≡ On p
-      → ((w : Walk) → no_table ≡ no_table
-      → told_of r w ≡ onward (client_of f w) (Select (Walking p)) (walk_of m.place w.found) at)
-      → Tells r (joined_in f m at)
-  unfolding walked joined
-  walked_on p e q w = rw e (q w refl)
-
-  pub walked_keeps : (p : Walk.Phase) → m.way ≡ Keeps p
-      → ((w : Walk) → no_table ≡ no_table
-      → told_of r w ≡ onward (client_of f w) (Select (Walking p)) (walk_of m.place (keeping w.found m.entry)) at)
-      → Tells r (joined_in f m at)
-  unfolding walked joined
-  walked_keeps p e q w = rw e (q w refl)
-
-  pub walked-done : (g : Front) (x : Id) → g.seed < 256 → m.way ≡ Done
-      → ((w : Walk) → client_of g w ≡ cleared (client_of f w)) → x ≡ no_id
-      → Tells r (λ w. over (client_of g w) (Over Outcome.Found) x (giving w.found) at) → Tells r (joined_in f m at)
-  unfolding walked joined
-  walked-done g x l e eg ex q w = rw e ((rw ex at q w) ∙ rw (eg w))
-
-  pub walked-stopped : (end : End) (s : Says) → m.way ≡ Stopped end → s ≡ stop_of end
-      → Tells r (λ w. stops (client_of f w) s at) → Tells r (joined_in f m at)
-  unfolding walked joined Steps.stopped
-  walked-stopped end s e es q w = rw (e, ← es) (q w)
 
 module _ (f : Front) (h : Heard) (x : Id) (at : ℕ) (r : Verdict) (b : Bool) (eb : b ≡ is_long h) where
   pub probed-long : b ≡ true → Tells r (λ w. stops (client_of f w) (Refused LongId) at)
@@ -132,7 +105,7 @@ module _ (f : Front) (h : Heard) (x : Id) (at : ℕ) (r : Verdict) (b : Bool) (e
   unfolding probed
   probed-heard e q w = rw (← eb, e) (q w)
 
-pub hears-walking : (m : Move) (f : Front) (p : Place) (n : ℕ) (r : Verdict) (s : Search) (h : Heard) (x : Id) (at : ℕ)
+pub hears-walking : (m : Result Move End) (f : Front) (p : Place) (n : ℕ) (r : Verdict) (s : Search) (h : Heard) (x : Id) (at : ℕ)
     (q : Walk.Phase) → s ≡ Walking q
     → ((t : Table) → t.count ≡ n → joined m t ≡ Steps.step (walk_of p t) q h x) → Tells r (joined_in f m at)
     → TellsAt r p n (λ w. hears (client_of f w) s h x at)

@@ -22,8 +22,8 @@ use client::{
 use hearing::Heard;
 use ids::Id;
 use walk::{Place, Walk};
-use walk_step::{End, Move, Way};
-use walk_table::Table;
+use walk_step::{End, Move};
+use walk_table::{Entry, Table};
 
 // The attach has succeeded: with the pod's id, or without one if the pod has none.
 fn attaches(f: Front, any: bool, id: Id, at: usize) -> Verdict
@@ -82,34 +82,32 @@ fn backed(f: Front, given: bool, at: usize) -> Verdict
 }
 
 // The verdict for the walk's next step.
-fn walked(f: Front, m: Move, at: usize) -> Verdict
+#[tactic(auto, unfolding(crate::specs::Record::walked, walk_step::specs::Joined::joined, walk_step::specs::Steps::stopped, walk_table::specs::Rows::giving))]
+fn walked(f: Front, step: Result<Move, End>, at: usize) -> Verdict
     ensures { (w : Walk) → told_of result w
-        ≡ walked (client_of f w) (joined m w.found).goes (joined m w.found).walk at }
+        ≡ walked (client_of f w) (joined step w.found).goes (joined step w.found).walk at }
 {
-    let way = m.way;
-    let place = m.place;
-    let entry = m.entry;
-    match way {
-        Way::On(p) => {
+    match step {
+        Ok(Move::On(g)) => {
             let change = Change {
                 touch: Touch::Moves,
-                place,
-                entry,
+                place: g.place,
+                entry: Entry { id: Id::none() },
             };
-            f.onward(Phase::Select(Search::Walking(p)), change, at)
+            f.onward(Phase::Select(Search::Walking(g.phase)), change, at)
         }
-        Way::Keeps(q) => {
+        Ok(Move::Keeps(k, id)) => {
             let change = Change {
                 touch: Touch::Keeps,
-                place,
-                entry,
+                place: k.place,
+                entry: Entry { id },
             };
-            f.onward(Phase::Select(Search::Walking(q)), change, at)
+            f.onward(Phase::Select(Search::Walking(k.phase)), change, at)
         }
-        Way::Done => f
+        Ok(Move::Done) => f
             .cleared()
             .over(Says::Over(Outcome::Found), Id::none(), true, at),
-        Way::Stopped(end) => f.stops(stop_of(end), at),
+        Err(end) => f.stops(stop_of(end), at),
     }
 }
 

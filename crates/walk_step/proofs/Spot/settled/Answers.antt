@@ -1,10 +1,10 @@
--- Answers to the goals of `walk_step::settled`.
+-- Answers to the goals of `walk_step::Spot::settled`.
 use Rattle.walk_step.proofs.Ways.{holding-deep, settled-yes, settled-no}
 use borrow.Author.Rules.{rules}
-use Rattle.walk_step.proofs.settled.Goals as goal
+use Rattle.walk_step.proofs.Spot.settled.Goals as goal
 
-pub kept-requires : goal.kept-requires
-kept-requires c = search (holding-deep, rules)
+pub invariant_of-q-clause-depth_bound : goal.invariant_of-q-clause-depth_bound
+invariant_of-q-clause-depth_bound c = search (holding-deep, rules)
 
 pub returns-then-held : goal.returns-then-held
 returns-then-held c = search (settled-yes, rules)
