@@ -36,7 +36,7 @@ module _ (c : Client) (h : Fits c) where
   walk-sized =
       walk-length c.walk h.walk.path.0 h.walk.marks.0
       (table-length c.walk.found h.walk.found.ids.0 h.walk.found.lens.0)
-      (id-length c.walk.candidate h.walk.candidate.bytes.0)
+      (id-length c.walk.place.candidate h.walk.candidate.bytes.0)
 
   front-sized : length (saved_front (front_of c)) ≡ 87
   front-sized = front_length (front_of c) (head-length (front_of c) (id-length c.id h.id.bytes.0))
@@ -66,23 +66,23 @@ module _ (at : ℕ) (b : List ℕ) where
   walk-back : (w : Walk) → WalkFits w → take 1265 (drop at b) ≡ saved_walk w → loaded_walk at b ≡ w
   unfolding saved_walk loaded_walk
   walk-back w h e =
-      let s = spread at b ((8, le 8 w.depth) ∷ (128, w.marks) ∷ (1096, saved_table w.found)
-      ∷ (17, saved_id w.candidate) ∷ []) w.path 16 h.path.0 (
-        le-length 8 w.depth,
+      let s = spread at b ((8, le 8 w.place.depth) ∷ (128, w.place.marks) ∷ (1096, saved_table w.found)
+      ∷ (17, saved_id w.place.candidate) ∷ []) w.place.path 16 h.path.0 (
+        le-length 8 w.place.depth,
         (
           h.marks.0,
           (
             table-length w.found h.found.ids.0 h.found.lens.0,
-            (id-length w.candidate h.candidate.bytes.0, tt),
+            (id-length w.place.candidate h.candidate.bytes.0, tt),
           ),
         ),
       ) e in
       rw (
         s.0,
-        field_at (at + 16) 8 w.depth b h.depth s.1.0,
+        field_at (at + 16) 8 w.place.depth b h.depth s.1.0,
         s.1.1.0,
         table-back (at + 152) b w.found h.found s.1.1.1.0,
-        id-back (at + 1248) b w.candidate h.candidate s.1.1.1.1.0,
+        id-back (at + 1248) b w.place.candidate h.candidate s.1.1.1.1.0,
       )
 
 client-back : (c : Client) (b : List ℕ) → Fits c → take size (drop 0 b) ≡ saved c → loaded b ≡ c

@@ -73,14 +73,14 @@ unfolding saved_table
 table-length t hi hl = joined_length ((64, t.lens) ∷ (8, le 8 t.count) ∷ []) t.ids 1024 hi
     (hl, (le-length 8 t.count, tt))
 
-pub walk-length : (w : Walk) → length w.path ≡ 16 → length w.marks ≡ 128 → length (saved_table w.found) ≡ 1096
-    → length (saved_id w.candidate) ≡ 17
+pub walk-length : (w : Walk) → length w.place.path ≡ 16 → length w.place.marks ≡ 128 → length (saved_table w.found) ≡ 1096
+    → length (saved_id w.place.candidate) ≡ 17
     → length (saved_walk w) ≡ 1265
 unfolding saved_walk
 walk-length w hp hm ht hx =
-    joined_length ((8, le 8 w.depth) ∷ (128, w.marks) ∷ (1096, saved_table w.found)
-    ∷ (17, saved_id w.candidate) ∷ []) w.path 16 hp
-    (le-length 8 w.depth, (hm, (ht, (hx, tt))))
+    joined_length ((8, le 8 w.place.depth) ∷ (128, w.place.marks) ∷ (1096, saved_table w.found)
+    ∷ (17, saved_id w.place.candidate) ∷ []) w.place.path 16 hp
+    (le-length 8 w.place.depth, (hm, (ht, (hx, tt))))
 
 module _ (f : Front) where
   pub head-length : length (saved_id f.id) ≡ 17 → length (saved_head f) ≡ 69

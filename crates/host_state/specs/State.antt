@@ -54,11 +54,13 @@ loaded_table at b = record {
 
 unfoldable pub loaded_walk : ℕ → List ℕ → Walk
 loaded_walk at b = record {
-  path = take 16 (drop at b);
-  depth = field (at + 16) 8 b;
-  marks = take 128 (drop (at + 24) b);
+  place = record {
+    path = take 16 (drop at b);
+    depth = field (at + 16) 8 b;
+    marks = take 128 (drop (at + 24) b);
+    candidate = loaded_id (at + 1248) b;
+  };
   found = loaded_table (at + 152) b;
-  candidate = loaded_id (at + 1248) b;
 }
 
 unfoldable pub loaded : List ℕ → Client
@@ -96,11 +98,11 @@ pub record TableFits (t : Table) : Type 0 where
   pub count : t.count < 2 ^ 64
 
 pub record WalkFits (w : Walk) : Type 0 where
-  pub path : Array 16 w.path
-  pub depth : w.depth < 2 ^ 64
-  pub marks : Array 128 w.marks
+  pub path : Array 16 w.place.path
+  pub depth : w.place.depth < 2 ^ 64
+  pub marks : Array 128 w.place.marks
   pub found : TableFits w.found
-  pub candidate : IdFits w.candidate
+  pub candidate : IdFits w.place.candidate
 
 pub record Fits (c : Client) : Type 0 where
   pub seed : c.seed < 2 ^ 8

@@ -87,7 +87,7 @@ onward-says = going-on-fits 0 0 (omega arith)
 begin-fits : (x : Id) → IdFits x → WalkFits (begin x)
 unfolding begin no_walk
 begin-fits x h =
-    standing-fits no_walk no-walk-fits x.bytes (8 * length (id_of x)) no_walk.marks h.bytes
+    standing-fits no_walk no-walk-fits x.bytes (8 * length (id_of x)) no_walk.place.marks h.bytes
     (omega (arith, length-take x.len x.bytes, h.bytes.0)) no-walk-fits.marks
 
 module _ (c : Client) (h : Fits c) where

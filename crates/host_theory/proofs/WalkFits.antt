@@ -40,21 +40,21 @@ module _ (w : Walk) (h : WalkFits w) where
   holding-fits : (x : Id) → IdFits x → WalkFits (holding w x)
   holding-fits x k = record { path = h.path; depth = h.depth; marks = h.marks; found = h.found; candidate = k }
 
-  lower-fits : w.depth < 128 → WalkFits (lower w)
+  lower-fits : w.place.depth < 128 → WalkFits (lower w)
   unfolding lower
-  lower-fits small = standing-fits w.path (w.depth + 1) _ h.path (omega arith)
-      (array-set 128 w.marks h.marks w.depth 1 (omega arith))
+  lower-fits small = standing-fits w.place.path (w.place.depth + 1) _ h.path (omega arith)
+      (array-set 128 w.place.marks h.marks w.place.depth 1 (omega arith))
 
   raise-fits : WalkFits (raise w)
   unfolding raise
   raise-fits =
-      standing-fits _ (w.depth - 1) _ (array-cut 16 w.path h.path (w.depth - 1)) (omega (arith, h.depth))
-      (array-set 128 w.marks h.marks (w.depth - 1) 0 (omega arith))
+      standing-fits _ (w.place.depth - 1) _ (array-cut 16 w.place.path h.path (w.place.depth - 1)) (omega (arith, h.depth))
+      (array-set 128 w.place.marks h.marks (w.place.depth - 1) 0 (omega arith))
 
   turn-fits : WalkFits (turn w)
   unfolding turn
-  turn-fits = standing-fits _ w.depth _ (array-bit 16 w.path h.path (w.depth - 1)) h.depth
-      (array-set 128 w.marks h.marks (w.depth - 1) 2 (omega arith))
+  turn-fits = standing-fits _ w.place.depth _ (array-bit 16 w.place.path h.path (w.place.depth - 1)) h.depth
+      (array-set 128 w.place.marks h.marks (w.place.depth - 1) 2 (omega arith))
 
 climb-fits : (n : ℕ) (w : Walk) → WalkFits w → WalkFits (climb n w)
 unfolding climb
@@ -68,7 +68,7 @@ climb-fits (suc n) w h = go (climb-fits n (raise w) (raise-fits w h)) (eqb (mark
 module _ (w : Walk) (h : WalkFits w) where
   descend-fits : NextFits (descend w)
   unfolding descend stopped
-  descend-fits = chosen NextFits (ltb w.depth 128) _ _ (λ e. lower-fits w h (ltb-true w.depth 128 e))
+  descend-fits = chosen NextFits (ltb w.place.depth 128) _ _ (λ e. lower-fits w h (ltb-true w.place.depth 128 e))
       (λ e. no-walk-fits)
 
   onward-fits : NextFits (onward w)
@@ -78,7 +78,7 @@ module _ (w : Walk) (h : WalkFits w) where
 module _ (w : Walk) (h : WalkFits w) where
   leave_fits : NextFits (leave w)
   unfolding leave
-  leave_fits = onward-fits (climb w.depth w) (climb-fits w.depth w h)
+  leave_fits = onward-fits (climb w.place.depth w) (climb-fits w.place.depth w h)
 
 module _ (w : Walk) (h : WalkFits w) where
   silent-fits : NextFits (silent w)
@@ -96,13 +96,13 @@ module _ (w : Walk) (h : WalkFits w) where
 
     confirming-fits : NextFits (confirming w x)
     unfolding confirming
-    confirming-fits = chosen NextFits (ltb w.depth (8 * length (id_of x))) _ _ (λ e. holding-fits w h x k)
+    confirming-fits = chosen NextFits (ltb w.place.depth (8 * length (id_of x))) _ _ (λ e. holding-fits w h x k)
         (λ e. kept-fits)
 
     hears-fits : (d : Heard) → NextFits (hears w d x)
     unfolding hears stopped
     hears-fits Heard.Nothing = silent-fits
-    hears-fits Heard.One = chosen NextFits (begins (take w.depth (bits_of w.path)) (bits_of (id_of x))) _ _
+    hears-fits Heard.One = chosen NextFits (begins (take w.place.depth (bits_of w.place.path)) (bits_of (id_of x))) _ _
         (λ e. confirming-fits) (λ e. descend-fits w h)
     hears-fits Heard.TooLong = no-walk-fits
     hears-fits Heard.Unaddressed = no-walk-fits
@@ -111,7 +111,7 @@ module _ (w : Walk) (h : WalkFits w) where
 module _ (w : Walk) (h : WalkFits w) (x : Id) (k : IdFits x) where
   settled-fits : (held : Bool) → NextFits (settled w held)
   unfolding settled
-  settled-fits held = chosen NextFits held _ _ (λ e. kept-fits (holding w no_id) bare w.candidate h.candidate)
+  settled-fits held = chosen NextFits held _ _ (λ e. kept-fits (holding w no_id) bare w.place.candidate h.candidate)
       (λ e. descend-fits (holding w no_id) bare)
     where
       bare : WalkFits (holding w no_id)
@@ -143,7 +143,7 @@ module _ (w : Walk) (h : WalkFits w) (x : Id) (k : IdFits x) where
   pub step_fits : (p : Phase) (d : Heard) → NextFits (step w p d x)
   unfolding step stopped
   step_fits p d =
-      both (leb w.depth 128) (leb w.found.count 64) refl
+      both (leb w.place.depth 128) (leb w.found.count 64) refl
     where
       both : (a b : Bool) → leb w.found.count 64 ≡ b
           → NextFits (cond (a && b) (tell w p d x) (stopped DuplicateUid))

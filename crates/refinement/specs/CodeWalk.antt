@@ -50,11 +50,13 @@ phase_of leaving = Leaving
 -- The code's walk at a path, with these ids kept and this candidate.
 abbrev pub standing_at : Prefix → Marks → List Paper.Id → Id → Walk
 standing_at pre marks ids x = record {
-  path = packed 16 (path pre marks);
-  depth = length (path pre marks);
-  marks = padded 128 (levels pre marks);
+  place = record {
+    path = packed 16 (path pre marks);
+    depth = length (path pre marks);
+    marks = padded 128 (levels pre marks);
+    candidate = x;
+  };
   found = table_of ids;
-  candidate = x;
 }
 
 abbrev pub walk_of : State → Walk

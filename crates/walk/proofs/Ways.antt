@@ -17,7 +17,7 @@ use Rattle.walk.specs.declared.Place.{Place}
 use Rattle.walk.specs.declared.Phase.{Phase}
 use Rattle.walk.specs.declared.Phase.TheVariants.{Asked, Mine, Other, Leaving}
 use Rattle.walk.specs.declared.Ask.{Ask}
-use Rattle.walk.specs.Moves.{walk_of, no_walk, begin, mark_at, mark, lower, raise, turn, climb, nobody, child}
+use Rattle.walk.specs.Moves.{walk_of, standing, no_walk, begin, mark_at, mark, lower, raise, turn, climb, nobody, child}
 use Rattle.walk.specs.Moves.{next_bit, asks}
 
 pub no-place-is : (x : Id) → x ≡ no_id
@@ -28,8 +28,7 @@ no-place-is x f = rw f
 pub begin-is : (p : Place) (x : Id) (n : ℕ) → walk_of p no_table ≡ no_walk → n ≡ length (id_of x)
     → walk_of (record { path = x.bytes; depth = 8 * n; marks = p.marks; candidate = p.candidate }) no_table ≡ begin x
 unfolding begin
-begin-is p x n e f = rw f (ap (λ (w : Walk). record
-    { path = x.bytes; depth = 8 * length (id_of x); marks = w.marks; found = w.found; candidate = w.candidate }) e)
+begin-is p x n e f = rw f (ap (λ (w : Walk). standing w x.bytes (8 * length (id_of x)) w.place.marks) e)
 
 -- A walk under the empty prefix begins all zero.
 pub begin-none : begin no_id ≡ no_walk
@@ -52,7 +51,7 @@ module _ (marks : List ℕ) where
 
 -- The climb. The invariant of its loop: the climb from d levels ends where the one from the start s does.
 abbrev pub at : List ℕ → ℕ → List ℕ → Id → Table → Walk
-at path d marks x t = record { path = path; depth = d; marks = marks; found = t; candidate = x }
+at path d marks x t = walk_of (record { path = path; depth = d; marks = marks; candidate = x }) t
 
 module _ (path marks : List ℕ) (d m : ℕ) (x : Id) (em : m ≡ mark_at marks d) where
   pub climb-on : (s : Place) (q : List ℕ)

@@ -21,48 +21,50 @@ on_phase Leaving asked mine other leaving = leaving
 
 -- The walk without its list.
 abbrev pub place_of : Walk → Place
-place_of w = record { path = w.path; depth = w.depth; marks = w.marks; candidate = w.candidate }
+place_of w = w.place
 
 -- The walk at a place, with a list.
 abbrev pub walk_of : Place → Table → Walk
-walk_of p t = record { path = p.path; depth = p.depth; marks = p.marks; found = t; candidate = p.candidate }
+walk_of p t = record { place = p; found = t }
 
 -- A walk with other values in some fields.
 abbrev pub standing : Walk → List ℕ → ℕ → List ℕ → Walk
-standing w path depth marks = record
-    { path = path; depth = depth; marks = marks; found = w.found; candidate = w.candidate }
+standing w path depth marks =
+    walk_of (record { path = path; depth = depth; marks = marks; candidate = w.place.candidate }) w.found
 
 abbrev pub finding : Walk → Table → Walk
-finding w t = record { path = w.path; depth = w.depth; marks = w.marks; found = t; candidate = w.candidate }
+finding w t = walk_of w.place t
 
 abbrev pub holding : Walk → Id → Walk
-holding w x = record { path = w.path; depth = w.depth; marks = w.marks; found = w.found; candidate = x }
+holding w x =
+    walk_of (record { path = w.place.path; depth = w.place.depth; marks = w.place.marks; candidate = x }) w.found
 
 unfoldable pub no_walk : Walk
-no_walk = record { path = replicate 16 0; depth = 0; marks = replicate 128 0; found = no_table; candidate = no_id }
+no_walk =
+    walk_of (record { path = replicate 16 0; depth = 0; marks = replicate 128 0; candidate = no_id }) no_table
 
 -- A walk under a prefix of whole bytes, before its first Select.
 unfoldable pub begin : Id → Walk
-begin x = standing no_walk x.bytes (8 * length (id_of x)) no_walk.marks
+begin x = standing no_walk x.bytes (8 * length (id_of x)) no_walk.place.marks
 
 -- The mark of the last of d levels: 0 for the given prefix, 1 for a zero child, 2 for a one child.
 abbrev pub mark_at : List ℕ → ℕ → ℕ
 mark_at marks d = get_or (0 ∷ marks) d 0
 
 unfoldable pub mark : Walk → ℕ
-mark w = mark_at w.marks w.depth
+mark w = mark_at w.place.marks w.place.depth
 
 -- Down to the zero child.
 unfoldable pub lower : Walk → Walk
-lower w = standing w w.path (w.depth + 1) (set w.marks w.depth 1)
+lower w = standing w w.place.path (w.place.depth + 1) (set w.place.marks w.place.depth 1)
 
 -- Up from a one child.
 unfoldable pub raise : Walk → Walk
-raise w = standing w (cut w.path (w.depth - 1)) (w.depth - 1) (set w.marks (w.depth - 1) 0)
+raise w = standing w (cut w.place.path (w.place.depth - 1)) (w.place.depth - 1) (set w.place.marks (w.place.depth - 1) 0)
 
 -- From a zero child to the one child beside it.
 unfoldable pub turn : Walk → Walk
-turn w = standing w (set_bit w.path (w.depth - 1)) w.depth (set w.marks (w.depth - 1) 2)
+turn w = standing w (set_bit w.place.path (w.place.depth - 1)) w.place.depth (set w.place.marks (w.place.depth - 1) 2)
 
 -- Up, out of each one child, by at most n levels.
 unfoldable pub climb : ℕ → Walk → Walk
@@ -75,18 +77,18 @@ nobody = record { bits = replicate 16 0; count = 129 }
 
 -- The bits of a child: the path and one more bit.
 unfoldable pub child : Walk → Bool → Ask
-child w b = record { bits = cond b (set_bit w.path w.depth) w.path; count = w.depth + 1 }
+child w b = record { bits = cond b (set_bit w.place.path w.place.depth) w.place.path; count = w.place.depth + 1 }
 
 -- The candidate's bit after the path.
 abbrev pub next_bit : Walk → Bool
-next_bit w = get_or (bits_of (id_of w.candidate)) w.depth false
+next_bit w = get_or (bits_of (id_of w.place.candidate)) w.place.depth false
 
 -- The bits that the next Select asks for. A path of over 128 bits asks for a deselect.
 unfoldable pub asks : Walk → Phase → Ask
 asks w p =
-    cond (leb w.depth 128)
+    cond (leb w.place.depth 128)
     (on_phase p
-    (record { bits = w.path; count = w.depth })
+    (record { bits = w.place.path; count = w.place.depth })
     (child w (next_bit w))
     (λ good. child w (not (next_bit w)))
     nobody)

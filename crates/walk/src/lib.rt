@@ -11,24 +11,22 @@ ghost use Rattle.walk.specs.Moves.{nobody, child, asks};
 use ids::Id;
 use walk_table::Table;
 
-// A walk: the bits of the current prefix and their number, a mark for each level, the ids found, and the id that is
-// being confirmed.
-#[derive(Clone, Copy)]
-pub struct Walk {
-    pub path: [u8; ids::MAX_BYTES],
-    pub depth: usize,
-    pub marks: [u8; ids::MAX_BITS],
-    pub found: Table,
-    pub candidate: Id,
-}
-
-// The walk without its list. A contract on a place holds for the walk there with any list.
+// A walk's place: the bits of the current prefix and their number, a mark for each level (0 for none, 1 for a zero child,
+// 2 for a one child), and the id that is being confirmed. A contract on a place holds for the walk there with any list.
+// Kept as numbers, not an enum: a host's bytes may hold any mark (`loaded_walk` of host_state), and such a walk goes on.
 #[derive(Clone, Copy)]
 pub struct Place {
     pub path: [u8; ids::MAX_BYTES],
     pub depth: usize,
     pub marks: [u8; ids::MAX_BITS],
     pub candidate: Id,
+}
+
+// A walk: its place, and the ids found.
+#[derive(Clone, Copy)]
+pub struct Walk {
+    pub place: Place,
+    pub found: Table,
 }
 
 // What a Select of the walk asks for. Asked: the path. Mine: the candidate's own child. Other: its other child, with
@@ -52,30 +50,18 @@ pub struct Ask {
 pub fn walk_of(p: Place, found: Table) -> Walk
     ensures { result ≡ walk_of p found }
 {
-    let path = p.path;
-    let marks = p.marks;
-    let candidate = p.candidate;
-    Walk {
-        path,
-        depth: p.depth,
-        marks,
-        found,
-        candidate,
-    }
+    Walk { place: p, found }
 }
 
 // The place when there is no walk: all zero.
 pub fn no_place() -> Place
     ensures { walk_of result no_table ≡ no_walk }
 {
-    let path = [0u8; ids::MAX_BYTES];
-    let marks = [0u8; ids::MAX_BITS];
-    let candidate = Id::none();
     Place {
-        path,
+        path: [0; ids::MAX_BYTES],
         depth: 0,
-        marks,
-        candidate,
+        marks: [0; ids::MAX_BITS],
+        candidate: Id::none(),
     }
 }
 
@@ -100,18 +86,11 @@ pub fn nobody() -> Ask
 }
 
 impl Walk {
+    // The walk without its list.
     pub fn place(self) -> Place
         ensures { result ≡ place_of self }
     {
-        let path = self.path;
-        let marks = self.marks;
-        let candidate = self.candidate;
-        Place {
-            path,
-            depth: self.depth,
-            marks,
-            candidate,
-        }
+        self.place
     }
 }
 

@@ -32,7 +32,7 @@ module _ (p : Place) where
 
   pub holding-deep : (q : Place) (x : Id) → x ≡ no_id → ((t : Table) → walk_of q t ≡ holding (walk_of p t) x)
       → p.depth ≤ 128 → q.depth ≤ 128
-  holding-deep q x f e h = rw (ap (λ (w : Walk). w.depth) (e no_table)) h
+  holding-deep q x f e h = rw (ap (λ (w : Walk). w.place.depth) (e no_table)) h
 
   module _ (n : ℕ) (x : Id) where
     pub kept_in : (g : Going) → n < 64 → ((t : Table) → going g.phase (walk_of g.place t) ≡ leave (walk_of p t))

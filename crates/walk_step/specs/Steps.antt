@@ -33,7 +33,7 @@ stopped end = record { goes = Stopped end; walk = no_walk }
 
 -- Down to the zero child. At 128 bits there is none: 12.
 unfoldable pub descend : Walk → Next
-descend w = cond (ltb w.depth 128) (going Asked (lower w)) (stopped DuplicateUid)
+descend w = cond (ltb w.place.depth 128) (going Asked (lower w)) (stopped DuplicateUid)
 
 -- From a zero child to the one child beside it; from the given prefix to the deselect.
 unfoldable pub onward : Walk → Next
@@ -41,7 +41,7 @@ onward w = cond (eqb (mark w) 1) (going Asked (turn w)) (going Leaving w)
 
 -- The branch has ended: up to the nearest zero child and to the one child beside it, or to the deselect.
 unfoldable pub leave : Walk → Next
-leave w = onward (climb w.depth w)
+leave w = onward (climb w.place.depth w)
 
 -- Nothing was heard. After a silent zero child the one child counts as garble, and is not probed.
 unfoldable pub silent : Walk → Next
@@ -53,21 +53,21 @@ kept w x = cond (ltb w.found.count 64) (leave (finding w (keep w.found (record {
 
 -- An id that begins with the path. Both children have to confirm it, unless it has no further bit.
 unfoldable pub confirming : Walk → Id → Next
-confirming w x = cond (ltb w.depth (8 * length (id_of x))) (going Mine (holding w x)) (kept w x)
+confirming w x = cond (ltb w.place.depth (8 * length (id_of x))) (going Mine (holding w x)) (kept w x)
 
 -- The path was asked for.
 unfoldable pub hears : Walk → Heard → Id → Next
 hears w h x =
     on_heard h
     (silent w)
-    (cond (begins (take w.depth (bits_of w.path)) (bits_of (id_of x))) (confirming w x) (descend w))
+    (cond (begins (take w.place.depth (bits_of w.place.path)) (bits_of (id_of x))) (confirming w x) (descend w))
     (stopped LongId)
     (stopped Unaddressed)
     (descend w)
 
 -- Both children were asked for: the candidate is kept if it held, or the walk goes down.
 unfoldable pub settled : Walk → Bool → Next
-settled w held = cond held (kept (holding w no_id) w.candidate) (descend (holding w no_id))
+settled w held = cond held (kept (holding w no_id) w.place.candidate) (descend (holding w no_id))
 
 -- The walk is done: only its list is left, sorted.
 unfoldable pub done : Walk → Next
@@ -78,7 +78,7 @@ unfoldable pub mine : Walk → Heard → Id → Next
 mine w h x =
     on_heard h
     (going (Other false) w)
-    (going (Other (same_id (id_of x) (id_of w.candidate))) w)
+    (going (Other (same_id (id_of x) (id_of w.place.candidate))) w)
     (stopped LongId)
     (going (Other false) w)
     (going (Other false) w)
@@ -93,4 +93,4 @@ tell w p h x = on_phase p (hears w h x) (mine w h x) (λ good. other w good h) (
 
 -- The step of any record. One with over 128 levels or 64 ids, which no calls lead to, ends with 12.
 unfoldable pub step : Walk → Phase → Heard → Id → Next
-step w p h x = cond (leb w.depth 128 && leb w.found.count 64) (tell w p h x) (stopped DuplicateUid)
+step w p h x = cond (leb w.place.depth 128 && leb w.found.count 64) (tell w p h x) (stopped DuplicateUid)

@@ -37,7 +37,7 @@ after (b ∷ l) (suc k) = after l k
 abbrev pub ask_of : Prefix → Ask
 ask_of q = record { bits = packed 16 q; count = length q }
 
-child-sim : (w : Walk) (q : Prefix) (b : Bool) → w.path ≡ packed 16 q → w.depth ≡ length q → length q < 128
+child-sim : (w : Walk) (q : Prefix) (b : Bool) → w.place.path ≡ packed 16 q → w.place.depth ≡ length q → length q < 128
     → Moves.child w b ≡ ask_of (q ▹ b)
 unfolding Moves.child
 child-sim w q true e f h = λ i. record {
@@ -90,13 +90,13 @@ asks-sim s t = rw (le-leb (length (path s.pre s.marks)) 128 t.depth) (go s.phase
 -- A request of any walk has at most 129 bits.
 pub asks-count : (w : Walk) (p : P.Phase) → (Moves.asks w p).count ≤ 129
 unfolding Moves.asks Moves.child Moves.nobody
-asks-count w p = go (leb w.depth 128) refl p
+asks-count w p = go (leb w.place.depth 128) refl p
   where
-    go : (b : Bool) → leb w.depth 128 ≡ b → (p : P.Phase)
-        → (cond b (Moves.on_phase p (record { bits = w.path; count = w.depth }) (Moves.child w (Moves.next_bit w))
+    go : (b : Bool) → leb w.place.depth 128 ≡ b → (p : P.Phase)
+        → (cond b (Moves.on_phase p (record { bits = w.place.path; count = w.place.depth }) (Moves.child w (Moves.next_bit w))
         (λ good. Moves.child w (not (Moves.next_bit w))) Moves.nobody) Moves.nobody).count ≤ 129
-    go true e Asked = omega (arith, leb-true w.depth 128 e)
-    go true e Mine = omega (arith, leb-true w.depth 128 e)
-    go true e (Other good) = omega (arith, leb-true w.depth 128 e)
+    go true e Asked = omega (arith, leb-true w.place.depth 128 e)
+    go true e Mine = omega (arith, leb-true w.place.depth 128 e)
+    go true e (Other good) = omega (arith, leb-true w.place.depth 128 e)
     go true e Leaving = omega arith
     go false e p = omega arith

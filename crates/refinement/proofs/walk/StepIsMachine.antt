@@ -40,9 +40,9 @@ use Rattle.refinement.proofs.walk.PathBytes.{pack-cut}
 use Rattle.refinement.proofs.walk.TableRows.{table-keep, table-sorted}
 
 pub stand : (t : Table) (x : Id) {p q : List ℕ} {d e : ℕ} {m n : List ℕ} → p ≡ q → d ≡ e → m ≡ n
-    → ◌≡◌ {A = Walk} (record { path = p; depth = d; marks = m; found = t; candidate = x })
-    (record { path = q; depth = e; marks = n; found = t; candidate = x })
-stand t x ep ed em = λ i. record { path = ep i; depth = ed i; marks = em i; found = t; candidate = x }
+    → ◌≡◌ {A = Walk} (Moves.walk_of (record { path = p; depth = d; marks = m; candidate = x }) t)
+    (Moves.walk_of (record { path = q; depth = e; marks = n; candidate = x }) t)
+stand t x ep ed em = λ i. Moves.walk_of (record { path = ep i; depth = ed i; marks = em i; candidate = x }) t
 
 -- The marks after climbing out of every one child, when a branch has ended.
 up : Marks → Marks
