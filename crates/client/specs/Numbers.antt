@@ -1,4 +1,5 @@
 -- Document 01, "Refusal numbers": the number of each refusal and what it carries. The code's answers as document 01's.
+use Rattle.std.specs.Prelude as Std
 use Rattle.std.specs.Prelude.{ℕ, Bool, ◌||◌, cond, List, [], ◌∷◌, map, eqb, replicate}
 use Rattle.std.proofs.Math.Option.{Option, none, some}
 use Rattle.paper.specs.Client as PaperClient
@@ -12,8 +13,6 @@ use Rattle.walk_table.specs.declared.Table.{Table}
 use Rattle.walk_table.specs.Rows.{rows}
 use Rattle.hearing.specs.declared.Heard.{Heard}
 use Rattle.hearing.specs.Heard.{on_heard}
-use Rattle.image.specs.declared.Compat.{Compat}
-use Rattle.image.specs.declared.Compat.TheVariants.{Key, Missing}
 use Rattle.image.specs.Images.{paper_info}
 use Rattle.client.specs.declared.Outcome.{Outcome}
 use Rattle.client.specs.declared.Outcome.TheVariants as Code
@@ -56,9 +55,9 @@ abbrev pub changes_no_state : ℕ → Bool
 changes_no_state n = eqb n 13 || (eqb n 16 || (eqb n 20 || eqb n 21))
 
 -- The image's key, if it has one.
-abbrev pub key_of : Compat → List ℕ
-key_of (Key k) = k ∷ []
-key_of Missing = []
+abbrev pub key_of : Std.Option ℕ → List ℕ
+key_of (Std.Some k) = k ∷ []
+key_of Std.None = []
 
 -- What a refusal carries: its own numbers, or the answer's prefix.
 unfoldable pub carried_by : Refusal → Id → List ℕ

@@ -6,6 +6,7 @@ ghost use Rattle.std.specs.Prelude.{◌≡◌, cond};
 ghost use Rattle.walk_table.specs.Rows.{no_table, giving};
 ghost use Rattle.walk.specs.declared.Walk.{Walk};
 ghost use Rattle.walk.specs.Moves.{no_walk};
+ghost use Rattle.client.specs.declared.Refusal.TheVariants as Refusal;
 ghost use Rattle.client.specs.Numbers.{number_of, changes_no_state};
 ghost use Rattle.client.specs.Clients.{fresh, running, differs, other_for, other_image, idle, turned, begun};
 ghost use Rattle.client.specs.Clients.{refuse, refuses, over, stops, onward, making, cleared, holding, attached};
@@ -13,7 +14,7 @@ ghost use Rattle.client.specs.Verdicts.{front_of, client_of, renewed, started_of
 
 use hearing::Heard;
 use ids::Id;
-use image::{Compat, Info};
+use image::{BadInfo, Info};
 use walk::{Place, Walk};
 use walk_table::{Entry, Table};
 
@@ -91,7 +92,7 @@ pub enum Refusal {
     FirmwareTooLarge(u32, u32),
     CrcMismatch(u16, u16),
     BadInfo,
-    Incompatible(u32, Compat),
+    Incompatible(u32, Option<u32>),
     NoDevice,
     SeveralDevices,
     NoSuchUid,
@@ -107,6 +108,14 @@ pub enum Refusal {
     SpansTooFar,
     OtherImage,
     OutOfTurn,
+}
+
+impl From<BadInfo> for Refusal {
+    ghost from_gives = { λ _ r. r ≡ Refusal.BadInfo };
+
+    fn from(_: BadInfo) -> Self {
+        Self::BadInfo
+    }
 }
 
 // What an operation ends with. Attached says whether the pod has an id. The id heard or attached, and the ids found,

@@ -1,13 +1,11 @@
 -- What an operation does after the reply to a request with one answer.
-use Rattle.std.specs.Prelude.{ℕ, suc, ◌+◌, cond, List, ltb, eqb, length}
+use Rattle.std.specs.Prelude as Std
+use Rattle.std.specs.Prelude.{ℕ, Result, Ok, Err, suc, ◌+◌, cond, List, ltb, eqb, length}
 use Rattle.paper.specs.Frame.{field, check}
 use Rattle.paper.specs.Answers as Paper
 use Rattle.paper.specs.Answers.{spans_too_far, too_large, reported, key, incompatible, chunk, erase_progress}
-use Rattle.image.specs.declared.Erase.{Erase}
-use Rattle.image.specs.declared.Erase.TheVariants.{At, Done}
 use Rattle.image.specs.declared.Info.{Info}
-use Rattle.image.specs.declared.Informed.{Informed}
-use Rattle.image.specs.declared.Informed.TheVariants.{Sound, BadInfo}
+use Rattle.image.specs.declared.BadInfo.{BadInfo}
 use Rattle.image.specs.Images.{paper_info, shown_info, shown_key, erase_after}
 use Rattle.image.specs.Pieces.{is_last, chunks_to, chunks}
 use Rattle.client.specs.declared.Job.{Job}
@@ -20,49 +18,49 @@ use Rattle.client.specs.declared.Purpose.TheVariants.{Clear, Load}
 use Rattle.client.specs.declared.Refusal.{Refusal}
 use Rattle.client.specs.Clients.{on_purpose, on_job}
 use Rattle.client_job.specs.declared.Then.{Then}
-use Rattle.client_job.specs.declared.Then.TheVariants.{On, Over, Refused}
+use Rattle.client_job.specs.declared.Then.TheVariants.{On, Over}
 use Rattle.client_job.specs.declared.Next.{Next}
 
 -- A value for each case.
-abbrev pub on_informed {ℓ} : {A : Type ℓ} → Informed → (Info → A) → A → A
-on_informed (Sound info) f g = f info
-on_informed BadInfo f g = g
+abbrev pub on_informed {ℓ} : {A : Type ℓ} → Result Info BadInfo → (Info → A) → A → A
+on_informed (Ok info) f g = f info
+on_informed (Err e) f g = g
 
-abbrev pub on_erase {ℓ} : {A : Type ℓ} → Erase → (ℕ → A) → A → A
-on_erase (At address) f g = f address
-on_erase Done f g = g
+abbrev pub on_erase {ℓ} : {A : Type ℓ} → Std.Option ℕ → (ℕ → A) → A → A
+on_erase (Std.Some address) f g = f address
+on_erase Std.None f g = g
 
-abbrev pub on_then {ℓ} : {A : Type ℓ} → Then → (Job → A) → (Outcome → A) → (Refusal → A) → A
-on_then (On job) f g h = f job
-on_then (Over o) f g h = g o
-on_then (Refused r) f g h = h r
+abbrev pub on_then {ℓ} : {A : Type ℓ} → Result Then Refusal → (Job → A) → (Outcome → A) → (Refusal → A) → A
+on_then (Ok (On job)) f g h = f job
+on_then (Ok (Over o)) f g h = g o
+on_then (Err r) f g h = h r
 
 -- No progress was made.
-abbrev pub quietly : Then → Next
+abbrev pub quietly : Result Then Refusal → Next
 quietly t = record { progress = None; then = t }
 
 abbrev pub refusing : Refusal → Next
-refusing r = quietly (Refused r)
+refusing r = quietly (Err r)
 
 -- The first Erase, unless 19: "capacity rounded up to erase_size is above 2^32 - 1".
-unfoldable pub erases : Purpose → Info → Then
-erases why info = cond (spans_too_far (paper_info info)) (Refused Refusal.SpansTooFar) (On (Erasing why info 0))
+unfoldable pub erases : Purpose → Info → Result Then Refusal
+erases why info = cond (spans_too_far (paper_info info)) (Err Refusal.SpansTooFar) (Ok (On (Erasing why info 0)))
 
 -- "3 if the image exceeds capacity .. 6 if compat is set and the image's key is missing or different".
-unfoldable pub judged : ℕ → Info → List ℕ → Then
+unfoldable pub judged : ℕ → Info → List ℕ → Result Then Refusal
 judged n info image =
-    cond (too_large (paper_info info) n) (Refused (Refusal.FirmwareTooLarge (reported n) info.capacity))
-    (cond (incompatible (paper_info info) image) (Refused (Refusal.Incompatible info.compat (shown_key (key image))))
+    cond (too_large (paper_info info) n) (Err (Refusal.FirmwareTooLarge (reported n) info.capacity))
+    (cond (incompatible (paper_info info) image) (Err (Refusal.Incompatible info.compat (shown_key (key image))))
     (erases (Load n) info))
 
 -- What is next after a sound Info, by what the Info was for.
-unfoldable pub prepared : Purpose → Info → List ℕ → Then
-prepared why info image = on_purpose why (Over (Knows info)) (erases Clear info) (λ n. judged n info image)
+unfoldable pub prepared : Purpose → Info → List ℕ → Result Then Refusal
+prepared why info image = on_purpose why (Ok (Over (Knows info))) (erases Clear info) (λ n. judged n info image)
 
 -- The reply to an Info.
-unfoldable pub informed : Purpose → List ℕ → List ℕ → Then
+unfoldable pub informed : Purpose → List ℕ → List ℕ → Result Then Refusal
 informed why payload image = on_informed (shown_info (Paper.informed payload)) (λ info. prepared why info image)
-    (Refused Refusal.BadInfo)
+    (Err Refusal.BadInfo)
 
 -- The first Write. "M empty image: no Write, Verify at 0."
 unfoldable pub writes : ℕ → Info → Then
@@ -78,30 +76,30 @@ erased why info address =
     on_erase (erase_after (paper_info info) address)
     (λ next. record {
       progress = Made (erase_progress (paper_info info) address) info.capacity;
-      then = On (Erasing why info next);
+      then = Ok (On (Erasing why info next));
     })
-    (record { progress = Made (erase_progress (paper_info info) address) info.capacity; then = cleared why info })
+    (record { progress = Made (erase_progress (paper_info info) address) info.capacity; then = Ok (cleared why info) })
 
 -- The reply to a Write: the next Write, or Verify after the last one.
 unfoldable pub wrote : Info → ℕ → List ℕ → Next
 wrote info offset image = record {
   progress = Made (chunks_to (paper_info info) offset) (chunks (paper_info info) (length image));
   then =
-      cond (is_last (paper_info info) (length image) offset) (On (Verifying (length image) info))
-      (On (Writing (length image) info (offset + chunk info.max_payload) 0));
+      cond (is_last (paper_info info) (length image) offset) (Ok (On (Verifying (length image) info)))
+      (Ok (On (Writing (length image) info (offset + chunk info.max_payload) 0)));
 }
 
 -- "the 17th in a row for one offset gives 17."
-unfoldable pub repeated : ℕ → Info → ℕ → ℕ → Then
+unfoldable pub repeated : ℕ → Info → ℕ → ℕ → Result Then Refusal
 repeated n info offset retries =
-    cond (ltb retries 16) (On (Writing n info offset (suc retries))) (Refused Refusal.RetriesSpent)
+    cond (ltb retries 16) (Ok (On (Writing n info offset (suc retries)))) (Err Refusal.RetriesSpent)
 
 -- The reply to a Verify: "its reply's first two bytes are the check, else 4; under two bytes is 18."
-unfoldable pub verified : Info → List ℕ → List ℕ → Then
+unfoldable pub verified : Info → List ℕ → List ℕ → Result Then Refusal
 verified info payload image =
-    cond (ltb (length payload) 2) (Refused Refusal.ShortVerify)
-    (cond (eqb (check image) (field 0 2 payload)) (Over (Knows info))
-    (Refused (Refusal.CrcMismatch (check image) (field 0 2 payload))))
+    cond (ltb (length payload) 2) (Err Refusal.ShortVerify)
+    (cond (eqb (check image) (field 0 2 payload)) (Ok (Over (Knows info)))
+    (Err (Refusal.CrcMismatch (check image) (field 0 2 payload))))
 
 -- A reply of status "Ok", with its payload.
 unfoldable pub accepted : Job → List ℕ → List ℕ → Next
@@ -111,7 +109,7 @@ accepted j payload image =
     (λ why info address. erased why info address)
     (λ n info offset retries. wrote info offset image)
     (λ n info. quietly (verified info payload image))
-    (λ reset. quietly (Over Quiet))
+    (λ reset. quietly (Ok (Over Quiet)))
 
 -- "Status other than Ok: 2 with it"; "Status 3 repeats the same Write".
 unfoldable pub declined : Job → ℕ → Next

@@ -6,25 +6,24 @@ ghost use Rattle.client_job.specs.Job.{quietly, refusing, erases, judged, prepar
 ghost use Rattle.client_job.specs.Job.{erased, wrote, repeated, verified, accepted, declined};
 
 use client::{Job, Outcome, Progress, Purpose, Refusal};
-use image::{Erase, Info, Informed};
+use image::Info;
 
-// What is next: another job, the end of the operation, or a refusal.
+// What is next: another job, or the end of the operation.
 #[derive(Clone, Copy)]
 pub enum Then {
     On(Job),
     Over(Outcome),
-    Refused(Refusal),
 }
 
-// The progress made, and what is next.
+// The progress made, and what is next, or why the operation is refused.
 #[derive(Clone, Copy)]
 pub struct Next {
     pub progress: Progress,
-    pub then: Then,
+    pub then: Result<Then, Refusal>,
 }
 
 // No progress was made.
-fn quietly(then: Then) -> Next
+fn quietly(then: Result<Then, Refusal>) -> Next
     ensures { result ≡ quietly then }
 {
     Next {
@@ -36,56 +35,57 @@ fn quietly(then: Then) -> Next
 fn refusing(r: Refusal) -> Next
     ensures { result ≡ refusing r }
 {
-    quietly(Then::Refused(r))
+    quietly(Err(r))
 }
 
 // The first Erase, if the capacity rounded up to the erase size fits in 32 bits.
-fn erases(why: Purpose, info: Info) -> Then
+#[tactic(auto, unfolding(crate::specs::Job::erases))]
+fn erases(why: Purpose, info: Info) -> Result<Then, Refusal>
     ensures { result ≡ erases why info }
 {
     if info.spans_too_far() {
-        return Then::Refused(Refusal::SpansTooFar);
+        return Err(Refusal::SpansTooFar);
     }
-    Then::On(Job::Erasing(why, info, 0))
+    Ok(Then::On(Job::Erasing(why, info, 0)))
 }
 
 // Checks that the image fits in the device and is compatible, before the first Erase.
-fn judged(n: usize, info: Info, image: &[u8]) -> Then
+#[tactic(auto, unfolding(crate::specs::Job::judged))]
+fn judged(n: usize, info: Info, image: &[u8]) -> Result<Then, Refusal>
     ensures { result ≡ judged n info image.now }
 {
     if info.too_large(n) {
-        return Then::Refused(Refusal::FirmwareTooLarge(image::reported(n), info.capacity));
+        return Err(Refusal::FirmwareTooLarge(image::reported(n), info.capacity));
     }
     if info.incompatible(image) {
-        let key = image::image_compat(image);
-        return Then::Refused(Refusal::Incompatible(info.compat, key));
+        return Err(Refusal::Incompatible(info.compat, image::image_compat(image)));
     }
     erases(Purpose::Load(n), info)
 }
 
 // What is next after a sound Info, by what the Info was for.
-fn prepared(why: Purpose, info: Info, image: &[u8]) -> Then
+#[tactic(auto, unfolding(crate::specs::Job::prepared))]
+fn prepared(why: Purpose, info: Info, image: &[u8]) -> Result<Then, Refusal>
     ensures { result ≡ prepared why info image.now }
 {
     match why {
-        Purpose::Tell => Then::Over(Outcome::Knows(info)),
+        Purpose::Tell => Ok(Then::Over(Outcome::Knows(info))),
         Purpose::Clear => erases(why, info),
         Purpose::Load(n) => judged(n, info, image),
     }
 }
 
 // The reply to an Info.
-fn informed(why: Purpose, payload: &[u8], image: &[u8]) -> Then
+#[tactic(auto, unfolding(crate::specs::Job::informed))]
+fn informed(why: Purpose, payload: &[u8], image: &[u8]) -> Result<Then, Refusal>
     ensures { result ≡ informed why payload.now image.now }
 {
-    let i = image::device_info(payload);
-    match i {
-        Informed::Sound(info) => prepared(why, info, image),
-        Informed::BadInfo => Then::Refused(Refusal::BadInfo),
-    }
+    let info = image::device_info(payload)?;
+    prepared(why, info, image)
 }
 
 // The first Write. An empty image has none, and Verify is next.
+#[tactic(auto, unfolding(crate::specs::Job::writes))]
 fn writes(n: usize, info: Info) -> Then
     ensures { result ≡ writes n info }
 {
@@ -96,6 +96,7 @@ fn writes(n: usize, info: Info) -> Then
 }
 
 // After the last Erase an erase has ended, and a flash goes on with its Writes.
+#[tactic(auto, unfolding(crate::specs::Job::cleared))]
 fn cleared(why: Purpose, info: Info) -> Then
     ensures { result ≡ cleared why info }
 {
@@ -107,76 +108,74 @@ fn cleared(why: Purpose, info: Info) -> Then
 }
 
 // The reply to an Erase: the next Erase, or what follows the last one.
+#[tactic(auto, unfolding(crate::specs::Job::erased))]
 fn erased(why: Purpose, info: Info, address: u32) -> Next
     ensures { result ≡ erased why info address }
 {
-    let progress = Progress::Made(
-        address as u64 + info.erase_size as u64,
-        info.capacity as u64,
-    );
-    let e = info.erase_after(address);
-    match e {
-        Erase::At(next) => Next {
-            progress,
-            then: Then::On(Job::Erasing(why, info, next)),
-        },
-        Erase::Done => Next {
-            progress,
-            then: cleared(why, info),
-        },
+    let then = match info.erase_after(address) {
+        Some(next) => Then::On(Job::Erasing(why, info, next)),
+        None => cleared(why, info),
+    };
+    Next {
+        progress: Progress::Made(
+            u64::from(address) + u64::from(info.erase_size),
+            u64::from(info.capacity),
+        ),
+        then: Ok(then),
     }
 }
 
 // The reply to a Write: the next Write, or Verify after the last one.
+#[tactic(auto, unfolding(crate::specs::Job::wrote, image::specs::Pieces::is_last, paper::specs::Answers::padding))]
 fn wrote(info: Info, offset: u64, image: &[u8]) -> Next
     ensures { result ≡ wrote info offset image.now }
 {
     let n = image.len();
-    let progress = Progress::Made(
-        image::writes::chunks_to(info, offset),
-        image::writes::chunks(info, n),
-    );
-    if image::writes::last(info, n, offset) {
-        return Next {
-            progress,
-            then: Then::On(Job::Verifying(n, info)),
-        };
-    }
-    let next = offset + info.chunk() as u64;
+    let job = if image::writes::last(info, n, offset) {
+        Job::Verifying(n, info)
+    } else {
+        Job::Writing(n, info, offset + info.chunk() as u64, 0)
+    };
     Next {
-        progress,
-        then: Then::On(Job::Writing(n, info, next, 0)),
+        progress: Progress::Made(
+            image::writes::chunks_to(info, offset),
+            image::writes::chunks(info, n),
+        ),
+        then: Ok(Then::On(job)),
     }
 }
 
 // How many times a Write answered with status 3 is repeated.
 const RETRIES: u8 = 16;
 
-fn repeated(n: usize, info: Info, offset: u64, retries: u8) -> Then
+#[tactic(auto, unfolding(crate::specs::Job::repeated))]
+fn repeated(n: usize, info: Info, offset: u64, retries: u8) -> Result<Then, Refusal>
     ensures { result ≡ repeated n info offset retries }
 {
-    if retries < RETRIES {
-        return Then::On(Job::Writing(n, info, offset, retries + 1));
+    if RETRIES <= retries {
+        return Err(Refusal::RetriesSpent);
     }
-    Then::Refused(Refusal::RetriesSpent)
+    Ok(Then::On(Job::Writing(n, info, offset, retries + 1)))
 }
 
 // The reply to a Verify: the device's check must be that of the image lent with this call.
-fn verified(info: Info, payload: &[u8], image: &[u8]) -> Then
+#[tactic(auto, unfolding(crate::specs::Job::verified, paper::specs::Frame::check))]
+fn verified(info: Info, payload: &[u8], image: &[u8]) -> Result<Then, Refusal>
     ensures { result ≡ verified info payload.now image.now }
 {
     if payload.len() < 2 {
-        return Then::Refused(Refusal::ShortVerify);
+        return Err(Refusal::ShortVerify);
     }
     let expected = crc::crc16(crc::START, image);
     let actual = wire::get(payload, 0);
-    if expected == actual {
-        return Then::Over(Outcome::Knows(info));
+    if expected != actual {
+        return Err(Refusal::CrcMismatch(expected, actual));
     }
-    Then::Refused(Refusal::CrcMismatch(expected, actual))
+    Ok(Then::Over(Outcome::Knows(info)))
 }
 
 // A reply of status Ok, with its payload.
+#[tactic(auto, unfolding(crate::specs::Job::accepted))]
 pub fn accepted(job: Job, payload: &[u8], image: &[u8]) -> Next
     ensures { result ≡ accepted job payload.now image.now }
 {
@@ -185,19 +184,19 @@ pub fn accepted(job: Job, payload: &[u8], image: &[u8]) -> Next
         Job::Erasing(why, info, address) => erased(why, info, address),
         Job::Writing(_, info, offset, _) => wrote(info, offset, image),
         Job::Verifying(_, info) => quietly(verified(info, payload, image)),
-        Job::Resetting(_) => quietly(Then::Over(Outcome::Quiet)),
+        Job::Resetting(_) => quietly(Ok(Then::Over(Outcome::Quiet))),
     }
 }
 
 // A reply of another status, or with a bad check, which counts as status 3.
+#[tactic(auto, unfolding(crate::specs::Job::declined))]
 pub fn declined(job: Job, status: u8) -> Next
     ensures { result ≡ declined job status }
 {
-    let Job::Writing(n, info, offset, retries) = job else {
-        return refusing(Refusal::Device(status));
-    };
-    if status == wire::CRC_MISMATCH {
-        return quietly(repeated(n, info, offset, retries));
+    match job {
+        Job::Writing(n, info, offset, retries) if status == wire::CRC_MISMATCH => {
+            quietly(repeated(n, info, offset, retries))
+        }
+        _ => refusing(Refusal::Device(status)),
     }
-    refusing(Refusal::Device(status))
 }

@@ -9,15 +9,14 @@ use client_job::{Next, Then};
 use hearing::Answered;
 
 // The verdict for what is next. The unread rest begins at the place given.
+#[tactic(auto, unfolding(crate::specs::Answer::goes))]
 fn goes(f: Front, next: Next, at: usize) -> Verdict
     ensures { (w : Walk) → told_of result w ≡ goes (client_of f w) next at }
 {
-    let progress = next.progress;
-    let then = next.then;
-    match then {
-        Then::On(job) => f.stays(Phase::Demand(job), at).making(progress),
-        Then::Over(o) => f.stops(Says::Over(o), at).making(progress),
-        Then::Refused(r) => f.stops(Says::Refused(r), at),
+    match next.then {
+        Ok(Then::On(job)) => f.stays(Phase::Demand(job), at).making(next.progress),
+        Ok(Then::Over(o)) => f.stops(Says::Over(o), at).making(next.progress),
+        Err(r) => f.stops(Says::Refused(r), at),
     }
 }
 

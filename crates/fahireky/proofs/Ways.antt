@@ -3,10 +3,10 @@ use Prim.Native.Nat.{ℕ}
 use mathlib.Core.List.{List}
 use mathlib.Core.Path.{◌≡◌, sym, ◌∙◌, ap, subst}
 use lib.ListN.{length}
+use Rattle.std.specs.Prelude.{Option}
 use Rattle.wire.specs.declared.Written.{Written}
 use Rattle.text.specs.declared.Parsed.{Parsed}
 use Rattle.text.specs.Texts as Texts
-use Rattle.image.specs.declared.Compat.{Compat}
 use Rattle.hearing.specs.declared.Hearing.{Hearing}
 use Rattle.walk_table.specs.declared.Table.{Table}
 use Rattle.walk.specs.declared.Walk.{Walk}
@@ -143,5 +143,5 @@ writes-is o w b r eo er = rw er (ap writes eo)
 pub read_is : (p q : Parsed) (b : List ℕ) (r : Coded) → p ≡ q → r ≡ read_uid p b → r ≡ read_uid q b
 read_is p q b r e er = rw e at er
 
-pub key-is : (x y : Compat) (r : ℕ) → x ≡ y → r ≡ key_code x → r ≡ key_code y
+pub key-is : (x y : Option ℕ) (r : ℕ) → x ≡ y → r ≡ key_code x → r ≡ key_code y
 key-is x y r e er = rw e at er

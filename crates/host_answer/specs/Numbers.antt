@@ -1,10 +1,10 @@
 -- An answer as numbers and flags, and the answer that numbers and flags stand for.
-use Rattle.std.specs.Prelude.{ℕ, Bool, true, false, cond, eqb}
+use Rattle.std.specs.Prelude as Std
+use Rattle.std.specs.Option.{unwrap_or}
+use Rattle.std.specs.Prelude.{ℕ, is_some, Bool, true, false, cond, eqb}
 use Rattle.hearing.specs.declared.Heard.{Heard}
 use Rattle.hearing.specs.Heard.{on_heard}
 use Rattle.image.specs.declared.Info.{Info}
-use Rattle.image.specs.declared.Compat.{Compat}
-use Rattle.image.specs.declared.Compat.TheVariants.{Key, Missing}
 use Rattle.client.specs.declared.Outcome.{Outcome}
 use Rattle.client.specs.declared.Refusal.{Refusal}
 use Rattle.client.specs.declared.Refusal.TheVariants.{Io, Device, FirmwareTooLarge, CrcMismatch, BadInfo, Incompatible}
@@ -68,14 +68,6 @@ refusing number key length first second = record {
 unfoldable pub heard_tag : Heard → ℕ
 heard_tag h = on_heard h 0 1 2 3 4
 
-unfoldable pub has_key : Compat → Bool
-has_key (Key k) = true
-has_key Missing = false
-
-unfoldable pub key_or0 : Compat → ℕ
-key_or0 (Key k) = k
-key_or0 Missing = 0
-
 unfoldable pub outcome_note : Outcome → Note
 outcome_note Outcome.Quiet = ending 0 0 0 false no_info
 outcome_note (Outcome.Heard h) = ending 0 1 (heard_tag h) false no_info
@@ -90,7 +82,7 @@ refusal_note number (Device status) = refusing number false 0 status 0
 refusal_note number (FirmwareTooLarge size capacity) = refusing number false 0 size capacity
 refusal_note number (CrcMismatch expected actual) = refusing number false 0 expected actual
 refusal_note number BadInfo = refusing number false 0 0 0
-refusal_note number (Incompatible device k) = refusing number (has_key k) 0 device (key_or0 k)
+refusal_note number (Incompatible device k) = refusing number (is_some k) 0 device (unwrap_or k 0)
 refusal_note number NoDevice = refusing number false 0 0 0
 refusal_note number SeveralDevices = refusing number false 0 0 0
 refusal_note number NoSuchUid = refusing number false 0 0 0
@@ -123,8 +115,8 @@ unfoldable pub heard_in : ℕ → Heard
 heard_in n = cond (eqb n 0) Heard.Nothing
     (cond (eqb n 1) Heard.One (cond (eqb n 2) Heard.TooLong (cond (eqb n 3) Heard.Unaddressed Heard.Garble)))
 
-unfoldable pub key_in : Bool → ℕ → Compat
-key_in any k = cond any (Key k) Missing
+unfoldable pub key_in : Bool → ℕ → Std.Option ℕ
+key_in any k = cond any (Std.Some k) Std.None
 
 unfoldable pub outcome_in : Note → Outcome
 outcome_in n =

@@ -1,11 +1,11 @@
 // An answer as numbers and flags of fixed widths. A field that the answer does not have is zero.
 ghost use Rattle.std.specs.Prelude.{false, ◌≡◌};
-ghost use Rattle.host_answer.specs.Numbers.{going, ending, refusing, heard_tag, has_key, key_or0, outcome_note};
+ghost use Rattle.host_answer.specs.Numbers.{going, ending, refusing, heard_tag, outcome_note};
 ghost use Rattle.host_answer.specs.Numbers.{refusal_note, note_of, gain_of};
 
 use client::{Outcome, Progress, Refusal, Says};
 use hearing::Heard;
-use image::{Compat, Info};
+use image::Info;
 
 // `number` is 0, or document 01's number. `says`, `outcome` and `heard` say which answer it is. The rest is what it
 // carries.
@@ -106,24 +106,6 @@ fn heard_tag(h: Heard) -> u8
     }
 }
 
-fn has_key(k: Compat) -> bool
-    ensures { result ≡ has_key k }
-{
-    match k {
-        Compat::Key(_) => true,
-        Compat::Missing => false,
-    }
-}
-
-fn key_or_0(k: Compat) -> u32
-    ensures { result ≡ key_or0 k }
-{
-    match k {
-        Compat::Key(x) => x,
-        Compat::Missing => 0,
-    }
-}
-
 fn outcome_note(o: Outcome) -> Note
     ensures { result ≡ outcome_note o }
 {
@@ -152,7 +134,13 @@ fn refusal_note(r: Refusal, number: u8) -> Note
             actual as u32,
         ),
         Refusal::BadInfo => nothing(number),
-        Refusal::Incompatible(device, k) => refusing(number, has_key(k), 0, device, key_or_0(k)),
+        Refusal::Incompatible(device, k) => refusing(
+            number,
+            k.is_some(),
+            0,
+            device,
+            k.unwrap_or(0),
+        ),
         Refusal::NoDevice => nothing(number),
         Refusal::SeveralDevices => nothing(number),
         Refusal::NoSuchUid => nothing(number),

@@ -1,5 +1,5 @@
 -- The codes that exported calls return: for answers, ids, texts and keys.
-use Rattle.std.specs.Prelude.{ℕ, ◌+◌, ◌*◌, ◌%◌, cond, List, ◌++◌, ltb, length, drop}
+use Rattle.std.specs.Prelude.{ℕ, Option, Some, None, ◌+◌, ◌*◌, ◌%◌, cond, List, ◌++◌, ltb, length, drop}
 use Rattle.ids.specs.declared.Id.{Id}
 use Rattle.ids.specs.Ids.{id_of}
 use Rattle.wire.specs.declared.Written.{Written}
@@ -8,8 +8,6 @@ use Rattle.text.specs.declared.Parsed.{Parsed}
 use Rattle.text.specs.declared.Parse.{Parse}
 use Rattle.text.specs.declared.Parse.TheVariants.{Uid, BadText}
 use Rattle.text.specs.Texts as Texts
-use Rattle.image.specs.declared.Compat.{Compat}
-use Rattle.image.specs.declared.Compat.TheVariants.{Key, Missing}
 
 -- A code: the number in the low byte, the length above it. The length of every answer is below 2 ^ 56.
 unfoldable pub coded : ℕ → ℕ → ℕ
@@ -43,9 +41,9 @@ unfoldable pub read_uid : Parsed → List ℕ → Coded
 read_uid p out = read_as p.answer p.id out
 
 -- A key, with bit 32 set to say that there is one.
-unfoldable pub key_code : Compat → ℕ
-key_code (Key k) = k + 0x100000000
-key_code Missing = 0
+unfoldable pub key_code : Option ℕ → ℕ
+key_code (Some k) = k + 0x100000000
+key_code None = 0
 
 -- The place where the unread rest of a record of n bytes begins, at most n.
 unfoldable pub rest_from : ℕ → ℕ → ℕ

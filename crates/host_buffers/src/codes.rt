@@ -3,7 +3,6 @@ ghost use Rattle.std.specs.Prelude.{◌≡◌};
 ghost use Rattle.host_buffers.specs.Codes.{coded, written_code, put_uid, read_uid, key_code};
 
 use ids::Id;
-use image::Compat;
 use text::{Parse, Parsed};
 use wire::Written;
 
@@ -51,11 +50,12 @@ pub fn read_uid(p: Parsed, out: &mut [u8]) -> u64
 }
 
 // A key, with bit 32 set to say that there is one.
-pub fn key_code(k: Compat) -> u64
-    ensures { result ≡ key_code k }
+#[tactic(auto, unfolding(crate::specs::Codes::key_code))]
+pub fn key_code(key: Option<u32>) -> u64
+    ensures { result ≡ key_code key }
 {
-    match k {
-        Compat::Key(x) => x as u64 + 0x1_0000_0000,
-        Compat::Missing => 0,
+    match key {
+        Some(x) => u64::from(x) + 0x1_0000_0000,
+        None => 0,
     }
 }

@@ -38,6 +38,7 @@ use Rattle.client.specs.declared.Phase.{Phase}
 use Rattle.client.specs.declared.Phase.TheVariants.{Select, Demand, Leave}
 use Rattle.client.specs.declared.Progress.{Progress}
 use Rattle.client.specs.declared.Purpose.TheVariants.{Tell, Clear, Load}
+use Rattle.std.specs.Prelude.{Result, Ok, Err}
 use Rattle.client.specs.declared.Refusal.{Refusal}
 use Rattle.client.specs.declared.Refusal.TheVariants.{Io, BadPrefix, ShortBuffer, OtherImage, OutOfTurn}
 use Rattle.client.specs.declared.Reset.{Reset}
@@ -57,7 +58,7 @@ use Rattle.client_request.specs.Request.{asks, next_seed, seeded, search_frame, 
 use Rattle.client_request.specs.Request.{withheld, granting, asked_for, request}
 use Rattle.client_job.specs.declared.Next.{Next}
 use Rattle.client_job.specs.declared.Then.{Then}
-use Rattle.client_job.specs.declared.Then.TheVariants.{On, Over, Refused}
+use Rattle.client_job.specs.declared.Then.TheVariants.{On, Over}
 use Rattle.client_job.specs.Job.{on_then, accepted, declined}
 use Rattle.client_record.specs.Answer.{goes, on_answer, tells}
 use Rattle.client_record.specs.Record.{attaches, met, backed, stop_of, walked, probed, hears, answered_to, record'}
@@ -442,12 +443,12 @@ module _ (c : Client) (h : Fits c) where
   unfolding goes
   goes-fits n k at small = go n.then k.then
     where
-      go : (t : Then) → ThenFits t → ToldFits
+      go : (t : Result Then Refusal) → ThenFits t → ToldFits
           (on_then t (λ job. making (onward c (Demand job) c.walk at) n.progress)
           (λ o. making (stops c (Says.Over o) at) n.progress) (λ r. stops c (Says.Refused r) at))
-      go (On job) w = making-fits _ _ (onward-fits c h (Demand job) w c.walk h.walk at small) k.progress
-      go (Over o) w = making-fits _ _ (stops-fits c h (Says.Over o) w at small) k.progress
-      go (Refused r) w = stops-fits c h (Says.Refused r) w at small
+      go (Ok (On job)) w = making-fits _ _ (onward-fits c h (Demand job) w c.walk h.walk at small) k.progress
+      go (Ok (Over o)) w = making-fits _ _ (stops-fits c h (Says.Over o) w at small) k.progress
+      go (Err r) w = stops-fits c h (Says.Refused r) w at small
 
 module _ (c : Client) (h : Fits c) (image bytes : List ℕ) (small : length image < 2 ^ 64) (few : length bytes < 2 ^ 64)
     (i : Bytes image) (b : Bytes bytes) where

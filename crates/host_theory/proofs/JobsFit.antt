@@ -10,6 +10,9 @@ use native.Mathlib.Omega.{arith}
 use lib.Dec.{ltb, leb, eqb}
 use lib.ListN.{length}
 use borrow.Author.Tests.{ltb-true, leb-true, leb-false}
+use Rattle.std.specs.Prelude as Std
+use Rattle.std.specs.Prelude.{Result, Ok, Err}
+use Rattle.std.specs.Option.{unwrap_or}
 use Rattle.paper.specs.Frame as PaperFrame
 use Rattle.paper.specs.Frame.{check, field}
 use Rattle.paper.specs.Answers as PaperAnswers
@@ -18,11 +21,9 @@ use Rattle.paper.specs.Answers.{padding, padded}
 use Rattle.paper.proofs.Fields.{byte-below, field_below}
 use Rattle.paper.proofs.Words.{Bytes}
 use Rattle.theory.proofs.frames.CheckParts.{check-fits}
-use Rattle.image.specs.declared.Erase.{Erase}
-use Rattle.image.specs.declared.Erase.TheVariants.{At, Done}
 use Rattle.image.specs.declared.Info.{Info}
 use Rattle.image.specs.Images.{paper_info, code_info, shown_info, shown_key, erase_after}
-use Rattle.image.proofs.Ways.{still, next-erase, last-erase}
+use Rattle.image.proofs.Ways.{none_still, some_next, none_past}
 use Rattle.image.specs.Pieces.{left, is_last, chunks_to, chunks}
 use Rattle.paper.proofs.Chunks.{chunk-multiple, chunk-most}
 use Rattle.client.specs.declared.Job.{Job}
@@ -31,32 +32,33 @@ use Rattle.client.specs.declared.Outcome.TheVariants.{Knows}
 use Rattle.client.specs.declared.Progress.TheVariants.{Made}
 use Rattle.client.specs.declared.Purpose.{Purpose}
 use Rattle.client.specs.declared.Purpose.TheVariants.{Tell, Clear, Load}
+use Rattle.client.specs.declared.Refusal.{Refusal}
 use Rattle.client.specs.declared.Refusal.TheVariants as Refusal
 use Rattle.client.specs.declared.Says.TheVariants as Says
 use Rattle.client_job.specs.declared.Next.{Next}
 use Rattle.client_job.specs.declared.Then.{Then}
-use Rattle.client_job.specs.declared.Then.TheVariants.{On, Over, Refused}
+use Rattle.client_job.specs.declared.Then.TheVariants.{On, Over}
 use Rattle.client_job.specs.Job.{quietly, refusing, on_informed, on_erase, erases, judged, prepared, informed, writes}
 use Rattle.client_job.specs.Job.{cleared, erased, wrote, repeated, verified, accepted, declined}
 use Rattle.image.specs.InfoBytes.{no_info, InfoFits}
 use Rattle.host_turn.specs.Turns.{size_of}
 use Rattle.host_turn.proofs.Laws.{no-info-fits}
-use Rattle.host_answer.specs.Numbers.{key_or0, outcome_note, refusal_note, note_of}
+use Rattle.host_answer.specs.Numbers.{outcome_note, refusal_note, note_of}
 use Rattle.host_theory.proofs.ByteArrays.{chosen}
 use Rattle.host_theory.proofs.NumbersFit.{SaysFits, ProgressFits, no-progress, made-fits, ending-fits}
 use Rattle.host_theory.proofs.NumbersFit.{refusing-fits, bare-fits}
 use Rattle.host_theory.proofs.TurnFits.{PurposeFits, JobFits}
 
-abbrev pub ThenFits : Then → Type 0
-ThenFits (On job) = JobFits job
-ThenFits (Over o) = SaysFits (Says.Over o)
-ThenFits (Refused r) = SaysFits (Says.Refused r)
+abbrev pub ThenFits : Result Then Refusal → Type 0
+ThenFits (Ok (On job)) = JobFits job
+ThenFits (Ok (Over o)) = SaysFits (Says.Over o)
+ThenFits (Err r) = SaysFits (Says.Refused r)
 
 pub record NextFits (n : Next) : Type 0 where
   pub progress : ProgressFits n.progress
   pub then : ThenFits n.then
 
-quiet-fits : (t : Then) → ThenFits t → NextFits (quietly t)
+quiet-fits : (t : Result Then Refusal) → ThenFits t → NextFits (quietly t)
 quiet-fits t h = record { progress = no-progress; then = h }
 
 -- The information in a payload of bytes.
@@ -74,36 +76,36 @@ info-fits payload h = record {
 }
 
 -- The next erase address is below the capacity.
-abbrev Below : ℕ → Erase → Type 0
-Below c (At a) = a < c
-Below c Done = Unit {0}
+abbrev Below : ℕ → Std.Option ℕ → Type 0
+Below c (Std.Some a) = a < c
+Below c Std.None = Unit {0}
 
 next-below : (i : PaperFrame.Info) (address : ℕ) → Below i.capacity (erase_after i address)
 next-below i a = go (dec_lt 0 i.erase_size) (dec_lt (a + i.erase_size) i.capacity)
   where
     go : Dec (0 < i.erase_size) → Dec (a + i.erase_size < i.capacity) → Below i.capacity (erase_after i a)
-    go (yes e) (yes l) = subst (Below i.capacity) (next-erase i a (λ z. omega arith) (a + i.erase_size) refl l) l
-    go (yes e) (no l) = subst (Below i.capacity) (last-erase i a (λ z. omega arith) (omega arith)) tt
-    go (no e) d = subst (Below i.capacity) (still i a (omega arith)) tt
+    go (yes e) (yes l) = rw (some_next i a (a + i.erase_size) refl (omega arith) l) l
+    go (yes e) (no l) = rw (none_past i a (omega arith)) tt
+    go (no e) d = rw (none_still i a (omega arith)) tt
 
 after-below : (i : PaperFrame.Info) (a : ℕ) → Below i.capacity (erase_after i a)
 after-below i a = go (dec_lt 0 i.erase_size) (dec_lt (a + i.erase_size) i.capacity)
   where
     go : Dec (0 < i.erase_size) → Dec (a + i.erase_size < i.capacity) → Below i.capacity (erase_after i a)
-    go (yes e) (yes l) = subst (Below i.capacity) (next-erase i a (λ z. omega arith) (a + i.erase_size) refl l) l
-    go (yes e) (no l) = subst (Below i.capacity) (last-erase i a (λ z. omega arith) (omega arith)) tt
-    go (no e) d = subst (Below i.capacity) (still i a (omega arith)) tt
+    go (yes e) (yes l) = rw (some_next i a (a + i.erase_size) refl (omega arith) l) l
+    go (yes e) (no l) = rw (none_past i a (omega arith)) tt
+    go (no e) d = rw (none_still i a (omega arith)) tt
 
-on-erase : (c : ℕ) (e : Erase) → Below c e → (f : ℕ → Next) (g : Next) → ((a : ℕ) → a < c → NextFits (f a))
+on-erase : (c : ℕ) (e : Std.Option ℕ) → Below c e → (f : ℕ → Next) (g : Next) → ((a : ℕ) → a < c → NextFits (f a))
     → NextFits g → NextFits (on_erase e f g)
-on-erase c (At a) b f g p q = p a b
-on-erase c Done b f g p q = q
+on-erase c (Std.Some a) b f g p q = p a b
+on-erase c Std.None b f g p q = q
 
 -- The image's key.
-key-small : (image : List ℕ) → Bytes image → key_or0 (shown_key (key image)) < 2 ^ 32
-unfolding key key_or0
+key-small : (image : List ℕ) → Bytes image → unwrap_or (shown_key (key image)) 0 < 2 ^ 32
+unfolding key
 key-small image h =
-    chosen (λ (o : Option ℕ). key_or0 (shown_key o) < 2 ^ 32) (leb 6 (length image) && eqb (length image % 4) 2) _ _
+    chosen (λ (o : Option ℕ). unwrap_or (shown_key o) 0 < 2 ^ 32) (leb 6 (length image) && eqb (length image % 4) 2) _ _
     (λ e. field_below 4 (length image - 6) image h) (λ e. omega arith)
 
 reported-small : (n : ℕ) → reported n < 2 ^ 32
@@ -161,11 +163,11 @@ module _ (info : Info) (hi : InfoFits info) where
   prepared-fits Clear h image k = erases-fits Clear h
   prepared-fits (Load n) h image k = judged-fits n h image k
 
-  writes-fits : (n : ℕ) → n < 2 ^ 64 → ThenFits (writes n info)
+  writes-fits : (n : ℕ) → n < 2 ^ 64 → ThenFits (Ok (writes n info))
   unfolding writes
-  writes-fits n h = chosen ThenFits (eqb n 0) _ _ (λ e. (h, hi)) (λ e. (h, (hi, (omega arith, omega arith))))
+  writes-fits n h = chosen (λ (t : Then). ThenFits (Ok t)) (eqb n 0) _ _ (λ e. (h, hi)) (λ e. (h, (hi, (omega arith, omega arith))))
 
-  cleared-fits : (why : Purpose) → PurposeFits why → ThenFits (cleared why info)
+  cleared-fits : (why : Purpose) → PurposeFits why → ThenFits (Ok (cleared why info))
   unfolding cleared size_of
   cleared-fits Tell h = knows-fits
   cleared-fits Clear h = knows-fits
@@ -227,7 +229,7 @@ informed-fits : (why : Purpose) → PurposeFits why → (payload image : List �
 unfolding informed PaperAnswers.informed note_of refusal_note
 informed-fits why h payload image k b =
     chosen (λ (o : Option PaperFrame.Info). ThenFits
-    (on_informed (shown_info o) (λ info. prepared why info image) (Refused Refusal.BadInfo)))
+    (on_informed (shown_info o) (λ info. prepared why info image) (Err Refusal.BadInfo)))
     (leb 18 (length payload) && sound (PaperFrame.info_of payload)) _ _
     (λ e. prepared-fits (code_info (PaperFrame.info_of payload)) (info-fits payload k) why h image b) (λ e. bare-fits _)
 

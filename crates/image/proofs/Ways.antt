@@ -1,141 +1,86 @@
--- Lemmas for each path through the rules on device information and images, from the facts that hold there.
-use Prim.Native.Nat.{ℕ, ◌+◌, ◌-◌, ◌*◌, ◌/◌, ◌%◌, ◌^◌, ◌<◌, ◌≤◌}
-use mathlib.Core.Bool.{Bool, true, false, not}
-use mathlib.Core.List.{List}
-use mathlib.Core.Option.{Option, none, some}
-use mathlib.Core.Path.{◌≡◌, refl, sym, ◌∙◌, ap}
+-- Rounding up, as the paper and as the library write it; the erase addresses; how many chunks can be done.
+use Rattle.std.proofs.Common.{◌≡◌, ℕ, ◌+◌, ◌-◌, ◌*◌, ◌/◌, ◌%◌, ◌^◌, ◌<◌, ◌≤◌, min, Bool, not, ltb, Option, Some, None, true, false, sym, arith}
+use Rattle.std.proofs.Math.Nat.{div-eq_of_lt-le, div-mul-le_self, mod-eq_of_lt, mod-lt, mod_self, mul-le-mul_left}
+use Rattle.std.proofs.lemmas.Nat.{div-add-mod'}
+use Rattle.std.proofs.lemmas.Grind.{div_ceil_times}
+use Rattle.std.specs.Int.{next_multiple_of}
+use Rattle.std.specs.Option.{SomeIff, is_some, unwrap_or}
 use native.Mathlib.Decide.{dec_lt}
-use native.Mathlib.Nat.{div-mul-le_self}
-use native.Mathlib.Omega.{arith}
-use lib.Dec.{leb, ltb, eqb}
-use lib.ListN.{length}
-use borrow.Author.Tests.{lt-ltb, le-ltb, le-leb, lt-leb, eq-eqb, ne_eqb}
+use borrow.Author.Tests.{lt-ltb, le-ltb}
 use Rattle.paper.specs.Frame as Paper
-use Rattle.paper.specs.Frame.{field}
-use Rattle.paper.specs.Answers.{sound, informed, spans_too_far, steps, key, same_key, incompatible, chunk}
+use Rattle.paper.specs.Answers.{steps, spans_too_far, chunk}
+use Rattle.paper.proofs.Chunks.{chunk-multiple}
 use Rattle.paper.proofs.Addresses.{below-nil, below-still, below-cons}
-use Rattle.image.specs.declared.Info.{Info}
-use Rattle.image.specs.declared.Informed.TheVariants.{Sound, BadInfo}
-use Rattle.image.specs.declared.Compat.{Compat}
-use Rattle.image.specs.declared.Compat.TheVariants.{Key, Missing}
-use Rattle.image.specs.declared.Erase.TheVariants.{At, Done}
-use Rattle.image.specs.InfoBytes.{loaded_info}
-use Rattle.image.specs.Images.{paper_info, shown_info, shown_key, erase_after}
+use Rattle.image.specs.Images.{erase_after}
 
-module _ (i : Paper.Info) where
-  pub no_size : i.erase_size ≡ 0 → false ≡ sound i
-  unfolding sound
-  no_size h = rw (le-ltb 0 i.erase_size (omega arith))
+module _ (c e : ℕ) (h : 0 < e) where
+  pub steps_ceil : steps e c ≡ c / e + min 1 (c % e)
+  unfolding steps
+  steps_ceil =
+      let b = div_ceil_times c e h in
+      div-eq_of_lt-le e (omega (arith, b.0)) (omega (arith, b.1))
 
-  pub no-capacity : (i.erase_size ≡ 0 → ⊥) → i.capacity ≡ 0 → false ≡ sound i
-  unfolding sound
-  no-capacity h k = rw (lt-ltb 0 i.erase_size (omega arith), le-ltb 0 i.capacity (omega arith))
-
-  pub sizes : (r : Bool) → (i.erase_size ≡ 0 → ⊥) → (i.capacity ≡ 0 → ⊥) → r ≡ leb 4 i.max_payload → r ≡ sound i
-  unfolding sound
-  sizes r h k e = rw (e, lt-ltb 0 i.erase_size (omega arith), lt-ltb 0 i.capacity (omega arith))
-
-  pub no_span : i.erase_size ≡ 0 → false ≡ spans_too_far i
-  unfolding spans_too_far
-  no_span h = sym (le-ltb 0xFFFFFFFF (steps i.erase_size i.capacity * i.erase_size)
-      (rw h (none (steps 0 i.capacity))))
+  pub steps_multiple : steps e c * e ≡ next_multiple_of c e
+  steps_multiple = rw steps_ceil (go (dec_lt 0 (c % e)))
     where
-      none : (n : ℕ) → n * 0 ≤ 0xFFFFFFFF
-      none n = omega arith
-
-  pub span : (r : Bool) → r ≡ ltb 0xFFFFFFFF ((i.capacity + (i.erase_size - 1)) / i.erase_size * i.erase_size)
-      → r ≡ spans_too_far i
-  unfolding spans_too_far steps
-  span r e = e
-
--- A number rounded down to a multiple of e fits in 64 bits if it is below 2 ^ 40.
-pub rounds : (x e : ℕ) → x < 2 ^ 40 → x / e * e < 2 ^ 64
-rounds x e h = omega (arith, div-mul-le_self x e)
+      go : Dec (0 < c % e) → (c / e + min 1 (c % e)) * e ≡ next_multiple_of c e
+      go (yes l) =
+          let below : c % e < e = mod-lt c h in
+          let less : e - c % e < e = omega arith in
+          let one : min 1 (c % e) ≡ 1 = omega arith in
+          rw (mod-eq_of_lt less, one) (omega (arith, div-add-mod' c e))
+      go (no l) =
+          let none : c % e ≡ 0 = omega arith in
+          let whole : e - 0 ≡ e = omega arith in
+          rw (none, whole, mod_self e) (omega (arith, div-add-mod' c e))
 
 module _ (i : Paper.Info) (a : ℕ) where
-  pub still : i.erase_size ≡ 0 → Done ≡ erase_after i a
+  pub some_next : (n : ℕ) → n ≡ a + i.erase_size → a < n → n < i.capacity → erase_after i a ≡ Some n
   unfolding erase_after
-  still h = rw (h, below-still i.capacity a)
+  some_next n e h k = rw (
+    below-cons i.erase_size i.capacity a (omega arith) (omega arith),
+    below-cons i.erase_size i.capacity (a + i.erase_size) (omega arith) (omega arith),
+    e,
+  )
 
-  module _ (h : i.erase_size ≡ 0 → ⊥) where
-    pub next-erase : (n : ℕ) → n ≡ a + i.erase_size → n < i.capacity → At n ≡ erase_after i a
-    unfolding erase_after
-    next-erase n e k = rw (
-      e,
-      below-cons i.erase_size i.capacity a (omega arith) (omega arith),
-      below-cons i.erase_size i.capacity (a + i.erase_size) (omega arith) (omega arith),
-    )
+  pub none_past : i.capacity ≤ a + i.erase_size → erase_after i a ≡ None
+  unfolding erase_after
+  none_past h = go (dec_lt 0 i.erase_size) (dec_lt a i.capacity)
+    where
+      go : Dec (0 < i.erase_size) → Dec (a < i.capacity) → erase_after i a ≡ None
+      go (yes p) (yes l) = rw (
+        below-cons i.erase_size i.capacity a p l,
+        below-nil i.erase_size i.capacity (a + i.erase_size) h,
+      )
+      go (yes p) (no l) = rw (below-nil i.erase_size i.capacity a (omega arith))
+      go (no p) l = let none : i.erase_size ≡ 0 = omega arith in rw (none, below-still i.capacity a)
 
-    pub last-erase : i.capacity ≤ a + i.erase_size → Done ≡ erase_after i a
-    unfolding erase_after
-    last-erase k = go (dec_lt a i.capacity)
+  pub none_still : i.erase_size ≡ 0 → erase_after i a ≡ None
+  unfolding erase_after
+  none_still h = rw (h, below-still i.capacity a)
+
+-- The test by the library's rounding is the paper's.
+pub spans_is : (i : Paper.Info) (o : Option ℕ) (e : ℕ) (r : Bool) → e ≡ i.erase_size → (e ≡ 0 → ⊥)
+    → SomeIff o ((0 < e) × (next_multiple_of i.capacity e < 2 ^ 32)) (next_multiple_of i.capacity e)
+    → is_some o ≡ not r → r ≡ spans_too_far i
+unfolding spans_too_far
+spans_is i o e r q h k t = rw (← q, steps_multiple i.capacity e (omega arith)) (go (next_multiple_of i.capacity e) o r k t)
+  where
+    go : (n : ℕ) (o : Option ℕ) (r : Bool) → SomeIff o ((0 < e) × (n < 2 ^ 32)) n → is_some o ≡ not r
+        → r ≡ ltb 0xFFFFFFFF n
+    go n None true k t = by (dec_lt n (2 ^ 32))
       where
-        go : Dec (a < i.capacity) → Done ≡ erase_after i a
-        go (yes l) = rw (
-          below-cons i.erase_size i.capacity a (omega arith) l,
-          below-nil i.erase_size i.capacity (a + i.erase_size) k,
-        )
-        go (no l) = rw (below-nil i.erase_size i.capacity a (omega arith))
+        by : Dec (n < 2 ^ 32) → true ≡ ltb 0xFFFFFFFF n
+        by (yes l) = absurd (k (omega arith, l))
+        by (no l) = sym (lt-ltb 0xFFFFFFFF n (omega arith))
+    go n (Some x) false k t = sym (le-ltb 0xFFFFFFFF n (omega (arith, k.0.1)))
+    go n None false k t = cc
+    go n (Some x) true k t = cc
 
-module _ (p : List ℕ) where
-  pub short-info : length p < 18 → BadInfo ≡ shown_info (informed p)
-  unfolding informed
-  short-info h = rw (lt-leb 18 (length p) h)
-
-  module _ (h : 18 ≤ length p) (i : Info) (ei : i ≡ loaded_info 0 p) (t : Bool) (et : t ≡ sound (paper_info i)) where
-    rule : sound (Paper.info_of p) ≡ t
-    unfolding loaded_info Paper.info_of
-    rule = sym (et ∙ ap (λ (j : Info). sound (paper_info j)) ei)
-
-    pub sound-info : t ≡ true → Sound i ≡ shown_info (informed p)
-    unfolding informed loaded_info Paper.info_of
-    sound-info e = rw (le-leb 18 (length p) h, rule, e) (ap Sound ei)
-
-    pub unsound-info : t ≡ false → BadInfo ≡ shown_info (informed p)
-    unfolding informed
-    unsound-info e = rw (le-leb 18 (length p) h, rule, e)
-
-module _ (image : List ℕ) where
-  pub key-short : length image < 6 → Missing ≡ shown_key (key image)
-  unfolding key
-  key-short h = rw (lt-leb 6 (length image) h)
-
-  pub key_here : (k : ℕ) → 6 ≤ length image → length image % 4 ≡ 2 → k ≡ field (length image - 6) 4 image
-      → Key k ≡ shown_key (key image)
-  unfolding key
-  key_here k h m e = rw (le-leb 6 (length image) h, eq-eqb (length image % 4) 2 m, e)
-
-  pub key-elsewhere : 6 ≤ length image → (length image % 4 ≡ 2 → ⊥) → Missing ≡ shown_key (key image)
-  unfolding key
-  key-elsewhere h m = rw (le-leb 6 (length image) h, ne_eqb (length image % 4) 2 m)
-
-  module _ (i : Paper.Info) where
-    pub no-key-set : i.compat ≡ 0xFFFFFFFF → false ≡ incompatible i image
-    unfolding incompatible
-    no-key-set h = rw (eq-eqb i.compat 0xFFFFFFFF h)
-
-    module _ (h : i.compat ≡ 0xFFFFFFFF → ⊥) (r : Compat) (er : r ≡ shown_key (key image)) where
-      pub key-missing : r ≡ Missing → true ≡ incompatible i image
-      unfolding incompatible
-      key-missing e = rw (ne_eqb i.compat 0xFFFFFFFF h) (go (key image) (sym er ∙ e))
-        where
-          go : (o : Option ℕ) → shown_key o ≡ Missing → true ≡ not (same_key i.compat o)
-          go none q = refl
-          go (some k) q = let z : ◌≡◌ {A = ℕ} 0 1 = cc in absurd (omega arith)
-
-      pub key-compared : (k : ℕ) (t : Bool) → r ≡ Key k → t ≡ not (eqb k i.compat) → t ≡ incompatible i image
-      unfolding incompatible
-      key-compared k t e q = rw (q, ne_eqb i.compat 0xFFFFFFFF h) (go (key image) (sym er ∙ e))
-        where
-          go : (o : Option ℕ) → shown_key o ≡ Key k → not (eqb k i.compat) ≡ not (same_key i.compat o)
-          go none q = let z : ◌≡◌ {A = ℕ} 0 1 = cc in absurd (omega arith)
-          go (some x) q = let same : x ≡ k = cc in rw same
-
-module _ (m : ℕ) where
-  pub chunk_small : m ≤ 1024 → m / 4 * 4 ≡ chunk m
-  unfolding chunk
-  chunk_small h = rw (le-leb m 1024 h)
-
-  pub chunk-most : 1024 < m → 1024 ≡ chunk m
-  unfolding chunk
-  chunk-most h = rw (lt-leb m 1024 h)
+-- A chunk that is not empty has at least four bytes, so one more than the chunks before an offset fits.
+pub few_before : (m offset : ℕ) (b : Option ℕ) → SomeIff b (0 < chunk m) (offset / chunk m) → offset < 2 ^ 64
+    → unwrap_or b 0 + 1 < 2 ^ 64
+few_before m offset None e h = omega arith
+few_before m offset (Some k) e h =
+    let four : 4 ≤ chunk m = omega (arith, e.0, chunk-multiple m) in
+    omega (arith, e.1, div-mul-le_self offset (chunk m), mul-le-mul_left (offset / chunk m) four)

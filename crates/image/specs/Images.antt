@@ -1,16 +1,11 @@
 -- The paper's device information, key and erase addresses as values of the code, and back.
-use Rattle.std.specs.Prelude.{ℕ, List, [], ◌∷◌, drop}
-use Rattle.std.proofs.Math.Option.{Option}
+use Rattle.std.specs.Prelude.{ℕ, List, [], ◌∷◌, drop, Option, Some, None, Result, Ok, Err}
+use Rattle.std.proofs.Math.Option as Maybe
 use Rattle.paper.specs.Frame as Paper
 use Rattle.paper.specs.Hearing.{on_some}
 use Rattle.paper.specs.Answers.{below}
+use Rattle.image.specs.declared.BadInfo.{BadInfo}
 use Rattle.image.specs.declared.Info.{Info}
-use Rattle.image.specs.declared.Informed.{Informed}
-use Rattle.image.specs.declared.Informed.TheVariants.{Sound, BadInfo}
-use Rattle.image.specs.declared.Compat.{Compat}
-use Rattle.image.specs.declared.Compat.TheVariants.{Key, Missing}
-use Rattle.image.specs.declared.Erase.{Erase}
-use Rattle.image.specs.declared.Erase.TheVariants.{At, Done}
 
 -- Device information of the code as the paper's, and of the paper as the code's.
 abbrev pub paper_info : Info → Paper.Info
@@ -37,16 +32,20 @@ code_info i = record {
   max_payload = i.max_payload;
 }
 
-abbrev pub shown_info : Option Paper.Info → Informed
-shown_info o = on_some o BadInfo (λ i. Sound (code_info i))
+-- A payload that is no device information.
+abbrev pub bad_info : BadInfo
+bad_info = record {}
 
-abbrev pub shown_key : Option ℕ → Compat
-shown_key o = on_some o Missing (λ k. Key k)
+abbrev pub shown_info : Maybe.Option Paper.Info → Result Info BadInfo
+shown_info o = on_some o (Err bad_info) (λ i. Ok (code_info i))
 
-abbrev pub first_of : List ℕ → Erase
-first_of [] = Done
-first_of (a ∷ more) = At a
+abbrev pub shown_key : Maybe.Option ℕ → Option ℕ
+shown_key o = on_some o None (λ k. Some k)
 
--- The erase address after this one, or Done.
-unfoldable pub erase_after : Paper.Info → ℕ → Erase
+abbrev pub first_of : List ℕ → Option ℕ
+first_of [] = None
+first_of (a ∷ more) = Some a
+
+-- The erase address after this one, or none.
+unfoldable pub erase_after : Paper.Info → ℕ → Option ℕ
 erase_after info address = first_of (drop 1 (below info.erase_size info.capacity address))

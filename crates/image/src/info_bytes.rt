@@ -5,6 +5,7 @@ ghost use Rattle.image.specs.InfoBytes.{no_info, geometry, saved_info, loaded_in
 use crate::Info;
 
 // Every field zero.
+#[tactic(auto, unfolding(crate::specs::InfoBytes::no_info))]
 pub fn none() -> Info
     ensures { result ≡ no_info }
 {
@@ -20,6 +21,7 @@ pub fn none() -> Info
     }
 }
 
+#[tactic(auto, unfolding(crate::specs::InfoBytes::loaded_info))]
 pub fn load(bytes: &[u8], at: usize) -> Info
     requires { at + 18 ≤ length bytes.now }
     ensures { result ≡ loaded_info at bytes.now }

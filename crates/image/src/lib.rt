@@ -22,66 +22,48 @@ pub struct Info {
     pub max_payload: u16,
 }
 
-// The device information in a payload. BadInfo is refusal 5.
-#[derive(Clone, Copy)]
-pub enum Informed {
-    Sound(Info),
-    BadInfo,
-}
+// A payload that is no device information. Refusal 5.
+#[derive(Clone, Copy, Debug, PartialEq, Eq)]
+pub struct BadInfo;
 
-// The compatibility key of an image, if it has one.
-#[derive(Clone, Copy)]
-pub enum Compat {
-    Key(u32),
-    Missing,
-}
-
-// The address of the next Erase, or Done after the last.
-#[derive(Clone, Copy)]
-pub enum Erase {
-    At(u32),
-    Done,
-}
+// The compatibility key of a device that fits every image.
+const UNSET: u32 = 0xFFFF_FFFF;
 
 // The device information in the payload of an Info reply. BadInfo if the payload is short or breaks the Info rule.
-pub fn device_info(payload: &[u8]) -> Informed
+#[tactic(auto, unfolding(paper::specs::Answers::informed, paper::specs::Frame::info_of, crate::specs::InfoBytes::loaded_info))]
+pub fn device_info(payload: &[u8]) -> Result<Info, BadInfo>
     ensures { result ≡ shown_info (informed payload.now) }
 {
     if payload.len() < 18 {
-        return Informed::BadInfo;
+        return Err(BadInfo);
     }
-    let i = info_bytes::load(payload, 0);
-    if i.sound() {
-        return Informed::Sound(i);
-    }
-    Informed::BadInfo
+    let info = info_bytes::load(payload, 0);
+    if info.sound() { Ok(info) } else { Err(BadInfo) }
 }
 
-// The compatibility key of an image: the four bytes that begin six before its end.
-pub fn image_compat(image: &[u8]) -> Compat
+// The compatibility key of an image, if it has one: the four bytes that begin six before its end.
+#[tactic(auto, unfolding(paper::specs::Answers::key))]
+pub fn image_compat(image: &[u8]) -> Option<u32>
     ensures { result ≡ shown_key (key image.now) }
 {
-    let n = image.len();
-    if n < 6 {
-        return Compat::Missing;
+    let at = image.len().checked_sub(6)?;
+    if image.len() % 4 == 2 {
+        Some(wire::get(image, at))
+    } else {
+        None
     }
-    if n % 4 == 2 {
-        return Compat::Key(wire::get(image, n - 6));
-    }
-    Compat::Missing
 }
 
 // An image's length as reported in 32 bits: 2^32 - 1 if it is longer.
+#[tactic(auto, unfolding(paper::specs::Answers::reported))]
 pub fn reported(n: usize) -> u32
     ensures { result ≡ reported n }
 {
-    if 0xFFFF_FFFF < n {
-        return 0xFFFF_FFFF;
-    }
-    n as u32
+    u32::try_from(n).unwrap_or(u32::MAX)
 }
 
 // How many bytes FF pad a length to a multiple of 4.
+#[tactic(auto, unfolding(paper::specs::Answers::padding))]
 pub fn padding(n: usize) -> usize
     ensures { result ≡ padding n }
 {
@@ -90,32 +72,24 @@ pub fn padding(n: usize) -> usize
 
 impl Info {
     // The Info rule: erase_size and capacity are not 0, and max_payload is at least 4.
+    #[tactic(auto, unfolding(paper::specs::Answers::sound))]
     pub fn sound(self) -> bool
         ensures { result ≡ sound (paper_info self) }
     {
-        if self.erase_size == 0 {
-            return false;
-        }
-        if self.capacity == 0 {
-            return false;
-        }
-        4 <= self.max_payload
+        self.erase_size != 0 && self.capacity != 0 && 4 <= self.max_payload
     }
 
     // Whether the capacity rounded up to the erase size is above 2^32 - 1.
+    #[tactic(auto, unfolding(paper::specs::Answers::spans_too_far, paper::specs::Answers::steps))]
     pub fn spans_too_far(self) -> bool
         ensures { result ≡ spans_too_far (paper_info self) }
     {
-        let e = self.erase_size as u64;
-        let c = self.capacity as u64;
-        if e == 0 {
-            return false;
-        }
-        let most = c + (e - 1);
-        0xFFFF_FFFF < most / e * e
+        let e = u32::from(self.erase_size);
+        e != 0 && self.capacity.checked_next_multiple_of(e).is_none()
     }
 
     // Whether an image of n bytes exceeds the capacity.
+    #[tactic(auto, unfolding(paper::specs::Answers::too_large))]
     pub fn too_large(self, n: usize) -> bool
         ensures { result ≡ too_large (paper_info self) n }
     {
@@ -123,42 +97,31 @@ impl Info {
     }
 
     // Whether the device's key is set, and the image's key is missing or different.
+    #[tactic(auto, unfolding(paper::specs::Answers::incompatible))]
     pub fn incompatible(self, image: &[u8]) -> bool
         ensures { result ≡ incompatible (paper_info self) image.now }
     {
-        if self.compat == 0xFFFF_FFFF {
-            return false;
-        }
-        let k = image_compat(image);
-        match k {
-            Compat::Missing => true,
-            Compat::Key(x) => x != self.compat,
-        }
+        self.compat != UNSET && image_compat(image) != Some(self.compat)
     }
 
     // The most bytes that one Write carries.
+    #[tactic(auto, unfolding(paper::specs::Answers::chunk))]
     pub fn chunk(self) -> usize
         ensures { result ≡ chunk self.max_payload }
     {
-        let m = self.max_payload as usize;
-        if m <= wire::MAX_PAYLOAD {
-            m / 4 * 4
-        } else {
-            wire::MAX_PAYLOAD
-        }
+        usize::from(self.max_payload).min(wire::MAX_PAYLOAD) / 4 * 4
     }
 
-    // The address after this one in 0, e, 2e .. below the capacity, where e is the erase size.
-    pub fn erase_after(self, address: u32) -> Erase
+    // The address after this one in 0, e, 2e .. below the capacity, where e is the erase size. None after the last.
+    #[tactic(auto, using(crate::proofs::Ways::some_next, crate::proofs::Ways::none_past, crate::proofs::Ways::none_still))]
+    pub fn erase_after(self, address: u32) -> Option<u32>
         ensures { result ≡ erase_after (paper_info self) address }
     {
-        let next = address as u64 + self.erase_size as u64;
-        if self.erase_size == 0 {
-            return Erase::Done;
+        let next = address.checked_add(u32::from(self.erase_size))?;
+        if address < next && next < self.capacity {
+            Some(next)
+        } else {
+            None
         }
-        if next < self.capacity as u64 {
-            return Erase::At(next as u32);
-        }
-        Erase::Done
     }
 }

@@ -8,16 +8,13 @@ ghost use Rattle.image.specs.Pieces.{left, is_last, image_bytes, part, chunks_to
 use crate::Info;
 
 // How many bytes are left from an offset on. The image has n bytes, and is padded.
+#[tactic(auto, unfolding(paper::specs::Answers::padding))]
 pub fn left(n: usize, offset: u64) -> usize
     requires { n < 2 ^ 63 }
     ensures { result ≡ left n offset }
 {
     let padded = n + crate::padding(n);
-    let from = offset as usize;
-    if padded <= from {
-        return 0;
-    }
-    padded - from
+    padded.saturating_sub(offset as usize)
 }
 
 // How many bytes a Write carries: a chunk or what is left.
@@ -25,12 +22,11 @@ pub fn size(info: Info, n: usize, offset: u64) -> usize
     requires { n < 2 ^ 63 }
     ensures { result ≡ write_size (paper_info info) n offset }
 {
-    let chunk = info.chunk();
-    let rest = left(n, offset);
-    if chunk <= rest { chunk } else { rest }
+    info.chunk().min(left(n, offset))
 }
 
 // Whether the Write at an offset is the last: it carries all that is left.
+#[tactic(auto, unfolding(crate::specs::Pieces::is_last))]
 pub fn last(info: Info, n: usize, offset: u64) -> bool
     requires { n < 2 ^ 63 }
     ensures { result ≡ is_last (paper_info info) n offset }
@@ -39,27 +35,20 @@ pub fn last(info: Info, n: usize, offset: u64) -> bool
 }
 
 // How many of a Write's bytes come from the image, the others being padding. None if the offset is past the end.
+#[tactic(auto, unfolding(crate::specs::Pieces::image_bytes))]
 pub fn image_bytes(n: usize, offset: u64, size: usize) -> usize
     ensures { result ≡ image_bytes n offset size }
 {
-    let from = offset as usize;
-    if n <= from {
-        return 0;
-    }
-    let held = n - from;
-    if size <= held { size } else { held }
+    size.min(n.saturating_sub(offset as usize))
 }
 
 // The part of the image from an offset on, at most size bytes.
+#[tactic(auto, unfolding(crate::specs::Pieces::image_bytes))]
 pub fn part(image: &[u8], offset: u64, size: usize) -> &[u8]
     ensures { result.now ≡ part offset size image.now }
 {
-    let held = image_bytes(image.len(), offset, size);
-    if held == 0 {
-        return &image[..0];
-    }
-    let from = offset as usize;
-    let to = from + held;
+    let from = image.len().min(offset as usize);
+    let to = from + image_bytes(image.len(), offset, size);
     &image[from..to]
 }
 
@@ -67,14 +56,12 @@ pub fn part(image: &[u8], offset: u64, size: usize) -> &[u8]
 pub fn chunks_to(info: Info, offset: u64) -> u64
     ensures { result ≡ chunks_to (paper_info info) offset }
 {
-    let chunk = info.chunk() as u64;
-    if chunk == 0 {
-        return 1;
-    }
-    offset / chunk + 1
+    let before = offset.checked_div(info.chunk() as u64);
+    before.unwrap_or(0) + 1
 }
 
 // How many chunks an image of n bytes has, once it is padded.
+#[tactic(auto, using(crate::proofs::Ways::steps_ceil), unfolding(paper::specs::Answers::steps))]
 pub fn chunks(info: Info, n: usize) -> u64
     requires { n < 2 ^ 63 }
     ensures { result ≡ chunks (paper_info info) n }
@@ -83,6 +70,5 @@ pub fn chunks(info: Info, n: usize) -> u64
     if chunk == 0 {
         return 0;
     }
-    let rest = left(n, 0);
-    ((rest + (chunk - 1)) / chunk) as u64
+    left(n, 0).div_ceil(chunk) as u64
 }

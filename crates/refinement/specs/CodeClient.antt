@@ -1,4 +1,5 @@
 -- Each client of the operations' machine as the code's client, field by field, and each of its answers as the code's.
+use Rattle.std.specs.Prelude as Std
 use Rattle.std.specs.Prelude.{ℕ, Bool, true, false, cond, List, [], ◌∷◌, eqb, get_or}
 use Rattle.std.proofs.Math.Option.{Option, none, some}
 use Rattle.paper.specs.Client as PaperClient
@@ -18,8 +19,6 @@ use Rattle.walk_table.specs.declared.Table.{Table}
 use Rattle.walk_table.specs.Rows.{no_table}
 use Rattle.walk.specs.declared.Walk.{Walk}
 use Rattle.walk.specs.Moves.{no_walk}
-use Rattle.image.specs.declared.Compat.{Compat}
-use Rattle.image.specs.declared.Compat.TheVariants.{Key, Missing}
 use Rattle.image.specs.Images.{code_info}
 use Rattle.client.specs.declared.Search as CodeSearch
 use Rattle.client.specs.declared.Search.TheVariants.{Probing, Parting, Seeking, Backing, Walking}
@@ -159,10 +158,10 @@ abbrev pub carried : ℕ → List ℕ → ℕ
 carried i carries = get_or carries i 0
 
 -- The image's key, if the refusal carries one after the device's.
-abbrev pub key_in : List ℕ → Compat
-key_in [] = Missing
-key_in (device ∷ []) = Missing
-key_in (device ∷ image ∷ more) = Key image
+abbrev pub key_in : List ℕ → Std.Option ℕ
+key_in [] = Std.None
+key_in (device ∷ []) = Std.None
+key_in (device ∷ image ∷ more) = Std.Some image
 
 -- The code's answer for a refusal's number and what that carries. 23 is an outcome; any number not listed gives 21.
 unfoldable pub refused_as : ℕ → List ℕ → Shown

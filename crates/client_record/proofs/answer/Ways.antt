@@ -6,6 +6,7 @@ use native.Mathlib.Omega.{arith}
 use lib.ListN.{length, take, drop}
 use mir.Syntax.{w64}
 use mir.Val.{Fits}
+use Rattle.std.specs.Prelude as Std
 use Rattle.paper.specs.Answers.{Answer, lost, answered, ok, device, answer}
 use Rattle.paper.proofs.Answered.{answer-payload}
 use Rattle.hearing.specs.declared.Answered.{Answered}
@@ -24,31 +25,9 @@ use Rattle.client.specs.declared.Verdict.{Verdict}
 use Rattle.client.specs.Clients.{stops, onward, making}
 use Rattle.client.specs.Verdicts.{client_of, told_of}
 use Rattle.client_job.specs.declared.Next.{Next}
-use Rattle.client_job.specs.declared.Then.TheVariants.{On, Over, Refused}
+use Rattle.client_job.specs.declared.Then.TheVariants.{On, Over}
 use Rattle.client_job.specs.Job.{accepted, declined}
 use Rattle.client_record.specs.Answer.{goes, tells}
-
--- The premise on the rest's range is only there for the search: it names the verdict that progress is added to.
-module _ (f : Front) (next : Next) (at : ℕ) (r : Verdict) where
-  module _ (v : Verdict) (l : v.rest < 2 ^ 64)
-      (q : (w : Walk) → told_of r w ≡ making (told_of v w) next.progress) where
-    pub goes-on : (job : Job) → next.then ≡ On job
-        → ((w : Walk) → told_of v w ≡ onward (client_of f w) (Demand job) w at) → (w : Walk)
-        → told_of r w ≡ goes (client_of f w) next at
-    unfolding goes
-    goes-on job h e w = rw h (q w ∙ ap (λ (x : Told). making x next.progress) (e w))
-
-    pub goes_over : (o : Outcome) → next.then ≡ Over o
-        → ((w : Walk) → told_of v w ≡ stops (client_of f w) (Says.Over o) at) → (w : Walk)
-        → told_of r w ≡ goes (client_of f w) next at
-    unfolding goes
-    goes_over o h e w = rw h (q w ∙ ap (λ (x : Told). making x next.progress) (e w))
-
-  pub goes-refused : (x : Refusal) → next.then ≡ Refused x
-      → ((w : Walk) → told_of r w ≡ stops (client_of f w) (Says.Refused x) at) → (w : Walk)
-      → told_of r w ≡ goes (client_of f w) next at
-  unfolding goes
-  goes-refused x h e w = rw h (e w)
 
 -- Document 01's answer, from what the code has of it.
 was-lost : (x : Answer) → shown_answer x ≡ Lost → x ≡ lost

@@ -1,8 +1,9 @@
 -- An answer's numbers give that answer back: nothing is lost.
 use mathlib.Core.Path.{◌≡◌, refl, ap}
+use Rattle.std.specs.Prelude as Std
+use Rattle.std.specs.Prelude.{ℕ, is_some}
+use Rattle.std.specs.Option.{unwrap_or}
 use Rattle.hearing.specs.declared.Heard.{Heard}
-use Rattle.image.specs.declared.Compat.{Compat}
-use Rattle.image.specs.declared.Compat.TheVariants.{Key, Missing}
 use Rattle.client.specs.declared.Outcome.{Outcome}
 use Rattle.client.specs.declared.Refusal.{Refusal}
 use Rattle.client.specs.declared.Refusal.TheVariants.{Io, Device, FirmwareTooLarge, CrcMismatch, BadInfo, Incompatible}
@@ -15,7 +16,7 @@ use Rattle.client.specs.declared.Progress.TheVariants.{None, Made}
 use Rattle.client.specs.declared.Says.{Says}
 use Rattle.client.specs.declared.Says.TheVariants.{Granted, Closing, Onward, Over, Refused}
 use Rattle.client.specs.Numbers.{number_of}
-use Rattle.host_answer.specs.Numbers.{going, ending, refusing, heard_tag, has_key, key_or0, outcome_note, refusal_note}
+use Rattle.host_answer.specs.Numbers.{going, ending, refusing, heard_tag, outcome_note, refusal_note}
 use Rattle.host_answer.specs.Numbers.{note_of, gain_of, heard_in, key_in, outcome_in, refusal_in, says_in, progress_in}
 
 heard-tag : (h : Heard) → heard_in (heard_tag h) ≡ h
@@ -26,10 +27,10 @@ heard-tag Heard.TooLong = refl
 heard-tag Heard.Unaddressed = refl
 heard-tag Heard.Garble = refl
 
-key-in : (k : Compat) → key_in (has_key k) (key_or0 k) ≡ k
-unfolding key_in has_key key_or0
-key-in (Key k) = refl
-key-in Missing = refl
+key-in : (k : Std.Option ℕ) → key_in (is_some k) (unwrap_or k 0) ≡ k
+unfolding key_in
+key-in (Std.Some k) = refl
+key-in Std.None = refl
 
 note-outcome : (o : Outcome) → says_in (outcome_note o) ≡ Over o
 unfolding says_in outcome_note outcome_in ending
@@ -47,7 +48,7 @@ note-refusal (Device status) = refl
 note-refusal (FirmwareTooLarge size capacity) = refl
 note-refusal (CrcMismatch expected actual) = refl
 note-refusal BadInfo = refl
-note-refusal (Incompatible device k) = ap (λ (x : Compat). Refused (Incompatible device x)) (key-in k)
+note-refusal (Incompatible device k) = ap (λ (x : Std.Option ℕ). Refused (Incompatible device x)) (key-in k)
 note-refusal NoDevice = refl
 note-refusal SeveralDevices = refl
 note-refusal NoSuchUid = refl

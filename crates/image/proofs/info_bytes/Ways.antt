@@ -4,10 +4,10 @@ use mathlib.Core.List.{List, [], ◌∷◌, ◌++◌}
 use mathlib.Core.Path.{◌≡◌, refl}
 use native.Mathlib.Omega.{arith}
 use lib.ListN.{length, take, drop}
-use Rattle.paper.specs.Frame.{le, byte, field}
+use Rattle.paper.specs.Frame.{le}
 use Rattle.paper.proofs.Fields.{Put, num, one, behind}
 use Rattle.image.specs.declared.Info.{Info}
-use Rattle.image.specs.InfoBytes.{geometry, saved_info, loaded_info}
+use Rattle.image.specs.InfoBytes.{geometry, saved_info}
 
 pub geometry-length : (i : Info) → length (geometry i) ≡ 10
 unfolding geometry le
@@ -16,25 +16,6 @@ geometry-length i = refl
 pub info-length : (i : Info) → length (saved_info i) ≡ 18
 unfolding saved_info geometry le
 info-length i = refl
-
-module _ (at : ℕ) (b : List ℕ) where
-  pub info-loaded : (cap erase boot app compat most : ℕ) → cap ≡ field at 4 b → erase ≡ field (at + 4) 2 b
-      → boot ≡ field (at + 6) 2 b → app ≡ field (at + 8) 2 b
-      → compat ≡ field (at + 12) 4 b → most ≡ field (at + 16) 2 b
-      → ◌≡◌ {A = Info}
-      (record {
-        capacity = cap;
-        erase_size = erase;
-        boot_version = boot;
-        app_version = app;
-        mode = byte (at + 10) b;
-        boot_baud = byte (at + 11) b;
-        compat = compat;
-        max_payload = most;
-      })
-      (loaded_info at b)
-  unfolding loaded_info
-  info-loaded cap erase boot app compat most e₁ e₂ e₃ e₄ e₅ e₆ = rw (e₁, e₂, e₃, e₄, e₅, e₆)
 
 module _ (at : ℕ) (b d₁ d₂ d₃ d₄ : List ℕ) where
   pub put-geometry : (i : Info) → at + 10 ≤ length b → d₁ ≡ take at b ++ le 4 i.capacity ++ drop (at + 4) b

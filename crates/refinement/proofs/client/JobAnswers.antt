@@ -1,5 +1,5 @@
 -- The code handles the answer to a job's request, and the image lent with it, as the machine does.
-use Prim.Native.Nat.{ℕ, suc, ◌+◌, ◌-◌}
+use Prim.Native.Nat.{ℕ, suc, ◌+◌, ◌-◌, ◌<◌}
 use mathlib.Core.Bool.{Bool, true, false, cond}
 use mathlib.Core.List.{List, [], ◌∷◌}
 use mathlib.Core.Option.{Option, none, some}
@@ -8,6 +8,8 @@ use native.Mathlib.Omega.{arith}
 use lib.Dec.{leb, ltb, eqb}
 use lib.ListN.{length}
 use borrow.Author.Tests.{ltb-true, ltb-false, eqb-true, not-false}
+use Rattle.std.specs.Prelude as Std
+use Rattle.std.specs.Prelude.{Result, Ok, Err}
 use Rattle.paper.specs.Answers as Paper
 use Rattle.paper.specs.Answers.{lost, answered, ok, device, answer, sound, too_large, spans_too_far, incompatible, key}
 use Rattle.paper.specs.Answers.{erase_progress, chunk, padded}
@@ -24,17 +26,18 @@ use Rattle.theory.specs.ClientMachine.{waiting, lends, lent_to, settle, fails}
 use Rattle.theory.proofs.flash.InfoRule.{sound-sizes}
 use Rattle.theory.proofs.talk.MachineIsTalk.{SoundJob}
 use Rattle.image.specs.Images.{code_info, shown_info, shown_key}
-use Rattle.image.proofs.Ways.{next-erase, last-erase}
+use Rattle.image.proofs.Ways.{some_next, none_past}
 use Rattle.image.specs.Pieces.{is_last}
 use Rattle.client.specs.declared.Client.{Client}
 use Rattle.client.specs.declared.Job.TheVariants.{Writing}
 use Rattle.client.specs.declared.Outcome.TheVariants as Outcome
+use Rattle.client.specs.declared.Refusal.{Refusal}
 use Rattle.client.specs.declared.Refusal.TheVariants as Refusal
 use Rattle.client.specs.declared.Says.TheVariants as Says
 use Rattle.client.specs.Clients as Clients
 use Rattle.client.specs.Clients.{other_image, other_for, differs, stops, over, onward}
 use Rattle.client_job.specs.declared.Then as CodeThen
-use Rattle.client_job.specs.declared.Then.TheVariants.{On, Over, Refused}
+use Rattle.client_job.specs.declared.Then.TheVariants.{On, Over}
 use Rattle.client_job.specs.declared.Next as CodeNext
 use Rattle.client_job.specs.Job as CodeJob
 use Rattle.client_record.specs.Answer.{goes, on_answer, tells}
@@ -67,19 +70,19 @@ code seed id j = record_of seed id (waiting (demanding j))
 
 module _ (seed : ℕ) (id : Option Id) (j : Job) (at : ℕ) where
   -- The code goes on as the machine does, with any progress.
-  abbrev Shows : CodeThen.Then → Then → Type 0
+  abbrev Shows : Result CodeThen.Then Refusal → Then → Type 0
   Shows t u = (p : Option (ℕ × ℕ))
       → goes (code seed id j) (record { progress = progress_in p; then = t }) at ≡ told_as (settle (out seed id j) p u at)
 
-  either : (b : Bool) (t v : CodeThen.Then) (u w : Then) → Shows t u → Shows v w → Shows (cond b t v) (cond b u w)
+  either : (b : Bool) (t v : Result CodeThen.Then Refusal) (u w : Then) → Shows t u → Shows v w → Shows (cond b t v) (cond b u w)
   either true t v u w e f = e
   either false t v u w e f = f
 
-  job-shown : (k : Job) → Shows (On (job_in k)) (working k)
+  job-shown : (k : Job) → Shows (Ok (On (job_in k))) (working k)
   unfolding goes onward settle
   job-shown k p = refl
 
-  knows-shown : (info : Info) → Shows (Over (Outcome.Knows (code_info info))) (ends (knows info))
+  knows-shown : (info : Info) → Shows (Ok (Over (Outcome.Knows (code_info info)))) (ends (knows info))
   unfolding goes over Clients.idle settle id_after
   knows-shown info p = refl
 
@@ -95,7 +98,7 @@ module _ (seed : ℕ) (id : Option Id) (j : Job) (at : ℕ) where
       either (too_large info n) _ _ (refuses 3 _) _ (λ p. refl)
       (either (incompatible info image) _ _ (refuses 6 _) _ (keyed (key image)) (erases-shown (load n) info))
     where
-      keyed : (o : Option ℕ) → Shows (Refused (Refusal.Incompatible info.compat (shown_key o)))
+      keyed : (o : Option ℕ) → Shows (Err (Refusal.Incompatible info.compat (shown_key o)))
           (refuses 6 (info.compat ∷ on_some o [] (λ k. k ∷ [])))
       keyed none p = refl
       keyed (some k) p = refl
@@ -115,16 +118,21 @@ module _ (seed : ℕ) (id : Option Id) (j : Job) (at : ℕ) where
     where
       go : (o : Option Info)
           → Shows (CodeJob.on_informed (shown_info o) (λ info. CodeJob.prepared (purpose_in why) info image)
-          (Refused Refusal.BadInfo)) (on_some o (refuses 5 []) (λ info. OperationMachine.prepared why info image))
+          (Err Refusal.BadInfo)) (on_some o (refuses 5 []) (λ info. OperationMachine.prepared why info image))
       go none p = refl
       go (some info) p = prepared-shown why info image p
 
   cleared-shown : (why : Purpose) (info : Info)
-      → Shows (CodeJob.cleared (purpose_in why) (code_info info)) (OperationMachine.cleared why info)
+      → Shows (Ok (CodeJob.cleared (purpose_in why) (code_info info))) (OperationMachine.cleared why info)
   unfolding CodeJob.cleared OperationMachine.cleared CodeJob.writes OperationMachine.writes
   cleared-shown tell info = knows-shown info
   cleared-shown clear info = knows-shown info
-  cleared-shown (load n) info = either (eqb n 0) _ _ _ _ (job-shown (verifying n info)) (job-shown (writing n info 0 0))
+  cleared-shown (load n) info = go (eqb n 0)
+    where
+      go : (b : Bool) → Shows (Ok (cond b (On (job_in (verifying n info))) (On (job_in (writing n info 0 0)))))
+          (cond b (working (verifying n info)) (working (writing n info 0 0)))
+      go true = job-shown (verifying n info)
+      go false = job-shown (writing n info 0 0)
 
   verified-shown : (info : Info) (payload image : List ℕ)
       → Shows (CodeJob.verified (code_info info) payload image) (OperationMachine.verified info payload image)
@@ -142,8 +150,8 @@ module _ (seed : ℕ) (id : Option Id) (j : Job) (at : ℕ) where
   unfolding CodeJob.erased OperationMachine.erased
   erased-shown why info address s = go (ltb (address + info.erase_size) info.capacity) refl
     where
-      size : info.erase_size ≡ 0 → ⊥
-      size e = omega (arith, (sound-sizes info s).erase_size)
+      further : address < address + info.erase_size
+      further = omega (arith, (sound-sizes info s).erase_size)
 
       go : (b : Bool) → ltb (address + info.erase_size) info.capacity ≡ b
           → ShowsNext (CodeJob.erased (purpose_in why) (code_info info) address)
@@ -152,11 +160,11 @@ module _ (seed : ℕ) (id : Option Id) (j : Job) (at : ℕ) where
             then = cond b (working (erasing why info (address + info.erase_size))) (OperationMachine.cleared why info);
           })
       go true e =
-          rw (← next-erase info address size (address + info.erase_size) refl
+          rw (some_next info address (address + info.erase_size) refl further
           (ltb-true (address + info.erase_size) info.capacity e))
           (job-shown (erasing why info (address + info.erase_size)) (some (erase_progress info address, info.capacity)))
       go false e =
-          rw (← last-erase info address size (ltb-false (address + info.erase_size) info.capacity e))
+          rw (none_past info address (ltb-false (address + info.erase_size) info.capacity e))
           (cleared-shown why info (some (erase_progress info address, info.capacity)))
 
   wrote-shown : (info : Info) (offset : ℕ) (image : List ℕ)
@@ -197,8 +205,8 @@ module _ (seed : ℕ) (id : Option Id) (at : ℕ) where
     where
       go : (a b : Bool)
           → ShowsNext seed id (writing n info offset retries) at
-          (cond a (CodeJob.quietly (cond b (On (Writing n (code_info info) offset (suc retries)))
-          (Refused Refusal.RetriesSpent))) (CodeJob.refusing (Refusal.Device status)))
+          (cond a (CodeJob.quietly (cond b (Ok (On (Writing n (code_info info) offset (suc retries))))
+          (Err Refusal.RetriesSpent))) (CodeJob.refusing (Refusal.Device status)))
           (OperationMachine.quietly (cond a (cond b (working (writing n info offset (suc retries))) (refuses 17 []))
           (OperationMachine.declines status)))
       go true true = refl

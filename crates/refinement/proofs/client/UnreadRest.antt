@@ -4,11 +4,13 @@ use mathlib.Core.Bool.{Bool, true, false, cond}
 use mathlib.Core.List.{List, ◌++◌}
 use mathlib.Core.Path.{◌≡◌, refl, sym, ◌∙◌, ap}
 use lib.ListN.{length, drop}
+use Rattle.std.specs.Prelude.{Result, Ok, Err}
 use Rattle.paper.specs.Answers.{Reply, answered, ok, device, answer}
 use Rattle.theory.proofs.client.UnreadRest.{answer-appends, rest-appends}
 use Rattle.client.specs.declared.Client.{Client}
 use Rattle.client.specs.declared.Job.{Job}
 use Rattle.client.specs.declared.Phase.TheVariants.{Demand}
+use Rattle.client.specs.declared.Refusal.{Refusal}
 use Rattle.client.specs.declared.Refusal.TheVariants.{OtherImage}
 use Rattle.client.specs.declared.Told.{Told}
 use Rattle.client.specs.declared.Turn.TheVariants.{Waiting}
@@ -16,7 +18,7 @@ use Rattle.client.specs.Clients.{other_image, refuses, over, onward}
 use Rattle.client.proofs.Ways.{at-waiting}
 use Rattle.client_job.specs.declared.Next.{Next}
 use Rattle.client_job.specs.declared.Then.{Then}
-use Rattle.client_job.specs.declared.Then.TheVariants.{On, Over, Refused}
+use Rattle.client_job.specs.declared.Then.TheVariants.{On, Over}
 use Rattle.client_job.specs.Job.{accepted, declined}
 use Rattle.client_record.specs.Answer.{goes, tells}
 use Rattle.client_record.specs.Record.{answered_to, record'}
@@ -25,10 +27,10 @@ goes-rest : (c : Client) (next : Next) (at : ℕ) → (goes c next at).rest ≡ 
 unfolding goes over onward
 goes-rest c next at = go next.then
   where
-    go : (t : Then) → (goes c (record { progress = next.progress; then = t }) at).rest ≡ at
-    go (On job) = refl
-    go (Over o) = refl
-    go (Refused r) = refl
+    go : (t : Result Then Refusal) → (goes c (record { progress = next.progress; then = t }) at).rest ≡ at
+    go (Ok (On job)) = refl
+    go (Ok (Over o)) = refl
+    go (Err r) = refl
 
 -- Any client with a job's request out.
 module _ (c : Client) (j : Job) (out : c.turn ≡ Waiting (Demand j)) (image : List ℕ) where

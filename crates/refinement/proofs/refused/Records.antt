@@ -5,17 +5,15 @@ use mathlib.Core.List.{List}
 use mathlib.Core.Path.{◌≡◌, refl, sym, ◌∙◌, ap}
 use lib.Dec.{ltb, eqb}
 use lib.ListN.{length}
+use Rattle.std.specs.Prelude.{Option, Some, None, Result, Ok, Err}
 use Rattle.paper.specs.Answers as Paper
 use Rattle.paper.specs.Answers.{Answer, lost, answered, ok, device, answer, too_large, incompatible, spans_too_far}
 use Rattle.paper.specs.Frame.{field, check}
 use Rattle.ids.specs.declared.Id.{Id}
 use Rattle.hearing.specs.declared.Heard.{Heard}
 use Rattle.hearing.specs.declared.Heard.TheVariants.{Nothing, One, TooLong, Unaddressed, Garble}
-use Rattle.image.specs.declared.Erase.{Erase}
-use Rattle.image.specs.declared.Erase.TheVariants.{At, Done}
 use Rattle.image.specs.declared.Info.{Info}
-use Rattle.image.specs.declared.Informed.{Informed}
-use Rattle.image.specs.declared.Informed.TheVariants.{Sound, BadInfo}
+use Rattle.image.specs.declared.BadInfo.{BadInfo}
 use Rattle.image.specs.Images.{paper_info, shown_info, erase_after}
 use Rattle.image.specs.Pieces.{is_last}
 use Rattle.walk_table.specs.declared.Table.{Table}
@@ -61,7 +59,7 @@ abbrev Plain : Refusal → Type 0
 Plain r = (keeps r ≡ false) × ((parts r ≡ false) × (eqb (number_of r) 1 ≡ false))
 
 -- What an answer leads to: no refusal, or a plain one.
-abbrev Sober : Then → Type 0
+abbrev Sober : Result Then Refusal → Type 0
 Sober t = on_then t (λ job. Unit {0}) (λ o. Unit {0}) Plain
 
 erases-sober : (why : Purpose) (info : Info) → Sober (erases why info)
@@ -84,20 +82,20 @@ informed-sober : (why : Purpose) (payload image : List ℕ) → Sober (informed 
 unfolding informed keeps parts number_of
 informed-sober why payload image = go (shown_info (Paper.informed payload))
   where
-    go : (i : Informed) → Sober (on_informed i (λ info. prepared why info image) (Then.Refused Refusal.BadInfo))
-    go (Sound info) = prepared-sober why info image
-    go BadInfo = (refl, (refl, refl))
+    go : (i : Result Info BadInfo) → Sober (on_informed i (λ info. prepared why info image) (Err Refusal.BadInfo))
+    go (Ok info) = prepared-sober why info image
+    go (Err e) = (refl, (refl, refl))
 
-cleared-sober : (why : Purpose) (info : Info) → Sober (CodeJob.cleared why info)
+cleared-sober : (why : Purpose) (info : Info) → Sober (Ok (CodeJob.cleared why info))
 unfolding CodeJob.cleared writes
 cleared-sober Tell info = tt
 cleared-sober Clear info = tt
-cleared-sober (Load n) info = either Sober (eqb n 0) tt tt
+cleared-sober (Load n) info = either (λ (t : Then). Sober (Ok t)) (eqb n 0) tt tt
 
-each-erase : {A : Type 0} (P : A → Type 0) (e : Erase) {f : ℕ → A} {a : A} → ((k : ℕ) → P (f k)) → P a
+each-erase : {A : Type 0} (P : A → Type 0) (e : Option ℕ) {f : ℕ → A} {a : A} → ((k : ℕ) → P (f k)) → P a
     → P (on_erase e f a)
-each-erase P (At k) h g = h k
-each-erase P Done h g = g
+each-erase P (Some k) h g = h k
+each-erase P None h g = g
 
 erased-sober : (why : Purpose) (info : Info) (address : ℕ) → Sober (erased why info address).then
 unfolding erased
@@ -229,12 +227,12 @@ module _ (c : Client) (n : ℕ) where
     hears-tells (Backing given) h x = backed-tells given
     hears-tells (Walking q) h x = walked-tells _ _
 
-    goes-tells : (progress : Progress) (t : Then) → Sober t
+    goes-tells : (progress : Progress) (t : Result Then Refusal) → Sober t
         → Tells c n (goes c (record { progress = progress; then = t }) at)
     unfolding goes over onward idle
-    goes-tells progress (Then.On job) h = unrefused-tells _ refl refl
-    goes-tells progress (Then.Over o) h = unrefused-tells _ refl refl
-    goes-tells progress (Then.Refused r) h = ends-tells false r _ _ h.0 h.1.0 h.1.1
+    goes-tells progress (Ok (Then.On job)) h = unrefused-tells _ refl refl
+    goes-tells progress (Ok (Then.Over o)) h = unrefused-tells _ refl refl
+    goes-tells progress (Err r) h = ends-tells false r _ _ h.0 h.1.0 h.1.1
 
   tells-tells : (j : Job) (image bytes : List ℕ) → length bytes ≡ n → Tells c n (tells c j image bytes)
   unfolding tells
