@@ -1,14 +1,14 @@
 -- A lemma for each way through the client's functions, with the facts known there as its premises.
 use Prim.Native.Nat.{ℕ}
 use mathlib.Core.Bool.{Bool, true, false, cond}
-use mathlib.Core.Path.{◌≡◌, refl, ◌∙◌, ap}
+use mathlib.Core.Path.{◌≡◌, refl, ◌∙◌}
 use Rattle.ids.specs.declared.Id.{Id}
 use Rattle.ids.specs.Ids.{no_id}
 use Rattle.walk_table.specs.declared.Table.{Table}
 use Rattle.walk_table.specs.Rows.{no_table, giving}
 use Rattle.walk.specs.declared.Walk.{Walk}
 use Rattle.walk.specs.declared.Place.{Place}
-use Rattle.walk.specs.Moves.{place_of, walk_of, no_walk}
+use Rattle.walk.specs.Moves.{walk_of, no_walk}
 use Rattle.client.specs.declared.Phase.{Phase}
 use Rattle.client.specs.declared.Turn.{Turn}
 use Rattle.client.specs.declared.Turn.TheVariants.{Idle, Ready, Waiting}
@@ -18,14 +18,13 @@ use Rattle.client.specs.declared.Progress.TheVariants.{None}
 use Rattle.client.specs.declared.Says.{Says}
 use Rattle.client.specs.declared.Says.TheVariants.{Onward, Refused}
 use Rattle.client.specs.declared.Front.{Front}
-use Rattle.client.specs.declared.Touch.{Touch}
-use Rattle.client.specs.declared.Touch.TheVariants.{Same}
 use Rattle.client.specs.declared.Change.{Change}
+use Rattle.client.specs.declared.Change.TheVariants.{Same}
 use Rattle.client.specs.declared.Verdict.{Verdict}
 use Rattle.client.specs.Numbers.{number_of}
 use Rattle.client.specs.Clients.{on_turn, begun, turned, fresh, idle, holding, cleared, attached, refuses, over, stops}
 use Rattle.client.specs.Clients.{onward}
-use Rattle.client.specs.Verdicts.{client_of, still, changed, given, told_of}
+use Rattle.client.specs.Verdicts.{client_of, changed, given, told_of}
 
 -- The choice by turn, where the turn is known.
 module _ {A : Type 0} (t : Turn) (a : A) (f g : Phase → A) where
@@ -56,10 +55,6 @@ pub no-walk-is : (p : Place) (t : Table) (w : Walk) → walk_of p no_table ≡ n
     → w ≡ no_walk
 no-walk-is p t w e f g = g ∙ rw f e
 
-pub still-is : (touch : Touch) (p : Place) (x : Id) → walk_of p no_table ≡ no_walk → x ≡ no_id
-    → record { touch = touch; place = p; entry = record { id = x } } ≡ still touch
-still-is touch p x e f = rw (f, ap place_of e)
-
 module _ (f g : Front) where
   pub idle-is : (x : Id) → x ≡ no_id → ((w : Walk) → client_of g w ≡ begun (client_of f w) Idle x 0 w) → (w : Walk)
       → client_of g no_walk ≡ idle (client_of f w)
@@ -78,12 +73,12 @@ module _ (f g : Front) where
   unfolding onward
   onward-is p x change at k h w e = rw (k, e, h (changed change w))
 
-  pub ends_is : (s : Says) (x : Id) (touch : Touch) (change : Change) (at : ℕ) → change ≡ still touch
-      → ((w : Walk) → client_of g no_walk ≡ idle (client_of f w)) → (w : Walk) → changed (still touch) w ≡ no_walk
+  pub ends_is : (s : Says) (x : Id) (change : Change) (at : ℕ)
+      → ((w : Walk) → client_of g no_walk ≡ idle (client_of f w)) → (w : Walk) → changed change w ≡ no_walk
       → told_of (record { says = s; front = g; change = change; rest = at; progress = None; id = x }) w
-      ≡ over (client_of f w) s x (given (still touch) w) at
+      ≡ over (client_of f w) s x (given change w) at
   unfolding over
-  ends_is s x touch change at k h w e = rw (k, e, h w)
+  ends_is s x change at h w e = rw (e, h w)
 
 module _ (f : Front) (s : Says) (x : Id) (at : ℕ) (r : Verdict) (b : Bool) where
   pub over-gives : b ≡ true → ((w : Walk) → no_walk ≡ no_walk
@@ -96,20 +91,17 @@ module _ (f : Front) (s : Says) (x : Id) (at : ℕ) (r : Verdict) (b : Bool) whe
   over-clears e h w = rw e (h w refl)
 
 module _ (f : Front) where
-  pub refuses-is : (q : Refusal) (x : Id) (change : Change) → x ≡ no_id → change ≡ still Same → (w : Walk)
-      → told_of (record { says = Refused q; front = f; change = change; rest = 0; progress = None; id = x }) w
+  pub refuses-is : (q : Refusal) (x : Id) → x ≡ no_id → (w : Walk)
+      → told_of (record { says = Refused q; front = f; change = Same; rest = 0; progress = None; id = x }) w
       ≡ refuses (client_of f w) q
-  refuses-is q x change e k w = rw (e, k)
+  refuses-is q x e w = rw e
 
   pub stops-is : (s : Says) (x : Id) (at : ℕ) (r : Verdict) → x ≡ no_id
       → ((w : Walk) → told_of r w ≡ over (client_of f w) s x no_table at) → (w : Walk)
       → told_of r w ≡ stops (client_of f w) s at
   stops-is s x at r e h w = rw e at h w
 
-  pub stays-is : (p : Phase) (change : Change) (at : ℕ) (r : Verdict) → change ≡ still Same
-      → ((w : Walk) → given change w ≡ no_table → told_of r w ≡ onward (client_of f w) p (changed change w) at)
+  pub stays-is : (p : Phase) (at : ℕ) (r : Verdict)
+      → ((w : Walk) → no_table ≡ no_table → told_of r w ≡ onward (client_of f w) p w at)
       → (w : Walk) → told_of r w ≡ onward (client_of f w) p w at
-  stays-is p change at r e h w = go (rw e at h w)
-    where
-      go : (no_table ≡ no_table → told_of r w ≡ onward (client_of f w) p w at) → told_of r w ≡ onward (client_of f w) p w at
-      go k = k refl
+  stays-is p at r h w = h w refl

@@ -1,17 +1,15 @@
 -- A call's answer and the client after it, from what was decided without the walk.
 use Rattle.std.specs.Prelude.{Option, Some, None}
 use Rattle.ids.specs.declared.Id.{Id}
-use Rattle.ids.specs.Ids.{no_id}
 use Rattle.walk_table.specs.declared.Table.{Table}
 use Rattle.walk_table.specs.Rows.{no_table, keeping, giving}
 use Rattle.walk.specs.declared.Walk.{Walk}
-use Rattle.walk.specs.Moves.{place_of, walk_of, no_walk, begin}
+use Rattle.walk.specs.Moves.{walk_of, no_walk, begin}
 use Rattle.client.specs.declared.Client.{Client}
 use Rattle.client.specs.declared.Front.{Front}
 use Rattle.client.specs.declared.Opening.{Opening}
-use Rattle.client.specs.declared.Touch.{Touch}
-use Rattle.client.specs.declared.Touch.TheVariants.{Same, Moves, Keeps, Gives, Clears}
 use Rattle.client.specs.declared.Change.{Change}
+use Rattle.client.specs.declared.Change.TheVariants.{Same, Moves, Keeps, Gives, Clears}
 use Rattle.client.specs.declared.Verdict.{Verdict}
 use Rattle.client.specs.declared.Started.{Started}
 use Rattle.client.specs.declared.Told.{Told}
@@ -48,22 +46,21 @@ renewed None w = w
 abbrev pub started_of : Opening → Walk → Started
 started_of o w = record { says = o.says; client = client_of o.front (renewed o.begins w) }
 
--- A value for each case.
-abbrev pub on_touch {ℓ} : {A : Type ℓ} → Touch → A → A → A → A → A → A
-on_touch Same s m k g c = s
-on_touch Moves s m k g c = m
-on_touch Keeps s m k g c = k
-on_touch Gives s m k g c = g
-on_touch Clears s m k g c = c
-
 -- The walk after a record.
 abbrev pub changed : Change → Walk → Walk
-changed x w = on_touch x.touch w (walk_of x.place w.found)
-    (walk_of x.place (keeping w.found x.entry)) no_walk no_walk
+changed Same w = w
+changed (Moves p) w = walk_of p w.found
+changed (Keeps p x) w = walk_of p (keeping w.found x)
+changed Gives w = no_walk
+changed Clears w = no_walk
 
 -- The list that is returned after a record.
 abbrev pub given : Change → Walk → Table
-given x w = on_touch x.touch no_table no_table no_table (giving w.found) no_table
+given Same w = no_table
+given (Moves p) w = no_table
+given (Keeps p x) w = no_table
+given Gives w = giving w.found
+given Clears w = no_table
 
 -- The answer by value to a record.
 abbrev pub told_of : Verdict → Walk → Told
@@ -75,7 +72,3 @@ told_of v w = record {
   id = v.id;
   found = given v.change w;
 }
-
--- A change without a place or an entry: both are zero.
-abbrev pub still : Touch → Change
-still touch = record { touch = touch; place = place_of no_walk; entry = record { id = no_id } }

@@ -10,7 +10,7 @@ ghost use Rattle.client.specs.declared.Refusal.TheVariants as Refusal;
 ghost use Rattle.client.specs.Numbers.{number_of, changes_no_state};
 ghost use Rattle.client.specs.Clients.{fresh, running, differs, other_for, other_image, idle, turned, begun};
 ghost use Rattle.client.specs.Clients.{refuse, refuses, over, stops, onward, making, cleared, holding, attached};
-ghost use Rattle.client.specs.Verdicts.{front_of, client_of, renewed, started_of, still, changed, given, told_of};
+ghost use Rattle.client.specs.Verdicts.{front_of, client_of, renewed, started_of, changed, given, told_of};
 
 use hearing::Heard;
 use ids::Id;
@@ -190,20 +190,12 @@ pub struct Opening {
 // How a record changes the walk. Same: not at all. Moves: to another place. Keeps: to another place, with one more
 // entry. Gives: it ends, and its list is returned. Clears: it ends.
 #[derive(Clone, Copy)]
-pub enum Touch {
+pub enum Change {
     Same,
-    Moves,
-    Keeps,
+    Moves(Place),
+    Keeps(Place, Entry),
     Gives,
     Clears,
-}
-
-// The same, with the place that the walk moves to and the entry to keep.
-#[derive(Clone, Copy)]
-pub struct Change {
-    pub touch: Touch,
-    pub place: Place,
-    pub entry: Entry,
 }
 
 // A record, decided without the list. The id is the id or prefix that belongs to the answer.
@@ -300,31 +292,14 @@ pub fn other_image(phase: Phase, n: usize) -> bool
 pub fn client_of(f: Front, walk: Walk) -> Client
     ensures { result ≡ client_of f walk }
 {
-    let id = f.id;
-    let turn = f.turn;
-    let prefix = f.prefix;
     Client {
         seed: f.seed,
         attached: f.attached,
-        id,
-        turn,
-        prefix,
+        id: f.id,
+        turn: f.turn,
+        prefix: f.prefix,
         bits: f.bits,
         walk,
-    }
-}
-
-// A change without a place or an entry: both are zero.
-fn still(touch: Touch) -> Change
-    ensures { result ≡ still touch }
-{
-    let place = walk::no_place();
-    let id = Id::none();
-    let entry = Entry { id };
-    Change {
-        touch,
-        place,
-        entry,
     }
 }
 
@@ -364,15 +339,12 @@ impl Client {
     pub fn front(self) -> Front
         ensures { result ≡ front_of self }
     {
-        let id = self.id;
-        let turn = self.turn;
-        let prefix = self.prefix;
         Front {
             seed: self.seed,
             attached: self.attached,
-            id,
-            turn,
-            prefix,
+            id: self.id,
+            turn: self.turn,
+            prefix: self.prefix,
             bits: self.bits,
         }
     }
@@ -383,14 +355,11 @@ impl Front {
     pub fn begun(self, turn: Turn, prefix: Id, bits: u8) -> Front
         ensures { (w : Walk) → client_of result w ≡ begun (client_of self w) turn prefix bits w }
     {
-        let id = self.id;
         Front {
-            seed: self.seed,
-            attached: self.attached,
-            id,
             turn,
             prefix,
             bits,
+            ..self
         }
     }
 
@@ -405,18 +374,18 @@ impl Front {
     pub fn turned(self, turn: Turn) -> Front
         ensures { (w : Walk) → client_of result w ≡ turned (client_of self w) turn }
     {
-        let prefix = self.prefix;
-        self.begun(turn, prefix, self.bits)
+        self.begun(turn, self.prefix, self.bits)
     }
 
     // With another attached id, or none.
     pub fn holding(self, any: bool, id: Id) -> Front
         ensures { (w : Walk) → client_of result w ≡ holding (client_of self w) any id }
     {
-        let mut f = self;
-        f.attached = any;
-        f.id = id;
-        f
+        Front {
+            attached: any,
+            id,
+            ..self
+        }
     }
 
     // With no attached id.
@@ -441,25 +410,22 @@ impl Front {
     pub fn refuses(self, r: Refusal) -> Verdict
         ensures { (w : Walk) → told_of result w ≡ refuses (client_of self w) r }
     {
-        let change = still(Touch::Same);
-        let id = Id::none();
         Verdict {
             says: Says::Refused(r),
             front: self,
-            change,
+            change: Change::Same,
             rest: 0,
             progress: Progress::None,
-            id,
+            id: Id::none(),
         }
     }
 
     // The operation has ended, and its walk with it.
-    fn ends(self, says: Says, id: Id, touch: Touch, at: usize) -> Verdict
-        ensures { (w : Walk) → changed (still touch) w ≡ no_walk
-            → told_of result w ≡ over (client_of self w) says id (given (still touch) w) at }
+    fn ends(self, says: Says, id: Id, change: Change, at: usize) -> Verdict
+        ensures { (w : Walk) → changed change w ≡ no_walk
+            → told_of result w ≡ over (client_of self w) says id (given change w) at }
     {
         let front = self.idle();
-        let change = still(touch);
         Verdict {
             says,
             front,
@@ -476,9 +442,9 @@ impl Front {
             ≡ over (client_of self w) says id (cond gives (giving w.found) no_table) at }
     {
         if gives {
-            return self.ends(says, id, Touch::Gives, at);
+            return self.ends(says, id, Change::Gives, at);
         }
-        self.ends(says, id, Touch::Clears, at)
+        self.ends(says, id, Change::Clears, at)
     }
 
     // The operation has ended, with no id and no list in the answer.
@@ -493,15 +459,13 @@ impl Front {
         ensures { (w : Walk) → given change w ≡ no_table
             → told_of result w ≡ onward (client_of self w) phase (changed change w) at }
     {
-        let front = self.turned(Turn::Ready(phase));
-        let id = Id::none();
         Verdict {
             says: Says::Onward,
-            front,
+            front: self.turned(Turn::Ready(phase)),
             change,
             rest: at,
             progress: Progress::None,
-            id,
+            id: Id::none(),
         }
     }
 
@@ -509,7 +473,7 @@ impl Front {
     pub fn stays(self, phase: Phase, at: usize) -> Verdict
         ensures { (w : Walk) → told_of result w ≡ onward (client_of self w) phase w at }
     {
-        self.onward(phase, still(Touch::Same), at)
+        self.onward(phase, Change::Same, at)
     }
 }
 
@@ -518,18 +482,7 @@ impl Verdict {
     pub fn making(self, progress: Progress) -> Verdict
         ensures { (w : Walk) → told_of result w ≡ making (told_of self w) progress }
     {
-        let says = self.says;
-        let front = self.front;
-        let change = self.change;
-        let id = self.id;
-        Verdict {
-            says,
-            front,
-            change,
-            rest: self.rest,
-            progress,
-            id,
-        }
+        Verdict { progress, ..self }
     }
 }
 

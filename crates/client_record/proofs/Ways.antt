@@ -17,11 +17,11 @@ use Rattle.hearing.specs.declared.Hearing.{Hearing}
 use Rattle.hearing.specs.Heard.{shown_heard}
 use Rattle.walk_table.specs.declared.Table.{Table}
 use Rattle.walk_table.specs.declared.Entry.{Entry}
-use Rattle.walk_table.specs.Rows.{no_table, keeping, giving}
+use Rattle.walk_table.specs.Rows.{no_table, keeping}
 use Rattle.walk.specs.declared.Walk.{Walk}
 use Rattle.walk.specs.declared.Place.{Place}
 use Rattle.walk.specs.declared.Phase as Walk
-use Rattle.walk.specs.Moves.{walk_of, place_of, no_walk}
+use Rattle.walk.specs.Moves.{walk_of, place_of}
 use Rattle.hearing.specs.Heard.{is_long}
 use Rattle.walk_step.specs.declared.End.{End}
 use Rattle.walk_step.specs.declared.Move.{Move}
@@ -35,7 +35,6 @@ use Rattle.client.specs.declared.Turn.{Turn}
 use Rattle.client.specs.declared.Turn.TheVariants.{Idle, Ready, Waiting}
 use Rattle.client.specs.declared.Client.{Client}
 use Rattle.client.specs.declared.Front.{Front}
-use Rattle.client.specs.declared.Touch.{Touch}
 use Rattle.client.specs.declared.Change.{Change}
 use Rattle.client.specs.declared.Verdict.{Verdict}
 use Rattle.client.specs.declared.Refusal.TheVariants.{Io, SeveralDevices, AmbiguousUid, LongId, OtherImage, OutOfTurn}
@@ -43,7 +42,7 @@ use Rattle.client.specs.declared.Outcome.TheVariants as Outcome
 use Rattle.client.specs.declared.Says.TheVariants.{Over, Refused}
 use Rattle.client.specs.declared.Told.{Told}
 use Rattle.client.specs.Clients.{on_turn, other_image, holding, cleared, refuses, over, stops}
-use Rattle.client.specs.Verdicts.{front_of, client_of, on_touch, changed, given, told_of}
+use Rattle.client.specs.Verdicts.{front_of, client_of, changed, given, told_of}
 use Rattle.client.proofs.Ways.{at-waiting}
 use Rattle.client_record.specs.declared.After.{After}
 use Rattle.client_record.specs.Record.{attaches, met, backed, walked, probed, hears, answered_to, record'}
@@ -184,11 +183,9 @@ pub keeps-in : (p : Place) (u t : Table) (x : Entry) (r : Walk) → u ≡ keepin
     → r ≡ walk_of p (keeping t x)
 keeps-in p u t x r e h = rw e at h
 
-pub after-at : (x : Change) (w : Walk) (k : Touch) (r : Walk) (t : Table) → x.touch ≡ k
-    → r ≡ on_touch k w (walk_of x.place w.found) (walk_of x.place (keeping w.found x.entry)) no_walk no_walk
-    → t ≡ on_touch k no_table no_table no_table (giving w.found) no_table
+pub after-at : (x k : Change) (w : Walk) (r : Walk) (t : Table) → x ≡ k → r ≡ changed k w → t ≡ given k w
     → ◌≡◌ {A = After} (record { walk = r; found = t }) (record { walk = changed x w; found = given x w })
-after-at x w k r t e h g = rw (e, h, g)
+after-at x k w r t e h g = rw (e, h, g)
 
 pub told_is : (v : Verdict) (w : Walk) (a : After) (c : Client)
     → a ≡ record { walk = changed v.change w; found = given v.change w } → c ≡ client_of v.front a.walk

@@ -16,9 +16,7 @@ ghost use Rattle.client.specs.Verdicts.{client_of, changed, given, told_of};
 ghost use Rattle.client_record.specs.Record.{attaches, stop_of, met, backed, walked, probed, hears, answered_to};
 ghost use Rattle.client_record.specs.Record.{record', link_failed};
 
-use client::{
-    Change, Client, Front, Outcome, Phase, Refusal, Says, Search, Told, Touch, Turn, Verdict,
-};
+use client::{Change, Client, Front, Outcome, Phase, Refusal, Says, Search, Told, Turn, Verdict};
 use hearing::Heard;
 use ids::Id;
 use walk::{Place, Walk};
@@ -88,22 +86,16 @@ fn walked(f: Front, step: Result<Move, End>, at: usize) -> Verdict
         ≡ walked (client_of f w) (joined step w.found).goes (joined step w.found).walk at }
 {
     match step {
-        Ok(Move::On(g)) => {
-            let change = Change {
-                touch: Touch::Moves,
-                place: g.place,
-                entry: Entry { id: Id::none() },
-            };
-            f.onward(Phase::Select(Search::Walking(g.phase)), change, at)
-        }
-        Ok(Move::Keeps(k, id)) => {
-            let change = Change {
-                touch: Touch::Keeps,
-                place: k.place,
-                entry: Entry { id },
-            };
-            f.onward(Phase::Select(Search::Walking(k.phase)), change, at)
-        }
+        Ok(Move::On(g)) => f.onward(
+            Phase::Select(Search::Walking(g.phase)),
+            Change::Moves(g.place),
+            at,
+        ),
+        Ok(Move::Keeps(k, id)) => f.onward(
+            Phase::Select(Search::Walking(k.phase)),
+            Change::Keeps(k.place, Entry { id }),
+            at,
+        ),
         Ok(Move::Done) => f
             .cleared()
             .over(Says::Over(Outcome::Found), Id::none(), true, at),
@@ -157,8 +149,7 @@ pub fn decide(f: Front, p: Place, count: usize, image: &[u8], bytes: &[u8]) -> V
     ensures { (t : Table) → t.count ≡ count
         → told_of result (walk_of p t) ≡ record' (client_of f (walk_of p t)) image.now bytes.now }
 {
-    let t = f.turn;
-    match t {
+    match f.turn {
         Turn::Idle => f.refuses(Refusal::OutOfTurn),
         Turn::Ready(_) => f.refuses(Refusal::OutOfTurn),
         Turn::Waiting(phase) => {
@@ -181,8 +172,7 @@ fn awaits(turn: Turn) -> bool
 pub fn fails(f: Front) -> Verdict
     ensures { (w : Walk) → told_of result w ≡ link_failed (client_of f w) }
 {
-    let t = f.turn;
-    if awaits(t) {
+    if awaits(f.turn) {
         return f.stops(Says::Refused(Refusal::Io), 0);
     }
     f.refuses(Refusal::OutOfTurn)
@@ -198,33 +188,28 @@ struct After {
 fn walk_after(change: Change, w: Walk) -> After
     ensures { result ≡ record { walk = changed change w; found = given change w } }
 {
-    let touch = change.touch;
-    let place = change.place;
-    let entry = change.entry;
-    let found = w.found;
     let none = Table::none();
-    match touch {
-        Touch::Same => After {
+    match change {
+        Change::Same => After {
             walk: w,
             found: none,
         },
-        Touch::Moves => After {
-            walk: walk::walk_of(place, found),
+        Change::Moves(place) => After {
+            walk: walk::walk_of(place, w.found),
             found: none,
         },
-        Touch::Keeps => {
-            let kept = found.keep(entry);
+        Change::Keeps(place, entry) => After {
+            walk: walk::walk_of(place, w.found.keep(entry)),
+            found: none,
+        },
+        Change::Gives => {
+            let walk = walk::walk_of(walk::no_place(), none);
             After {
-                walk: walk::walk_of(place, kept),
-                found: none,
+                walk,
+                found: w.found.give(),
             }
         }
-        Touch::Gives => {
-            let walk = walk::walk_of(walk::no_place(), none);
-            let found = found.give();
-            After { walk, found }
-        }
-        Touch::Clears => After {
+        Change::Clears => After {
             walk: walk::walk_of(walk::no_place(), none),
             found: none,
         },
@@ -235,21 +220,14 @@ fn walk_after(change: Change, w: Walk) -> After
 fn told(v: Verdict, w: Walk) -> Told
     ensures { result ≡ told_of v w }
 {
-    let says = v.says;
-    let front = v.front;
-    let change = v.change;
-    let progress = v.progress;
-    let id = v.id;
-    let a = walk_after(change, w);
-    let found = a.found;
-    let client = client::client_of(front, a.walk);
+    let a = walk_after(v.change, w);
     Told {
-        says,
-        client,
+        says: v.says,
+        client: client::client_of(v.front, a.walk),
         rest: v.rest,
-        progress,
-        id,
-        found,
+        progress: v.progress,
+        id: v.id,
+        found: a.found,
     }
 }
 
@@ -258,16 +236,14 @@ pub fn record(c: Client, image: &[u8], bytes: &[u8]) -> Told
     ensures { result ≡ record' c image.now bytes.now }
 {
     let w = c.walk;
-    let t = w.found;
-    told(decide(c.front(), w.place(), t.count, image, bytes), w)
+    told(decide(c.front(), w.place(), w.found.count, image, bytes), w)
 }
 
 // The link failed after the request, for a client by value.
 pub fn link_failed(c: Client) -> Told
     ensures { result ≡ link_failed c }
 {
-    let w = c.walk;
-    told(fails(c.front()), w)
+    told(fails(c.front()), c.walk)
 }
 
 // The unread rest of the lent record, from a place on. It is empty if the place is past the end.

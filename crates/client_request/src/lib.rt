@@ -90,8 +90,7 @@ fn write_search(f: Front, p: Place, search: Search, buffer: &mut [u8]) -> Placed
         ≡ placed (frame_bytes (search_frame (client_of f (walk_of p t)) search)) buffer.old }
 {
     let a = asks(f, p, search);
-    let bits = a.bits;
-    select::write_select(next_seed(f.seed), bits, (a.count % 256) as u8, buffer)
+    select::write_select(next_seed(f.seed), a.bits, (a.count % 256) as u8, buffer)
 }
 
 // Writes the request of a phase.

@@ -24,11 +24,10 @@ use Rattle.client.specs.declared.Says.TheVariants.{Over, Refused}
 use Rattle.client.specs.declared.Progress.{Progress}
 use Rattle.client.specs.declared.Front.{Front}
 use Rattle.client.specs.declared.Opening.{Opening}
-use Rattle.client.specs.declared.Touch.{Touch}
-use Rattle.client.specs.declared.Touch.TheVariants.{Gives}
 use Rattle.client.specs.declared.Change.{Change}
+use Rattle.client.specs.declared.Change.TheVariants.{Same, Moves, Keeps, Gives, Clears}
 use Rattle.client.specs.declared.Verdict.{Verdict}
-use Rattle.client.specs.Verdicts.{client_of, renewed, started_of, still, changed, given, told_of}
+use Rattle.client.specs.Verdicts.{client_of, renewed, started_of, changed, given, told_of}
 use Rattle.client.specs.Numbers.{changes_no_state}
 use Rattle.host_answer.specs.declared.numbers.Note.{Note}
 use Rattle.host_answer.specs.Numbers.{note_of}
@@ -187,12 +186,17 @@ module _ (n : Note) (r : ℕ) (er : r ≡ coded n.number n.length) (s a a₁ a�
 
 -- The answer's list.
 module _ (c : Change) (s a r : List ℕ) where
-  pub list-none : (x : Touch) → c.touch ≡ x → given (still x) (loaded s).walk ≡ no_table → r ≡ listed no_table a
-      → r ≡ listed (given c (loaded s).walk) a
-  list-none x e k h = h ∙ ap (λ (t : Table). listed t a)
-      (sym k ∙ ap (λ (y : Touch). given (still y) (loaded s).walk) (sym e))
+  pub list-none : (c ≡ Gives → ⊥) → r ≡ listed no_table a → r ≡ listed (given c (loaded s).walk) a
+  list-none n h = h ∙ ap (λ (t : Table). listed t a) (go c n)
+    where
+      go : (x : Change) → (x ≡ Gives → ⊥) → no_table ≡ given x (loaded s).walk
+      go Same n = refl
+      go (Moves p) n = refl
+      go (Keeps p x) n = refl
+      go Gives n = absurd (n refl)
+      go Clears n = refl
 
-  pub list-given : c.touch ≡ Gives → r ≡ listed (giving (loaded_table 239 s)) a
+  pub list-given : c ≡ Gives → r ≡ listed (giving (loaded_table 239 s)) a
       → r ≡ listed (given c (loaded s).walk) a
   unfolding loaded loaded_walk
   list-given e h = h ∙ rw e

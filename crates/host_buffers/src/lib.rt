@@ -12,7 +12,7 @@ ghost use Rattle.host_answer.specs.AnswerBytes as Answer;
 ghost use Rattle.host_answer.specs.AnswerBytes.{listed};
 ghost use Rattle.host_buffers.specs.Hosts.{short_code, leaves, told_by, shows, said_of};
 
-use client::{Change, Opening, Outcome, Progress, Refusal, Says, Touch, Verdict};
+use client::{Change, Opening, Outcome, Progress, Refusal, Says, Verdict};
 use hearing::Heard;
 use ids::Id;
 
@@ -38,13 +38,9 @@ fn lists(change: Change, state: &[u8], answer: &mut [u8])
     ensures { answer.new
         ≡ listed (given change (loaded state.now).walk) answer.old }
 {
-    let touch = change.touch;
-    match touch {
-        Touch::Same => host_answer::no_list(answer),
-        Touch::Moves => host_answer::no_list(answer),
-        Touch::Keeps => host_answer::no_list(answer),
-        Touch::Gives => host_answer::write_list(state, answer),
-        Touch::Clears => host_answer::no_list(answer),
+    match change {
+        Change::Gives => host_answer::write_list(state, answer),
+        _ => host_answer::no_list(answer),
     }
 }
 

@@ -1,5 +1,6 @@
 -- Lemmas for the functions that change a client's bytes in place: one for each path through the code.
 use Prim.Native.Nat.{ℕ, ◌+◌, ◌-◌, ◌<◌, ◌≤◌}
+use mathlib.Core.Logic.{◌⊎◌, inl, inr}
 use Rattle.std.specs.Prelude.{Option, Some, None}
 use mathlib.Core.List.{List, ◌++◌}
 use mathlib.Core.Path.{◌≡◌, refl, sym, ◌∙◌, ap, ap₂}
@@ -24,7 +25,7 @@ use Rattle.walk.specs.declared.Place.{Place}
 use Rattle.walk.specs.Moves.{walk_of, begin}
 use Rattle.walk.proofs.Ways.{begin-none}
 use Rattle.client.specs.declared.Change.{Change}
-use Rattle.client.specs.declared.Touch.TheVariants.{Same, Moves, Keeps, Gives, Clears}
+use Rattle.client.specs.declared.Change.TheVariants.{Same, Moves, Keeps, Gives, Clears}
 use Rattle.client.specs.Verdicts.{renewed, changed}
 use Rattle.host_state.specs.State.{size, saved_table, loaded_table, loaded_walk, loaded, with_place, with_table}
 use Rattle.host_state.specs.State.{with_walk}
@@ -119,26 +120,23 @@ module _ (s : List ℕ) (room : size ≤ length s) (hb : Bytes s) where
         ∙ rw (e, h)
 
   module _ (c : Change) where
-    pub apply-same : c.touch ≡ Same → s ≡ with_walk (changed c (loaded_walk 87 s)) s
+    pub apply-same : c ≡ Same → s ≡ with_walk (changed c (loaded_walk 87 s)) s
     apply-same e = walk-stays s hb room ∙ rw e
 
-    pub apply-moves : (d : List ℕ) → c.touch ≡ Moves → d ≡ with_place c.place s
+    pub apply-moves : (p : Place) (d : List ℕ) → c ≡ Moves p → d ≡ with_place p s
         → d ≡ with_walk (changed c (loaded_walk 87 s)) s
     unfolding loaded_walk
-    apply-moves d e h = h ∙ placed-in s s c.place (loaded_table 239 s) room (length-list s room)
+    apply-moves p d e h = h ∙ placed-in s s p (loaded_table 239 s) room (length-list s room)
         (list-stays s room hb) ∙ rw e
 
-    pub apply-keeps : (d₁ d₂ : List ℕ) → length c.entry.id.bytes ≡ 16 → c.touch ≡ Keeps
-        → d₁ ≡ with_table (keeping (loaded_table 239 s) c.entry) s → d₂ ≡ with_place c.place d₁
+    pub apply-keeps : (p : Place) (x : Entry) (d₁ d₂ : List ℕ) → length x.id.bytes ≡ 16 → c ≡ Keeps p x
+        → d₁ ≡ with_table (keeping (loaded_table 239 s) x) s → d₂ ≡ with_place p d₁
         → d₂ ≡ with_walk (changed c (loaded_walk 87 s)) s
     unfolding loaded_walk
-    apply-keeps d₁ d₂ hx e e₁ e₂ =
-        e₂ ∙ placed-in s d₁ c.place (keeping (loaded_table 239 s) c.entry) room
-        (kept-length s room c.entry hx) e₁ ∙ rw e
+    apply-keeps p x d₁ d₂ hx e e₁ e₂ =
+        e₂ ∙ placed-in s d₁ p (keeping (loaded_table 239 s) x) room (kept-length s room x hx) e₁ ∙ rw e
 
-    module _ (d : List ℕ) (x : Id) (ex : x ≡ no_id) (h : d ≡ with_walk (begin x) s) where
-      pub apply-gives : c.touch ≡ Gives → d ≡ with_walk (changed c (loaded_walk 87 s)) s
-      apply-gives e = h ∙ rw (ex, begin-none, e)
-
-      pub apply-clears : c.touch ≡ Clears → d ≡ with_walk (changed c (loaded_walk 87 s)) s
-      apply-clears e = h ∙ rw (ex, begin-none, e)
+    pub apply-ends : (d : List ℕ) (x : Id) → x ≡ no_id → (c ≡ Gives) ⊎ (c ≡ Clears) → d ≡ with_walk (begin x) s
+        → d ≡ with_walk (changed c (loaded_walk 87 s)) s
+    apply-ends d x ex (inl e) h = h ∙ rw (ex, begin-none, e)
+    apply-ends d x ex (inr e) h = h ∙ rw (ex, begin-none, e)

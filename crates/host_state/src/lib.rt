@@ -10,7 +10,7 @@ ghost use Rattle.client.specs.Verdicts.{front_of, renewed, changed};
 ghost use Rattle.host_state.specs.State.{size, saved_id, saved_head, saved_front, loaded_id, loaded_table, loaded_walk};
 ghost use Rattle.host_state.specs.State.{loaded, with_place, with_table, with_walk};
 
-use client::{Change, Front, Touch};
+use client::{Change, Front};
 use ids::Id;
 use walk::Place;
 use walk_table::Entry;
@@ -40,15 +40,12 @@ pub fn load_front(bytes: &[u8]) -> Front
     ensures value { result ≡ front_of (loaded bytes.now) }
     ensures bytes { Bytes bytes.now }
 {
-    let id = load_id(bytes, 2);
-    let turn = host_turn::turn_of(host_turn_bytes::load_flat(bytes, 19));
-    let prefix = load_id(bytes, 69);
     Front {
         seed: bytes[0],
         attached: bytes[1] == 1,
-        id,
-        turn,
-        prefix,
+        id: load_id(bytes, 2),
+        turn: host_turn::turn_of(host_turn_bytes::load_flat(bytes, 19)),
+        prefix: load_id(bytes, 69),
         bits: bytes[86],
     }
 }
@@ -60,12 +57,11 @@ pub fn load_place(bytes: &[u8]) -> Place
 {
     let path = wire::arrays::take_bytes(bytes, 87);
     let marks = wire::arrays::take_bytes(bytes, 111);
-    let candidate = load_id(bytes, 1335);
     Place {
         path,
         depth: wire::get::<8, u64>(bytes, 103) as usize,
         marks,
-        candidate,
+        candidate: load_id(bytes, 1335),
     }
 }
 
@@ -83,8 +79,7 @@ pub fn save_id(bytes: &mut [u8], at: usize, x: Id)
         ≡ take at bytes.old ++ saved_id x ++ drop (at + 17) bytes.old }
     ensures x_len { length (saved_id x) ≡ 17 }
 {
-    let b = x.bytes;
-    wire::arrays::put_bytes(bytes, at, b);
+    wire::arrays::put_bytes(bytes, at, x.bytes);
     wire::put(bytes, at + 16, x.len);
 }
 
@@ -94,13 +89,10 @@ fn save_head(f: Front, bytes: &mut [u8])
     ensures bytes_after { bytes.new ≡ saved_head f ++ drop 69 bytes.old }
     ensures f_len { length (saved_head f) ≡ 69 }
 {
-    let id = f.id;
-    let turn = f.turn;
-    let x = host_turn::flat_of(turn);
     wire::put(bytes, 0, f.seed);
     wire::put(bytes, 1, wire::flag(f.attached, 1));
-    save_id(bytes, 2, id);
-    host_turn_bytes::save_flat(bytes, 19, x);
+    save_id(bytes, 2, f.id);
+    host_turn_bytes::save_flat(bytes, 19, host_turn::flat_of(f.turn));
 }
 
 // Saves a client's front to the first 87 bytes.
@@ -109,9 +101,8 @@ pub fn save_front(f: Front, bytes: &mut [u8])
     ensures bytes_after { bytes.new ≡ saved_front f ++ drop 87 bytes.old }
     ensures f_len { length (saved_front f) ≡ 87 }
 {
-    let prefix = f.prefix;
     save_head(f, bytes);
-    save_id(bytes, 69, prefix);
+    save_id(bytes, 69, f.prefix);
     wire::put(bytes, 86, f.bits);
 }
 
@@ -120,13 +111,10 @@ fn save_place(p: Place, bytes: &mut [u8])
     requires { size ≤ length bytes.old }
     ensures { bytes.new ≡ with_place p bytes.old }
 {
-    let path = p.path;
-    let marks = p.marks;
-    let candidate = p.candidate;
-    wire::arrays::put_bytes(bytes, 87, path);
+    wire::arrays::put_bytes(bytes, 87, p.path);
     wire::put(bytes, 103, p.depth as u64);
-    wire::arrays::put_bytes(bytes, 111, marks);
-    save_id(bytes, 1335, candidate);
+    wire::arrays::put_bytes(bytes, 111, p.marks);
+    save_id(bytes, 1335, p.candidate);
 }
 
 // Adds an entry to the list, if there is room.
@@ -172,17 +160,13 @@ pub fn apply(change: Change, bytes: &mut [u8])
     ensures { bytes.new
         ≡ with_walk (changed change (loaded_walk 87 bytes.old)) bytes.old }
 {
-    let touch = change.touch;
-    let place = change.place;
-    let entry = change.entry;
-    match touch {
-        Touch::Same => {}
-        Touch::Moves => save_place(place, bytes),
-        Touch::Keeps => {
+    match change {
+        Change::Same => {}
+        Change::Moves(place) => save_place(place, bytes),
+        Change::Keeps(place, entry) => {
             keep(entry, bytes);
             save_place(place, bytes);
         }
-        Touch::Gives => renew(Some(Id::none()), bytes),
-        Touch::Clears => renew(Some(Id::none()), bytes),
+        Change::Gives | Change::Clears => renew(Some(Id::none()), bytes),
     }
 }

@@ -1,5 +1,5 @@
 -- Answers to the goals of `host_state::apply`.
-use Rattle.host_state.proofs.InPlace.{apply-same, apply-moves, apply-keeps, apply-gives, apply-clears}
+use Rattle.host_state.proofs.InPlace.{apply-same, apply-moves, apply-keeps, apply-ends}
 use borrow.Author.Rules.{rules}
 use Rattle.host_state.proofs.apply.Goals as goal
 
@@ -13,7 +13,4 @@ pub returns-in-Keeps : goal.returns-in-Keeps
 returns-in-Keeps c = search (apply-keeps, rules)
 
 pub returns-in-Gives : goal.returns-in-Gives
-returns-in-Gives c = search (apply-gives, rules)
-
-pub returns-in-Clears : goal.returns-in-Clears
-returns-in-Clears c = search (apply-clears, rules)
+returns-in-Gives c = search (apply-ends, rules)
