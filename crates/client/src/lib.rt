@@ -217,6 +217,7 @@ pub struct Attached {
 }
 
 // A refusal's number in document 01.
+#[tactic(auto, unfolding(crate::specs::Numbers::number_of))]
 pub fn number(r: Refusal) -> u8
     ensures { result ≡ number_of r }
 {
@@ -310,6 +311,7 @@ fn no_walk() -> Walk
 }
 
 impl Client {
+    #[tactic(auto, unfolding(crate::specs::Clients::fresh))]
     pub fn new() -> Client
         ensures { result ≡ fresh }
     {
@@ -326,6 +328,7 @@ impl Client {
         }
     }
 
+    #[tactic(auto, unfolding(crate::specs::Clients::attached))]
     pub fn attached(self) -> Attached
         ensures { result ≡ attached self }
     {
@@ -421,6 +424,7 @@ impl Front {
     }
 
     // The operation has ended, and its walk with it.
+    #[tactic(auto, unfolding(crate::specs::Clients::over))]
     fn ends(self, says: Says, id: Id, change: Change, at: usize) -> Verdict
         ensures { (w : Walk) → changed change w ≡ no_walk
             → told_of result w ≡ over (client_of self w) says id (given change w) at }

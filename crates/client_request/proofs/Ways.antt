@@ -1,53 +1,36 @@
 -- A lemma for each way through the functions for a request, with the facts known there as its premises.
-use Rattle.std.proofs.Common.{◌≡◌, ℕ, ◌*◌, ◌%◌, Bool, true, false, cond, ltb, List, ◌++◌, length, drop, sym, refl, ap, ◌∙◌}
+use Rattle.std.proofs.Common.{◌≡◌, ℕ, Bool, true, false, cond, ltb, List, ◌++◌, length, drop, refl, ap, ◌∙◌}
 use Rattle.ids.specs.declared.Id.{Id}
-use Rattle.ids.specs.Ids.{id_of, no_id}
+use Rattle.ids.specs.Ids.{no_id}
 use Rattle.walk_table.specs.declared.Table.{Table}
 use Rattle.wire.specs.declared.Placed.{Placed}
 use Rattle.frame.specs.Writing.{Placing, placed}
 use Rattle.paper.specs.Frame.{frame_bytes}
-use Rattle.paper.specs.Hearing.{select_frame}
-use Rattle.lore.proofs.Choice.{cond_yes, cond_no}
-use Rattle.select.specs.Selects.{asked}
 use Rattle.walk.specs.declared.Walk.{Walk}
 use Rattle.walk.specs.declared.Place.{Place}
-use Rattle.walk.specs.declared.Ask.{Ask}
 use Rattle.walk.proofs.Ways.{begin-none}
 use Rattle.walk.specs.Moves.{place_of, walk_of, no_walk}
 use Rattle.client.specs.declared.Phase.{Phase}
 use Rattle.client.specs.declared.Phase.TheVariants.{Select, Demand, Leave}
 use Rattle.client.specs.declared.Search.{Search}
-use Rattle.client.specs.declared.Search.TheVariants.{Seeking}
 use Rattle.client.specs.declared.Job.{Job}
 use Rattle.client.specs.declared.Reset.{Reset}
-use Rattle.client.specs.declared.Turn.TheVariants.{Idle, Ready, Waiting}
+use Rattle.client.specs.declared.Turn.TheVariants.{Waiting}
 use Rattle.client.specs.declared.Client.{Client}
 use Rattle.client.specs.declared.Front.{Front}
 use Rattle.client.specs.declared.Opening.{Opening}
-use Rattle.client.specs.declared.Refusal.TheVariants.{ShortBuffer, OtherImage, OutOfTurn}
+use Rattle.client.specs.declared.Refusal.TheVariants.{ShortBuffer}
 use Rattle.client.specs.declared.Says.TheVariants.{Granted, Closing}
 use Rattle.client.specs.declared.Started.{Started}
-use Rattle.client.specs.Clients.{other_image, idle, turned, refuse}
+use Rattle.client.specs.Clients.{idle, turned}
 use Rattle.std.specs.Prelude.{Some, None}
 use Rattle.client.specs.Verdicts.{front_of, client_of, started_of}
-use Rattle.client.proofs.Ways.{at-idle, at_ready, at-waiting}
-use Rattle.client_request.specs.Request.{asks, next_seed, seeded, search_frame, frame_of, handing, handed, granted}
+use Rattle.client_request.specs.Request.{next_seed, seeded, frame_of, handing, handed, granted}
 use Rattle.client_request.specs.Request.{Asking, withheld, granting, asked_for, request}
 
 -- The client of a front, with a walk of a place and a list.
 abbrev here : Front → Place → Table → Client
 here f p t = client_of f (walk_of p t)
-
--- The bits that a Select asks for.
-module _ (f : Front) (p : Place) (s : Search) where
-  pub asks-as : (r : Ask) (q : Search) → s ≡ q → ((t : Table) → r ≡ asks (here f p t) q) → (t : Table)
-      → r ≡ asks (here f p t) s
-  asks-as r q e h t = rw e (h t)
-
-  pub asks-seeking : (given : Bool) (n : ℕ) → s ≡ Seeking given → n ≡ length (id_of f.prefix) → (t : Table)
-      → record { bits = f.prefix.bytes; count = 8 * n } ≡ asks (here f p t) s
-  unfolding asks
-  asks-seeking given n e en t = rw (e, en)
 
 -- A request that is handed out.
 module _ (f g : Front) (p : Phase) (n : ℕ) where
@@ -73,26 +56,6 @@ module _ (f g : Front) (p : Phase) (n : ℕ) where
       ≡ record { says = handing p n; client = handed (client_of f w) p }
   unfolding handing handed
   handed-leave x reset ep e ex w = rw (ep, ex, begin-none, e w)
-
-pub granted-as : (f : Front) (p : Phase) (r : Opening) (v q : Placed) → v ≡ q
-    → ((w : Walk) → started_of r w ≡ granted (client_of f w) p q) → (w : Walk)
-    → started_of r w ≡ granted (client_of f w) p v
-granted-as f p r v q e h w = rw e (h w)
-
--- The request that is written.
-module _ (f : Front) (p : Place) (w : Placed) (buffer after : List ℕ) where
-  pub search-written : (s : Search) (a : Ask) (seed : ℕ) → ((t : Table) → a ≡ asks (here f p t) s)
-      → seed ≡ next_seed f.seed
-      → record { answer = w; bytes = after }
-      ≡ placed (frame_bytes (select_frame seed (asked a.bits (a.count % 256)))) buffer
-      → (t : Table) → record { answer = w; bytes = after } ≡ placed (frame_bytes (search_frame (here f p t) s)) buffer
-  unfolding search_frame
-  search-written s a seed ea es ew t = rw (ea t, es) at ew
-
-  pub request-as : (image : List ℕ) (ph q : Phase) → ph ≡ q
-      → ((t : Table) → record { answer = w; bytes = after } ≡ placed (frame_bytes (frame_of (here f p t) q image)) buffer)
-      → (t : Table) → record { answer = w; bytes = after } ≡ placed (frame_bytes (frame_of (here f p t) ph image)) buffer
-  request-as image ph q e h t = rw e (h t)
 
 -- A writer's result, turned into the answer of the call.
 placing : (c : Client) (p : Phase) (bytes buffer : List ℕ)
@@ -131,33 +94,6 @@ asked-made f p r ph v image buffer after k ew e t =
     ap (λ (x : Started). record { answer = x; bytes = after }) (e (walk_of p t))
     ∙ ap (λ (x : Placing). record { answer = granted (here f p t) ph x.answer; bytes = x.bytes }) (ew t)
     ∙ placing (here f p t) ph (frame_bytes (frame_of (here f p t) ph image)) buffer
-
-module _ (f : Front) (p : Place) (r : Opening) (image buffer : List ℕ) where
-  pub ask-idle : f.turn ≡ Idle → ((w : Walk) → started_of r w ≡ refuse (client_of f w) OutOfTurn) → (t : Table)
-      → record { answer = started_of r (walk_of p t); bytes = buffer } ≡ request (here f p t) image buffer
-  unfolding request
-  ask-idle e h t = ap (λ (s : Started). record { answer = s; bytes = buffer }) (h (walk_of p t))
-      ∙ at-idle f.turn _ _ _ e
-
-  pub ask_out : (ph : Phase) → f.turn ≡ Waiting ph → ((w : Walk) → started_of r w ≡ refuse (client_of f w) OutOfTurn)
-      → (t : Table) → record { answer = started_of r (walk_of p t); bytes = buffer } ≡ request (here f p t) image buffer
-  unfolding request
-  ask_out ph e h t = ap (λ (s : Started). record { answer = s; bytes = buffer }) (h (walk_of p t))
-      ∙ at-waiting f.turn _ _ _ ph e
-
-  module _ (ph : Phase) (b : Bool) (e : f.turn ≡ Ready ph) (eb : b ≡ other_image ph (length image)) where
-    pub ask-other : b ≡ true → ((w : Walk) → started_of r w ≡ refuse (client_of f w) OtherImage) → (t : Table)
-        → record { answer = started_of r (walk_of p t); bytes = buffer } ≡ request (here f p t) image buffer
-    unfolding request
-    ask-other k h t = cond_yes _ _ _ _ (sym eb ∙ k)
-        (ap (λ (s : Started). record { answer = s; bytes = buffer }) (h (walk_of p t))) ∙ at_ready f.turn _ _ _ ph e
-
-    pub ask-made : (after : List ℕ) → b ≡ false
-        → ((t : Table) → record { answer = started_of r (walk_of p t); bytes = after }
-        ≡ asked_for (here f p t) ph image buffer)
-        → (t : Table) → record { answer = started_of r (walk_of p t); bytes = after } ≡ request (here f p t) image buffer
-    unfolding request
-    ask-made after k h t = cond_no _ _ _ _ (sym eb ∙ k) (h t) ∙ at_ready f.turn _ _ _ ph e
 
 -- By value: the call is the one decided on the client's front and its walk's place.
 pub request-is : (c : Client) (f : Front) (p : Place) (o : Opening) (r : Started) (image buffer after : List ℕ)

@@ -24,6 +24,7 @@ fn next_seed(seed: u8) -> u8
 }
 
 // The bits that a Select asks for.
+#[tactic(auto, unfolding(crate::specs::Request::asks))]
 fn asks(f: Front, p: Place, search: Search) -> Ask
     ensures { (t : Table) → result ≡ asks (client_of f (walk_of p t)) search }
 {
@@ -75,6 +76,7 @@ fn handed(f: Front, phase: Phase, n: usize) -> Opening
 }
 
 // The request is handed out if it was written. If the buffer was too short, it is refused.
+#[tactic(auto, unfolding(crate::specs::Request::granted))]
 fn granted(f: Front, phase: Phase, placed: Placed) -> Opening
     ensures { (w : Walk) → started_of result w ≡ granted (client_of f w) phase placed }
 {
@@ -85,6 +87,7 @@ fn granted(f: Front, phase: Phase, placed: Placed) -> Opening
 }
 
 // Writes the Select of a search, with the next seed.
+#[tactic(auto, unfolding(crate::specs::Request::search_frame))]
 fn write_search(f: Front, p: Place, search: Search, buffer: &mut [u8]) -> Placed
     ensures { (t : Table) → record { answer = result; bytes = buffer.new }
         ≡ placed (frame_bytes (search_frame (client_of f (walk_of p t)) search)) buffer.old }
@@ -94,6 +97,7 @@ fn write_search(f: Front, p: Place, search: Search, buffer: &mut [u8]) -> Placed
 }
 
 // Writes the request of a phase.
+#[tactic(auto, unfolding(crate::specs::Request::frame_of))]
 fn write_request(f: Front, p: Place, phase: Phase, image: &[u8], buffer: &mut [u8]) -> Placed
     ensures { (t : Table) → record { answer = result; bytes = buffer.new }
         ≡ placed (frame_bytes (frame_of (client_of f (walk_of p t)) phase image.now)) buffer.old }
@@ -115,6 +119,7 @@ fn asked(f: Front, p: Place, phase: Phase, image: &[u8], buffer: &mut [u8]) -> O
 }
 
 // Asks for the next request, on the front and the walk's place. 21 is checked first, then 20, then 16.
+#[tactic(auto, unfolding(crate::specs::Request::request))]
 pub fn ask(f: Front, p: Place, image: &[u8], buffer: &mut [u8]) -> Opening
     ensures { (t : Table) → record { answer = started_of result (walk_of p t); bytes = buffer.new }
         ≡ request (client_of f (walk_of p t)) image.now buffer.old }

@@ -16,6 +16,7 @@ use client::{
 use ids::Id;
 
 // Starts an operation in its first phase, with a walk under a prefix, unless one runs.
+#[tactic(auto, unfolding(crate::specs::Start::starts))]
 fn starts(f: Front, phase: Phase, prefix: Id, bits: u8, from: Id) -> Opening
     ensures { (w : Walk) → started_of result w ≡ starts (client_of f w) phase prefix bits (begin from) }
 {
@@ -38,6 +39,7 @@ fn demands(f: Front, phase: Phase) -> Opening
 }
 
 // Refuses a bad prefix. A call out of turn is refused before that.
+#[tactic(auto, unfolding(crate::specs::Start::bad_prefix))]
 fn bad_prefix(f: Front) -> Opening
     ensures { (w : Walk) → started_of result w ≡ bad_prefix (client_of f w) }
 {
@@ -48,6 +50,7 @@ fn bad_prefix(f: Front) -> Opening
 }
 
 // A plain select of the first bits of a prefix.
+#[tactic(auto, unfolding(crate::specs::Start::start_select))]
 pub fn open_select(f: Front, prefix: &[u8], bits: usize) -> Opening
     ensures { (w : Walk) → started_of result w ≡ start_select (client_of f w) prefix.now bits }
 {
@@ -66,6 +69,7 @@ pub fn open_select(f: Front, prefix: &[u8], bits: usize) -> Opening
     )
 }
 
+#[tactic(auto, unfolding(crate::specs::Start::start_select))]
 pub fn start_select(c: Client, prefix: &[u8], bits: usize) -> Started
     ensures { result ≡ start_select c prefix.now bits }
 {
@@ -78,6 +82,7 @@ pub fn open_deselect(f: Front) -> Opening
     starts(f, Phase::Select(Search::Parting), Id::none(), 0, Id::none())
 }
 
+#[tactic(auto, unfolding(crate::specs::Start::start_deselect))]
 pub fn start_deselect(c: Client) -> Started
     ensures { result ≡ start_deselect c }
 {
@@ -97,6 +102,7 @@ pub fn open_attach(f: Front) -> Opening
     )
 }
 
+#[tactic(auto, unfolding(crate::specs::Start::start_attach))]
 pub fn start_attach(c: Client) -> Started
     ensures { result ≡ start_attach c }
 {
@@ -104,6 +110,7 @@ pub fn start_attach(c: Client) -> Started
 }
 
 // Attach to the one pod whose id begins with a prefix.
+#[tactic(auto, unfolding(crate::specs::Start::start_attach_to))]
 pub fn open_attach_to(f: Front, prefix: &[u8]) -> Opening
     ensures { (w : Walk) → started_of result w ≡ start_attach_to (client_of f w) prefix.now }
 {
@@ -119,6 +126,7 @@ pub fn open_attach_to(f: Front, prefix: &[u8]) -> Opening
     )
 }
 
+#[tactic(auto, unfolding(crate::specs::Start::start_attach_to))]
 pub fn start_attach_to(c: Client, prefix: &[u8]) -> Started
     ensures { result ≡ start_attach_to c prefix.now }
 {
@@ -126,6 +134,7 @@ pub fn start_attach_to(c: Client, prefix: &[u8]) -> Started
 }
 
 // Find every pod whose id begins with a prefix.
+#[tactic(auto, unfolding(crate::specs::Start::start_discover))]
 pub fn open_discover(f: Front, prefix: &[u8]) -> Opening
     ensures { (w : Walk) → started_of result w ≡ start_discover (client_of f w) prefix.now }
 {
@@ -141,6 +150,7 @@ pub fn open_discover(f: Front, prefix: &[u8]) -> Opening
     )
 }
 
+#[tactic(auto, unfolding(crate::specs::Start::start_discover))]
 pub fn start_discover(c: Client, prefix: &[u8]) -> Started
     ensures { result ≡ start_discover c prefix.now }
 {
@@ -148,12 +158,14 @@ pub fn start_discover(c: Client, prefix: &[u8]) -> Started
 }
 
 // Ask for the device information.
+#[tactic(auto, unfolding(crate::specs::Start::start_info))]
 pub fn open_info(f: Front) -> Opening
     ensures { (w : Walk) → started_of result w ≡ start_info (client_of f w) }
 {
     demands(f, Phase::Demand(Job::Informing(Purpose::Tell)))
 }
 
+#[tactic(auto, unfolding(crate::specs::Start::start_info))]
 pub fn start_info(c: Client) -> Started
     ensures { result ≡ start_info c }
 {
@@ -161,12 +173,14 @@ pub fn start_info(c: Client) -> Started
 }
 
 // Erase the whole app region.
+#[tactic(auto, unfolding(crate::specs::Start::start_erase))]
 pub fn open_erase(f: Front) -> Opening
     ensures { (w : Walk) → started_of result w ≡ start_erase (client_of f w) }
 {
     demands(f, Phase::Demand(Job::Informing(Purpose::Clear)))
 }
 
+#[tactic(auto, unfolding(crate::specs::Start::start_erase))]
 pub fn start_erase(c: Client) -> Started
     ensures { result ≡ start_erase c }
 {
@@ -174,12 +188,14 @@ pub fn start_erase(c: Client) -> Started
 }
 
 // Flash an image. The host lends an image of this length to each call until the flash has ended.
+#[tactic(auto, unfolding(crate::specs::Start::start_flash))]
 pub fn open_flash(f: Front, image: &[u8]) -> Opening
     ensures { (w : Walk) → started_of result w ≡ start_flash (client_of f w) image.now }
 {
     demands(f, Phase::Demand(Job::Informing(Purpose::Load(image.len()))))
 }
 
+#[tactic(auto, unfolding(crate::specs::Start::start_flash))]
 pub fn start_flash(c: Client, image: &[u8]) -> Started
     ensures { result ≡ start_flash c image.now }
 {
@@ -187,6 +203,7 @@ pub fn start_flash(c: Client, image: &[u8]) -> Started
 }
 
 // In the bootloader the reply is awaited. Otherwise the operation ends when the request is handed out.
+#[tactic(auto, unfolding(crate::specs::Start::resets))]
 fn resets(f: Front, reset: Reset, in_boot: bool) -> Opening
     ensures { (w : Walk) → started_of result w ≡ resets (client_of f w) reset in_boot }
 {
@@ -197,6 +214,7 @@ fn resets(f: Front, reset: Reset, in_boot: bool) -> Opening
 }
 
 // Reset into the bootloader or the app.
+#[tactic(auto, unfolding(crate::specs::Start::start_reset))]
 pub fn open_reset(f: Front, bootloader: bool, in_boot: bool) -> Opening
     ensures { (w : Walk) → started_of result w ≡ start_reset (client_of f w) bootloader in_boot }
 {
@@ -208,6 +226,7 @@ pub fn open_reset(f: Front, bootloader: bool, in_boot: bool) -> Opening
     resets(f, reset, in_boot)
 }
 
+#[tactic(auto, unfolding(crate::specs::Start::start_reset))]
 pub fn start_reset(c: Client, bootloader: bool, in_boot: bool) -> Started
     ensures { result ≡ start_reset c bootloader in_boot }
 {
@@ -215,6 +234,7 @@ pub fn start_reset(c: Client, bootloader: bool, in_boot: bool) -> Started
 }
 
 // Store a baud for the bootloader, then reset.
+#[tactic(auto, unfolding(crate::specs::Start::start_set_baud))]
 pub fn open_set_baud(f: Front, baud: u8, bootloader: bool, in_boot: bool) -> Opening
     ensures { (w : Walk) → started_of result w ≡ start_set_baud (client_of f w) baud bootloader in_boot }
 {
@@ -226,6 +246,7 @@ pub fn open_set_baud(f: Front, baud: u8, bootloader: bool, in_boot: bool) -> Ope
     resets(f, reset, in_boot)
 }
 
+#[tactic(auto, unfolding(crate::specs::Start::start_set_baud))]
 pub fn start_set_baud(c: Client, baud: u8, bootloader: bool, in_boot: bool) -> Started
     ensures { result ≡ start_set_baud c baud bootloader in_boot }
 {

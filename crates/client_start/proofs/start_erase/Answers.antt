@@ -1,8 +1,0 @@
--- Answers to the goals of `client_start::start_erase`.
-use Rattle.client_start.specs.Start.{start_erase}
-use Rattle.client_start.proofs.Ways.{by_value}
-use borrow.Author.Rules.{rules}
-use Rattle.client_start.proofs.start_erase.Goals as goal
-
-pub returns : goal.returns
-returns c = search (by_value start_erase, rules)
