@@ -32,6 +32,7 @@ fn attaches(f: Front, any: bool, id: Id, at: usize) -> Verdict
 }
 
 // What the answer says when a walk ends early.
+#[tactic(auto, unfolding(crate::specs::Record::stop_of))]
 fn stop_of(end: End) -> Says
     ensures { result ≡ stop_of end }
 {
@@ -44,6 +45,7 @@ fn stop_of(end: End) -> Says
 }
 
 // Handles what an attach heard.
+#[tactic(auto, unfolding(crate::specs::Record::met))]
 fn met(f: Front, given: bool, h: Heard, id: Id, at: usize) -> Verdict
     ensures { (w : Walk) → told_of result w ≡ met (client_of f w) given h id at }
 {
@@ -68,6 +70,7 @@ fn met(f: Front, given: bool, h: Heard, id: Id, at: usize) -> Verdict
 }
 
 // The end of an attach that heard garble, after its deselect.
+#[tactic(auto, unfolding(crate::specs::Record::backed))]
 fn backed(f: Front, given: bool, at: usize) -> Verdict
     ensures { (w : Walk) → told_of result w ≡ backed (client_of f w) given at }
 {
@@ -104,6 +107,7 @@ fn walked(f: Front, step: Result<Move, End>, at: usize) -> Verdict
 }
 
 // Handles what a plain select heard.
+#[tactic(auto, unfolding(crate::specs::Record::probed))]
 fn probed(f: Front, h: Heard, id: Id, at: usize) -> Verdict
     ensures { (w : Walk) → told_of result w ≡ probed (client_of f w) h id at }
 {
@@ -114,6 +118,7 @@ fn probed(f: Front, h: Heard, id: Id, at: usize) -> Verdict
 }
 
 // Handles what a Select heard, by what it was for.
+#[tactic(auto, unfolding(crate::specs::Record::hears))]
 fn hears(f: Front, p: Place, count: usize, search: Search, h: Heard, id: Id, at: usize) -> Verdict
     ensures { (t : Table) → t.count ≡ count
         → told_of result (walk_of p t) ≡ hears (client_of f (walk_of p t)) search h id at }
@@ -128,6 +133,7 @@ fn hears(f: Front, p: Place, count: usize, search: Search, h: Heard, id: Id, at:
 }
 
 // Handles the record of a phase's request. The case `Leave` is not reached: such a request awaits no record.
+#[tactic(auto, unfolding(crate::specs::Record::answered_to))]
 fn answered(f: Front, p: Place, count: usize, phase: Phase, image: &[u8], bytes: &[u8]) -> Verdict
     ensures { (t : Table) → t.count ≡ count
         → told_of result (walk_of p t) ≡ answered_to (client_of f (walk_of p t)) phase image.now bytes.now }
@@ -169,6 +175,7 @@ fn awaits(turn: Turn) -> bool
 }
 
 // The link failed after the request.
+#[tactic(auto, unfolding(crate::specs::Record::link_failed))]
 pub fn fails(f: Front) -> Verdict
     ensures { (w : Walk) → told_of result w ≡ link_failed (client_of f w) }
 {

@@ -6,7 +6,6 @@ use native.Mathlib.Omega.{arith}
 use lib.ListN.{length, take, drop}
 use mir.Syntax.{w64}
 use mir.Val.{Fits}
-use Rattle.std.specs.Prelude as Std
 use Rattle.paper.specs.Answers.{Answer, lost, answered, ok, device, answer}
 use Rattle.paper.proofs.Answered.{answer-payload}
 use Rattle.hearing.specs.declared.Answered.{Answered}
@@ -15,17 +14,12 @@ use Rattle.hearing.specs.Heard.{shown_answer}
 use Rattle.walk.specs.declared.Walk.{Walk}
 use Rattle.client.specs.declared.Front.{Front}
 use Rattle.client.specs.declared.Job.{Job}
-use Rattle.client.specs.declared.Outcome.{Outcome}
-use Rattle.client.specs.declared.Phase.TheVariants.{Demand}
-use Rattle.client.specs.declared.Refusal.{Refusal}
 use Rattle.client.specs.declared.Refusal.TheVariants.{Io}
 use Rattle.client.specs.declared.Says.TheVariants as Says
-use Rattle.client.specs.declared.Told.{Told}
 use Rattle.client.specs.declared.Verdict.{Verdict}
-use Rattle.client.specs.Clients.{stops, onward, making}
+use Rattle.client.specs.Clients.{stops}
 use Rattle.client.specs.Verdicts.{client_of, told_of}
 use Rattle.client_job.specs.declared.Next.{Next}
-use Rattle.client_job.specs.declared.Then.TheVariants.{On, Over}
 use Rattle.client_job.specs.Job.{accepted, declined}
 use Rattle.client_record.specs.Answer.{goes, tells}
 
