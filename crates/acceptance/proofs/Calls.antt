@@ -14,8 +14,8 @@ pub agree : (calls : List Call) → All Good calls → code_answers fresh calls 
 agree = CallsAgree.calls-agree
 
 -- Two clients with no operation running are equal if their seeds and attached ids are, whatever calls came before.
-pub idle-canonical : (xs ys : List Call) → All Good xs → All Good ys → (reached fresh xs).turn ≡ Idle
-    → (reached fresh ys).turn ≡ Idle
-    → (reached fresh xs).seed ≡ (reached fresh ys).seed → attached (reached fresh xs) ≡ attached (reached fresh ys)
+pub idle-canonical : (xs ys : List Call) → All Good xs → All Good ys → (reached fresh xs).front.turn ≡ Idle
+    → (reached fresh ys).front.turn ≡ Idle
+    → (reached fresh xs).front.seed ≡ (reached fresh ys).front.seed → attached (reached fresh xs) ≡ attached (reached fresh ys)
     → reached fresh xs ≡ reached fresh ys
 idle-canonical = CallsAgree.idle-canonical

@@ -73,16 +73,16 @@ module _ (c : Client) where
   module _ (image : List ℕ) where
     module _ (buffer : List ℕ) where
       -- Asking for a request: 21 if no operation is running, or if the last request is still unanswered.
-      pub asked-idle : c.turn ≡ Idle → request c image buffer ≡ withheld c OutOfTurn buffer
+      pub asked-idle : c.front.turn ≡ Idle → request c image buffer ≡ withheld c OutOfTurn buffer
       asked-idle = Requests.asked-idle c image buffer
 
-      pub asked-waiting : (p : Phase) → c.turn ≡ Waiting p → request c image buffer ≡ withheld c OutOfTurn buffer
+      pub asked-waiting : (p : Phase) → c.front.turn ≡ Waiting p → request c image buffer ≡ withheld c OutOfTurn buffer
       asked-waiting = Requests.asked-waiting c image buffer
 
       -- Else 20 exactly where the image has another length. Else 16 exactly where the buffer is shorter than the
       -- request, with the length needed. Else the request fills its own length of the buffer, and no byte after it is
       -- changed.
-      pub asked-ready : (p : Phase) → c.turn ≡ Ready p
+      pub asked-ready : (p : Phase) → c.front.turn ≡ Ready p
           → request c image buffer ≡ cond (other_image p (length image)) (withheld c OtherImage buffer)
           (granting c p (frame_bytes (frame_of c p image)) buffer)
       asked-ready = Requests.asked-ready c image buffer
@@ -94,20 +94,20 @@ module _ (c : Client) where
 
     module _ (bytes : List ℕ) where
       -- Handing in a record: 21 if no request is out; else 20 if the image has another length; else the record is read.
-      pub told-idle : c.turn ≡ Idle → record' c image bytes ≡ refuses c OutOfTurn
+      pub told-idle : c.front.turn ≡ Idle → record' c image bytes ≡ refuses c OutOfTurn
       told-idle = Records.told-idle c image bytes
 
-      pub told-ready : (p : Phase) → c.turn ≡ Ready p → record' c image bytes ≡ refuses c OutOfTurn
+      pub told-ready : (p : Phase) → c.front.turn ≡ Ready p → record' c image bytes ≡ refuses c OutOfTurn
       told-ready = Records.told-ready c image bytes
 
-      pub told-waiting : (p : Phase) → c.turn ≡ Waiting p
+      pub told-waiting : (p : Phase) → c.front.turn ≡ Waiting p
           → record' c image bytes ≡ cond (other_image p (length image)) (refuses c OtherImage)
           (answered_to c p image bytes)
       told-waiting = Records.told-waiting c image bytes
 
       -- A record that is read is never refused with a number that changes no state. So 20 and 21 are given only as
       -- above.
-      pub told-due : (p : Phase) → c.turn ≡ Waiting p → other_image p (length image) ≡ false → (r : Refusal)
+      pub told-due : (p : Phase) → c.front.turn ≡ Waiting p → other_image p (length image) ≡ false → (r : Refusal)
           → (record' c image bytes).says ≡ Refused r → keeps r ≡ false
       told-due = Records.told-due c image bytes
 
@@ -125,13 +125,13 @@ module _ (c : Client) where
       told-lost = Records.told-lost c image bytes
 
   -- Reporting a failed link: 1 if a request is out, else 21.
-  pub failed-idle : c.turn ≡ Idle → link_failed c ≡ refuses c OutOfTurn
+  pub failed-idle : c.front.turn ≡ Idle → link_failed c ≡ refuses c OutOfTurn
   failed-idle = Records.failed-idle c
 
-  pub failed-ready : (p : Phase) → c.turn ≡ Ready p → link_failed c ≡ refuses c OutOfTurn
+  pub failed-ready : (p : Phase) → c.front.turn ≡ Ready p → link_failed c ≡ refuses c OutOfTurn
   failed-ready = Records.failed-ready c
 
-  pub failed-waiting : (p : Phase) → c.turn ≡ Waiting p → link_failed c ≡ stops c (Refused Io) 0
+  pub failed-waiting : (p : Phase) → c.front.turn ≡ Waiting p → link_failed c ≡ stops c (Refused Io) 0
   failed-waiting = Records.failed-waiting c
 
   -- What a refusal leaves. One that changes no state leaves the client as it was. Any other leaves no operation
@@ -140,11 +140,11 @@ module _ (c : Client) where
     pub leaves_kept : keeps r ≡ true → leaves r c ≡ c
     leaves_kept = Refusals.leaves_kept r c
 
-    pub leaves-idle : keeps r ≡ false → (leaves r c).turn ≡ Idle
+    pub leaves-idle : keeps r ≡ false → (leaves r c).front.turn ≡ Idle
     leaves-idle = Refusals.leaves-ended r c
 
-    pub leaves-seed : (leaves r c).seed ≡ c.seed
+    pub leaves-seed : (leaves r c).front.seed ≡ c.front.seed
     leaves-seed = Refusals.leaves-seed r c
 
-    pub leaves-attached : parts r ≡ false → ((leaves r c).attached ≡ c.attached) × ((leaves r c).id ≡ c.id)
+    pub leaves-attached : parts r ≡ false → ((leaves r c).front.attached ≡ c.front.attached) × ((leaves r c).front.id ≡ c.front.id)
     leaves-attached = Refusals.leaves-attached r c

@@ -197,11 +197,11 @@ pub leaves-kept-met : leaves (ShortBuffer 16) ready ≡ ready
 unfolding keeps number_of
 leaves-kept-met = Condition1.leaves_kept ready (ShortBuffer 16) refl
 
-pub leaves-idle-met : (leaves (Device 7) writing).turn ≡ Idle
+pub leaves-idle-met : (leaves (Device 7) writing).front.turn ≡ Idle
 unfolding keeps number_of
 leaves-idle-met = Condition1.leaves-idle writing (Device 7) refl
 
-pub leaves-attached-met : ((leaves NoSuchUid writing).attached ≡ true)
-    × ((leaves NoSuchUid writing).id ≡ id_from (0xC1 ∷ 0x07 ∷ []))
+pub leaves-attached-met : ((leaves NoSuchUid writing).front.attached ≡ true)
+    × ((leaves NoSuchUid writing).front.id ≡ id_from (0xC1 ∷ 0x07 ∷ []))
 unfolding parts number_of
 leaves-attached-met = Condition1.leaves-attached writing NoSuchUid refl

@@ -143,7 +143,7 @@ reset-ends = Bound.reset-bounded
 
 -- The unread rest: bytes after an answering frame may come with its record, or later. The host puts the rest before the
 -- next record, and the result is the same.
-module _ (c : Client) (j : Job) (out : c.turn ≡ Waiting (Demand j)) (image a x : List ℕ) (r : Reply) (end : ℕ)
+module _ (c : Client) (j : Job) (out : c.front.turn ≡ Waiting (Demand j)) (image a x : List ℕ) (r : Reply) (end : ℕ)
     (e : answer a ≡ answered r end) where
   pub record-either-way : record' c image (a ++ x) ≡ record' c image a
   record-either-way = EitherWay.record-either-way c j out image a x r end e

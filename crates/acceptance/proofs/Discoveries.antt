@@ -181,13 +181,13 @@ unattached-rests = refl
 
 pub idle-canonical-met : reached fresh selected ≡ reached fresh unattached
 idle-canonical-met =
-    Calls.idle-canonical selected unattached selected-good unattached-good (ap (λ c. c.turn) selected-rests)
-    (ap (λ c. c.turn) unattached-rests)
-    (ap (λ c. c.seed) selected-rests ∙ sym (ap (λ c. c.seed) unattached-rests))
+    Calls.idle-canonical selected unattached selected-good unattached-good (ap (λ c. c.front.turn) selected-rests)
+    (ap (λ c. c.front.turn) unattached-rests)
+    (ap (λ c. c.front.seed) selected-rests ∙ sym (ap (λ c. c.front.seed) unattached-rests))
     (ap Code.attached selected-rests ∙ sym (ap Code.attached unattached-rests))
 
 pub idle-rests-met : Rests (reached fresh unattached)
-idle-rests-met = Condition3.idle-rests unattached unattached-good (ap (λ c. c.turn) unattached-rests)
+idle-rests-met = Condition3.idle-rests unattached unattached-good (ap (λ c. c.front.turn) unattached-rests)
 
 -- Document 01's answer to each call of the second list: the attach goes on; 21; the Select of C1's bits with seed 1; 1;
 -- 21.

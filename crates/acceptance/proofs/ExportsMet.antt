@@ -102,7 +102,7 @@ unfolding held handed leaves made told_by Code.start_discover Code.bad_prefix co
 refuses-17 =
     ap (λ (e : Requested). changes_no_state (e.code % 256))
     (exported-held odd (replicate 1200 0) whole room (start_discover (replicate 17 0)))
-    ∙ either (λ (t : Started). changes_no_state (code_of t.says % 256) ≡ true) (running (loaded odd).turn) refl refl
+    ∙ either (λ (t : Started). changes_no_state (code_of t.says % 256) ≡ true) (running (loaded odd).front.turn) refl refl
 
 pub refused-untouched-met :
     ((exported odd (replicate 1200 0) (start_discover (replicate 17 0))).state ≡ odd)

@@ -76,17 +76,22 @@ other_image p n = on_phase p (λ s. false) (λ j. other_for j n) (λ reset. fals
 -- The client with another turn, prefix, bit count and walk.
 abbrev pub begun : Client → Turn → Id → ℕ → Walk → Client
 begun c t x bits w = record {
-  seed = c.seed;
-  attached = c.attached;
-  id = c.id;
-  turn = t;
-  prefix = x;
-  bits = bits;
+  front = record {
+    seed = c.front.seed;
+    attached = c.front.attached;
+    id = c.front.id;
+    turn = t;
+    prefix = x;
+    bits = bits;
+  };
   walk = w;
 }
 
 unfoldable pub fresh : Client
-fresh = record { seed = 0; attached = false; id = no_id; turn = Idle; prefix = no_id; bits = 0; walk = no_walk }
+fresh = record {
+  front = record { seed = 0; attached = false; id = no_id; turn = Idle; prefix = no_id; bits = 0 };
+  walk = no_walk;
+}
 
 -- No operation runs: the prefix, the bit count and the walk are zero.
 unfoldable pub idle : Client → Client
@@ -94,17 +99,19 @@ idle c = begun c Idle no_id 0 no_walk
 
 -- The same operation in another turn.
 abbrev pub turned : Client → Turn → Client
-turned c t = begun c t c.prefix c.bits c.walk
+turned c t = begun c t c.front.prefix c.front.bits c.walk
 
 -- The client with another attached id, or none.
 abbrev pub holding : Client → Bool → Id → Client
 holding c any x = record {
-  seed = c.seed;
-  attached = any;
-  id = x;
-  turn = c.turn;
-  prefix = c.prefix;
-  bits = c.bits;
+  front = record {
+    seed = c.front.seed;
+    attached = any;
+    id = x;
+    turn = c.front.turn;
+    prefix = c.front.prefix;
+    bits = c.front.bits;
+  };
   walk = c.walk;
 }
 
@@ -112,7 +119,7 @@ unfoldable pub cleared : Client → Client
 cleared c = holding c false no_id
 
 unfoldable pub attached : Client → Attached
-attached c = record { any = c.attached; id = c.id }
+attached c = record { any = c.front.attached; id = c.front.id }
 
 unfoldable pub running : Turn → Bool
 running t = on_turn t false (λ p. true) (λ p. true)
@@ -137,7 +144,7 @@ stops c says at = over c says no_id no_table at
 unfoldable pub onward : Client → Phase → Walk → ℕ → Told
 onward c p w at = record {
   says = Onward;
-  client = begun c (Ready p) c.prefix c.bits w;
+  client = begun c (Ready p) c.front.prefix c.front.bits w;
   rest = at;
   progress = None;
   id = no_id;

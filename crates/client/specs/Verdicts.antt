@@ -16,26 +16,11 @@ use Rattle.client.specs.declared.Told.{Told}
 
 -- The client without its walk.
 abbrev pub front_of : Client → Front
-front_of c = record {
-  seed = c.seed;
-  attached = c.attached;
-  id = c.id;
-  turn = c.turn;
-  prefix = c.prefix;
-  bits = c.bits;
-}
+front_of c = c.front
 
 -- The client of a front and a walk.
 abbrev pub client_of : Front → Walk → Client
-client_of f w = record {
-  seed = f.seed;
-  attached = f.attached;
-  id = f.id;
-  turn = f.turn;
-  prefix = f.prefix;
-  bits = f.bits;
-  walk = w;
-}
+client_of f w = record { front = f; walk = w }
 
 -- The walk after a start or a request: begun under a prefix, or unchanged.
 abbrev pub renewed : Option Id → Walk → Walk

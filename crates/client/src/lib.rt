@@ -72,15 +72,22 @@ pub enum Turn {
     Waiting(Phase),
 }
 
-// The client. The prefix and the bit count are those of a plain select or an attach, the walk that of a discovery.
+// The client without its walk. The prefix and the bit count are those of a plain select or an attach. A contract on a
+// front holds for the client with any walk.
 #[derive(Clone, Copy)]
-pub struct Client {
+pub struct Front {
     pub seed: u8,
     pub attached: bool,
     pub id: Id,
     pub turn: Turn,
     pub prefix: Id,
     pub bits: u8,
+}
+
+// The client: its front, and the walk of a discovery.
+#[derive(Clone, Copy)]
+pub struct Client {
+    pub front: Front,
     pub walk: Walk,
 }
 
@@ -165,17 +172,6 @@ pub struct Told {
     pub progress: Progress,
     pub id: Id,
     pub found: Table,
-}
-
-// The client without its walk. A contract on a front holds for the client with any walk.
-#[derive(Clone, Copy)]
-pub struct Front {
-    pub seed: u8,
-    pub attached: bool,
-    pub id: Id,
-    pub turn: Turn,
-    pub prefix: Id,
-    pub bits: u8,
 }
 
 // A start or a request, decided without the walk. If the walk begins anew, begins has its prefix: an empty one for an
@@ -293,15 +289,7 @@ pub fn other_image(phase: Phase, n: usize) -> bool
 pub fn client_of(f: Front, walk: Walk) -> Client
     ensures { result ≡ client_of f walk }
 {
-    Client {
-        seed: f.seed,
-        attached: f.attached,
-        id: f.id,
-        turn: f.turn,
-        prefix: f.prefix,
-        bits: f.bits,
-        walk,
-    }
+    Client { front: f, walk }
 }
 
 fn no_walk() -> Walk
@@ -315,16 +303,17 @@ impl Client {
     pub fn new() -> Client
         ensures { result ≡ fresh }
     {
-        let id = Id::none();
-        let walk = no_walk();
-        Client {
+        let front = Front {
             seed: 0,
             attached: false,
-            id,
+            id: Id::none(),
             turn: Turn::Idle,
-            prefix: id,
+            prefix: Id::none(),
             bits: 0,
-            walk,
+        };
+        Client {
+            front,
+            walk: no_walk(),
         }
     }
 
@@ -332,24 +321,17 @@ impl Client {
     pub fn attached(self) -> Attached
         ensures { result ≡ attached self }
     {
-        let id = self.id;
         Attached {
-            any: self.attached,
-            id,
+            any: self.front.attached,
+            id: self.front.id,
         }
     }
 
+    // The client without its walk.
     pub fn front(self) -> Front
         ensures { result ≡ front_of self }
     {
-        Front {
-            seed: self.seed,
-            attached: self.attached,
-            id: self.id,
-            turn: self.turn,
-            prefix: self.prefix,
-            bits: self.bits,
-        }
+        self.front
     }
 }
 

@@ -42,7 +42,7 @@ attaches c any x at = over (holding c any x) (Over (Outcome.Attached any)) x no_
 unfoldable pub met : Client → Bool → Heard → Id → ℕ → Told
 met c given h x at =
     on_heard h
-    (cond given (over c (Refused NoSuchUid) c.prefix no_table at) (stops c (Refused NoDevice) at))
+    (cond given (over c (Refused NoSuchUid) c.front.prefix no_table at) (stops c (Refused NoDevice) at))
     (attaches c true x at)
     (stops c (Refused LongId) at)
     (cond given (stops c (Refused NotAddressable) at) (attaches c false no_id at))
@@ -51,7 +51,7 @@ met c given h x at =
 -- "then 10 with a prefix, 8 without."
 unfoldable pub backed : Client → Bool → ℕ → Told
 backed c given at =
-    cond given (over (cleared c) (Refused AmbiguousUid) c.prefix no_table at)
+    cond given (over (cleared c) (Refused AmbiguousUid) c.front.prefix no_table at)
     (stops (cleared c) (Refused SeveralDevices) at)
 
 -- What the answer says when a walk ends early.
@@ -94,8 +94,8 @@ answered_to c p image bytes =
 -- The whole call. 21 is checked first, then 20, then the record.
 unfoldable pub record' : Client → List ℕ → List ℕ → Told
 record' c image bytes =
-    on_turn c.turn (refuses c OutOfTurn) (λ p. refuses c OutOfTurn)
+    on_turn c.front.turn (refuses c OutOfTurn) (λ p. refuses c OutOfTurn)
     (λ p. cond (other_image p (length image)) (refuses c OtherImage) (answered_to c p image bytes))
 
 unfoldable pub link_failed : Client → Told
-link_failed c = on_turn c.turn (refuses c OutOfTurn) (λ p. refuses c OutOfTurn) (λ p. stops c (Refused Io) 0)
+link_failed c = on_turn c.front.turn (refuses c OutOfTurn) (λ p. refuses c OutOfTurn) (λ p. stops c (Refused Io) 0)

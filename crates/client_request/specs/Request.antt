@@ -27,9 +27,9 @@ use Rattle.client.specs.Clients.{on_turn, on_phase, on_search, other_image, idle
 unfoldable pub asks : Client → Search → Ask
 asks c s =
     on_search s
-    (record { bits = c.prefix.bytes; count = c.bits })
+    (record { bits = c.front.prefix.bytes; count = c.front.bits })
     nobody
-    (λ given. record { bits = c.prefix.bytes; count = 8 * length (id_of c.prefix) })
+    (λ given. record { bits = c.front.prefix.bytes; count = 8 * length (id_of c.front.prefix) })
     (λ given. nobody)
     (λ q. Moves.asks c.walk q)
 
@@ -39,18 +39,20 @@ next_seed seed = (seed + 1) % 256
 -- The client with another seed.
 abbrev pub seeded : Client → ℕ → Client
 seeded c seed = record {
-  seed = seed;
-  attached = c.attached;
-  id = c.id;
-  turn = c.turn;
-  prefix = c.prefix;
-  bits = c.bits;
+  front = record {
+    seed = seed;
+    attached = c.front.attached;
+    id = c.front.id;
+    turn = c.front.turn;
+    prefix = c.front.prefix;
+    bits = c.front.bits;
+  };
   walk = c.walk;
 }
 
 -- The Select of a search, as document 01's frame.
 unfoldable pub search_frame : Client → Search → Frame
-search_frame c s = select_frame (next_seed c.seed) (asked (asks c s).bits ((asks c s).count % 256))
+search_frame c s = select_frame (next_seed c.front.seed) (asked (asks c s).bits ((asks c s).count % 256))
 
 -- The request of a phase, as document 01's frame.
 unfoldable pub frame_of : Client → Phase → List ℕ → Frame
@@ -67,7 +69,7 @@ handing p n = on_phase p (λ s. Granted n) (λ j. Granted n) (λ reset. Closing 
 unfoldable pub handed : Client → Phase → Client
 handed c p =
     on_phase p
-    (λ s. seeded (turned c (Waiting (Select s))) (next_seed c.seed))
+    (λ s. seeded (turned c (Waiting (Select s))) (next_seed c.front.seed))
     (λ j. turned c (Waiting (Demand j)))
     (λ reset. idle c)
 
@@ -101,7 +103,7 @@ asked_for c p image buffer = granting c p (frame_bytes (frame_of c p image)) buf
 -- The whole call. 21 is checked first, then 20, then 16.
 unfoldable pub request : Client → List ℕ → List ℕ → Asking
 request c image buffer =
-    on_turn c.turn
+    on_turn c.front.turn
     (withheld c OutOfTurn buffer)
     (λ p. cond (other_image p (length image)) (withheld c OtherImage buffer) (asked_for c p image buffer))
     (λ p. withheld c OutOfTurn buffer)

@@ -20,7 +20,7 @@ use Rattle.client.specs.Clients.{begun, running, refuse}
 
 -- An operation starts in its first phase, with a prefix, a bit count and a walk, unless one runs.
 unfoldable pub starts : Client → Phase → Id → ℕ → Walk → Started
-starts c p x bits w = cond (running c.turn) (refuse c OutOfTurn)
+starts c p x bits w = cond (running c.front.turn) (refuse c OutOfTurn)
     (record { says = Onward; client = begun c (Ready p) x bits w })
 
 -- An operation without a prefix or a walk.
@@ -29,7 +29,7 @@ demands c p = starts c p no_id 0 no_walk
 
 -- A bad prefix is refused. A call out of turn is refused before that.
 unfoldable pub bad_prefix : Client → Started
-bad_prefix c = cond (running c.turn) (refuse c OutOfTurn) (refuse c BadPrefix)
+bad_prefix c = cond (running c.front.turn) (refuse c OutOfTurn) (refuse c BadPrefix)
 
 unfoldable pub start_select : Client → List ℕ → ℕ → Started
 start_select c bytes bits =

@@ -21,12 +21,14 @@ use Rattle.host_state.proofs.Laws.{saved-length, loaded-saved, loaded-fits, fres
 -- A client with seed 255 and the attached id C1 07, whose Select for an attach to C1 is out.
 abbrev pub seeking : Client
 seeking = record {
-  seed = 255;
-  attached = true;
-  id = id_from (0xC1 ∷ 0x07 ∷ []);
-  turn = Waiting (Select (Seeking true));
-  prefix = id_from (0xC1 ∷ []);
-  bits = 0;
+  front = record {
+    seed = 255;
+    attached = true;
+    id = id_from (0xC1 ∷ 0x07 ∷ []);
+    turn = Waiting (Select (Seeking true));
+    prefix = id_from (0xC1 ∷ []);
+    bits = 0;
+  };
   walk = no_walk;
 }
 

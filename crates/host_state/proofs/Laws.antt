@@ -39,8 +39,8 @@ module _ (c : Client) (h : Fits c) where
       (id-length c.walk.place.candidate h.walk.candidate.bytes.0)
 
   front-sized : length (saved_front (front_of c)) ≡ 87
-  front-sized = front_length (front_of c) (head-length (front_of c) (id-length c.id h.id.bytes.0))
-      (id-length c.prefix h.prefix.bytes.0)
+  front-sized = front_length (front_of c) (head-length (front_of c) (id-length c.front.id h.id.bytes.0))
+      (id-length c.front.prefix h.prefix.bytes.0)
 
   pub saved-length : length (saved c) ≡ size
   unfolding saved
@@ -90,24 +90,24 @@ unfolding saved saved_head saved_front loaded
 client-back c b h e =
     let s = spread 0 b ((1265, saved_walk c.walk) ∷ []) (saved_front (front_of c)) 87 (front-sized c h)
     (walk-sized c h, tt) e in
-    let f = spread 0 b ((1, flag c.attached ∷ []) ∷ (17, saved_id c.id) ∷ (50, saved_flat (flat_of c.turn))
-    ∷ (17, saved_id c.prefix) ∷ (1, c.bits ∷ []) ∷ []) (c.seed ∷ []) 1 refl (
+    let f = spread 0 b ((1, flag c.front.attached ∷ []) ∷ (17, saved_id c.front.id) ∷ (50, saved_flat (flat_of c.front.turn))
+    ∷ (17, saved_id c.front.prefix) ∷ (1, c.front.bits ∷ []) ∷ []) (c.front.seed ∷ []) 1 refl (
       refl,
       (
-        id-length c.id h.id.bytes.0,
-        (flat-length (flat_of c.turn), (id-length c.prefix h.prefix.bytes.0, (refl, tt))),
+        id-length c.front.id h.id.bytes.0,
+        (flat-length (flat_of c.front.turn), (id-length c.front.prefix h.prefix.bytes.0, (refl, tt))),
       ),
     ) s.0 in
-    let turn : turn_of (loaded_flat 19 b) ≡ c.turn =
-    ap turn_of (flat_back 19 b (flat_of c.turn) h.turn f.1.1.1.0) ∙ turn-of-flat c.turn in
+    let turn : turn_of (loaded_flat 19 b) ≡ c.front.turn =
+    ap turn_of (flat_back 19 b (flat_of c.front.turn) h.turn f.1.1.1.0) ∙ turn-of-flat c.front.turn in
     rw (
-      byte_at 0 1 (c.seed ∷ []) b (omega arith) f.0,
-      byte_at 1 1 (flag c.attached ∷ []) b (omega arith) f.1.0,
-      flag-back c.attached,
-      id-back 2 b c.id h.id f.1.1.0,
+      byte_at 0 1 (c.front.seed ∷ []) b (omega arith) f.0,
+      byte_at 1 1 (flag c.front.attached ∷ []) b (omega arith) f.1.0,
+      flag-back c.front.attached,
+      id-back 2 b c.front.id h.id f.1.1.0,
       turn,
-      id-back 69 b c.prefix h.prefix f.1.1.1.1.0,
-      byte_at 86 1 (c.bits ∷ []) b (omega arith) f.1.1.1.1.1.0,
+      id-back 69 b c.front.prefix h.prefix f.1.1.1.1.0,
+      byte_at 86 1 (c.front.bits ∷ []) b (omega arith) f.1.1.1.1.1.0,
       walk-back 87 b c.walk h.walk s.1.0,
     )
 

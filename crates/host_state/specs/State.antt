@@ -65,12 +65,14 @@ loaded_walk at b = record {
 
 unfoldable pub loaded : List ℕ → Client
 loaded b = record {
-  seed = byte 0 b;
-  attached = flagged (byte 1 b);
-  id = loaded_id 2 b;
-  turn = turn_of (loaded_flat 19 b);
-  prefix = loaded_id 69 b;
-  bits = byte 86 b;
+  front = record {
+    seed = byte 0 b;
+    attached = flagged (byte 1 b);
+    id = loaded_id 2 b;
+    turn = turn_of (loaded_flat 19 b);
+    prefix = loaded_id 69 b;
+    bits = byte 86 b;
+  };
   walk = loaded_walk 87 b;
 }
 
@@ -105,9 +107,9 @@ pub record WalkFits (w : Walk) : Type 0 where
   pub candidate : IdFits w.place.candidate
 
 pub record Fits (c : Client) : Type 0 where
-  pub seed : c.seed < 2 ^ 8
-  pub id : IdFits c.id
-  pub turn : FlatFits (flat_of c.turn)
-  pub prefix : IdFits c.prefix
-  pub bits : c.bits < 2 ^ 8
+  pub seed : c.front.seed < 2 ^ 8
+  pub id : IdFits c.front.id
+  pub turn : FlatFits (flat_of c.front.turn)
+  pub prefix : IdFits c.front.prefix
+  pub bits : c.front.bits < 2 ^ 8
   pub walk : WalkFits c.walk

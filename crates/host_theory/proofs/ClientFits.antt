@@ -98,7 +98,7 @@ module _ (c : Client) (h : Fits c) where
       record { seed = h.seed; id = h.id; turn = turn-flat t k; prefix = i; bits = b; walk = v }
 
   turned-fits : (t : Turn) → TurnFits t → Fits (turned c t)
-  turned-fits t k = begun-fits t k c.prefix h.prefix c.bits h.bits c.walk h.walk
+  turned-fits t k = begun-fits t k c.front.prefix h.prefix c.front.bits h.bits c.walk h.walk
 
   idle-fits : Fits (idle c)
   unfolding idle
@@ -137,7 +137,7 @@ module _ (c : Client) (h : Fits c) where
       → StartedFits (starts c p x bits w)
   unfolding starts note_of refusal_note
   starts-fits p k x i bits b w v =
-      chosen StartedFits (running c.turn) _ _ (λ e. refuse-fits c h OutOfTurn (bare-fits _))
+      chosen StartedFits (running c.front.turn) _ _ (λ e. refuse-fits c h OutOfTurn (bare-fits _))
       (λ e. record { client = begun-fits c h (Ready p) k x i bits b w v; says = onward-says })
 
   demands-fits : (p : Phase) → PhaseFits p → StartedFits (demands c p)
@@ -146,7 +146,7 @@ module _ (c : Client) (h : Fits c) where
 
   bad-fits : StartedFits (bad_prefix c)
   unfolding bad_prefix note_of refusal_note
-  bad-fits = chosen StartedFits (running c.turn) _ _ (λ e. refuse-fits c h OutOfTurn (bare-fits _))
+  bad-fits = chosen StartedFits (running c.front.turn) _ _ (λ e. refuse-fits c h OutOfTurn (bare-fits _))
       (λ e. refuse-fits c h BadPrefix (bare-fits _))
 
   pub select-fits : (bytes : List ℕ) (bits : ℕ) → Bytes bytes → StartedFits (start_select c bytes bits)
@@ -220,7 +220,7 @@ unfolding frame_of search_frame demand_of payload_of le
 payload-short c (Select s) image =
     omega (
       arith,
-      payload-length (next_seed c.seed) (asked (asks c s).bits ((asks c s).count % 256)),
+      payload-length (next_seed c.front.seed) (asked (asks c s).bits ((asks c s).count % 256)),
       length-take ((asks c s).count % 256) (bits_of (asks c s).bits ++ replicate 127 false),
     )
 payload-short c (Demand (Informing why)) image = omega arith
@@ -244,7 +244,7 @@ module _ (c : Client) (h : Fits c) where
   handed-fits : (p : Phase) → PhaseFits p → Fits (handed c p)
   unfolding handed
   handed-fits (Select s) k = seeded-fits (turned c (Waiting (Select s))) (turned-fits c h (Waiting (Select s)) k)
-      (next_seed c.seed) (omega arith)
+      (next_seed c.front.seed) (omega arith)
   handed-fits (Demand j) k = turned-fits c h (Waiting (Demand j)) k
   handed-fits (Leave reset) k = idle-fits c h
 
@@ -259,7 +259,7 @@ module _ (c : Client) (h : Fits c) where
 
   pub request-fits : (image buffer : List ℕ) → StartedFits (request c image buffer).answer
   unfolding request note_of refusal_note
-  request-fits image buffer = go c.turn (turn-back c.turn h.turn)
+  request-fits image buffer = go c.front.turn (turn-back c.front.turn h.turn)
     where
       go : (t : Turn) → TurnFits t
           → StartedFits (on_turn t (withheld c OutOfTurn buffer)
@@ -300,7 +300,7 @@ module _ (c : Client) (h : Fits c) where
       → ToldFits (onward c p w at)
   unfolding onward
   onward-fits p k w v at small = record {
-    client = begun-fits c h (Ready p) k c.prefix h.prefix c.bits h.bits w v;
+    client = begun-fits c h (Ready p) k c.front.prefix h.prefix c.front.bits h.bits w v;
     says = onward-says;
     rest = small;
     progress = no-progress;
@@ -352,7 +352,7 @@ module _ (c : Client) (h : Fits c) (at : ℕ) (small : at < 2 ^ 64) where
   backed-fits : (given : Bool) → ToldFits (backed c given at)
   unfolding backed note_of refusal_note
   backed-fits given =
-      chosen ToldFits given _ _ (λ e. ended-fits (cleared c) (cleared-fits c h) _ (bare-fits _) c.prefix
+      chosen ToldFits given _ _ (λ e. ended-fits (cleared c) (cleared-fits c h) _ (bare-fits _) c.front.prefix
       h.prefix no_table no-table-fits at small)
       (λ e. stops-fits (cleared c) (cleared-fits c h) _ (bare-fits _) at small)
 
@@ -360,7 +360,7 @@ module _ (c : Client) (h : Fits c) (at : ℕ) (small : at < 2 ^ 64) where
     met-fits : (given : Bool) (d : Heard) → ToldFits (met c given d x at)
     unfolding met note_of refusal_note
     met-fits given Heard.Nothing =
-        chosen ToldFits given _ _ (λ e. ended-fits c h _ (bare-fits _) c.prefix
+        chosen ToldFits given _ _ (λ e. ended-fits c h _ (bare-fits _) c.front.prefix
         h.prefix no_table no-table-fits at small) (λ e. stops-fits c h _ (bare-fits _) at small)
     met-fits given Heard.One = attaches-fits true x k
     met-fits given Heard.TooLong = stops-fits c h _ (bare-fits _) at small
@@ -476,7 +476,7 @@ module _ (c : Client) (h : Fits c) (image bytes : List ℕ) (small : length imag
 
   pub record-fits : ToldFits (record' c image bytes)
   unfolding record' note_of refusal_note
-  record-fits = go c.turn (turn-back c.turn h.turn)
+  record-fits = go c.front.turn (turn-back c.front.turn h.turn)
     where
       go : (t : Turn) → TurnFits t
           → ToldFits (on_turn t (refuses c OutOfTurn) (λ p. refuses c OutOfTurn)
@@ -489,7 +489,7 @@ module _ (c : Client) (h : Fits c) (image bytes : List ℕ) (small : length imag
 -- A failed link.
 pub failed-fits : (c : Client) → Fits c → ToldFits (link_failed c)
 unfolding link_failed note_of refusal_note
-failed-fits c h = go c.turn
+failed-fits c h = go c.front.turn
   where
     go : (t : Turn) → ToldFits (on_turn t (refuses c OutOfTurn) (λ p. refuses c OutOfTurn)
         (λ p. stops c (Says.Refused Io) 0))

@@ -87,7 +87,7 @@ fn print_outcome(out: &impl Print, o: Outcome, id: Id) -> io::Result<()> {
 // Ends the line of a run's outcome; then the seed and the attached id.
 fn print_end(out: &impl Print, c: Client) -> io::Result<()> {
     show::print(out, b"\ns")?;
-    print_number(out, c.seed as u64)?;
+    print_number(out, c.front.seed as u64)?;
     let a = c.attached();
     let id = a.id;
     print_id(out, id)?;

@@ -110,13 +110,13 @@ pub record Answer : Type 0 where
   pub id : Option Id
 
 unfoldable pub attached_to : Client → Option Id
-attached_to c = cond c.attached (some (id_of c.id)) none
+attached_to c = cond c.front.attached (some (id_of c.front.id)) none
 
 abbrev pub paper_answer : Reply × Paper.Client → Answer
 paper_answer r = record { reply = r.0; seed = r.1.seed; id = r.1.id }
 
 abbrev pub code_answer : Reply × Client → Answer
-code_answer r = record { reply = r.0; seed = r.1.seed; id = attached_to r.1 }
+code_answer r = record { reply = r.0; seed = r.1.front.seed; id = attached_to r.1 }
 
 -- The answers to some calls, one after the other.
 unfoldable pub paper_answers : Paper.Client → List Call → List Answer

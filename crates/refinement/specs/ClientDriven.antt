@@ -63,7 +63,7 @@ pub record Grants (c : Client) (image buffer : List ℕ) (q : Ask) (bytes : List
 
 -- A client with this seed, this attached id or none, and this request next.
 pub record Asks (n : Option ℕ) (seed : ℕ) (id : Option Id) (q : Ask) (c : Client) : Type 0 where
-  pub seeded : c.seed ≡ seed
+  pub seeded : c.front.seed ≡ seed
   pub attached : attached_to c ≡ id
   pub grants : (image buffer : List ℕ) → OfLength n image → size_of q ≤ length buffer
       → Grants c image buffer q (bytes_of q (seed_after q seed) image)

@@ -68,12 +68,14 @@ discovered buffer wire c given = served (limit (bits_of given)) buffer wire 0 (o
 -- The client with no operation, with this seed and this attached id or none.
 abbrev pub resting : ℕ → Option Id → Client
 resting seed id = record {
-  seed = seed;
-  attached = is_there id;
-  id = value_of id;
-  turn = Idle;
-  prefix = no_id;
-  bits = 0;
+  front = record {
+    seed = seed;
+    attached = is_there id;
+    id = value_of id;
+    turn = Idle;
+    prefix = no_id;
+    bits = 0;
+  };
   walk = no_walk;
 }
 

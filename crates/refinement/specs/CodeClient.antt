@@ -115,12 +115,14 @@ walk_in (leaving bootloader baud) = no_walk
 abbrev pub standing : ℕ → Option PaperHearing.Id → CodeTurn.Turn → Id → ℕ → Walk → Client
 standing seed id turn prefix bits walk =
     record {
-      seed = seed;
-      attached = is_there id;
-      id = value_of id;
-      turn = turn;
-      prefix = prefix;
-      bits = bits;
+      front = record {
+        seed = seed;
+        attached = is_there id;
+        id = value_of id;
+        turn = turn;
+        prefix = prefix;
+        bits = bits;
+      };
       walk = walk;
     }
 

@@ -32,7 +32,7 @@ leaves r c = cond (keeps r) c (idle (cond (parts r) (cleared c) c))
 -- "Out of turn is: a start while an operation runs"; "Order: 21, 20, 13": the answer to a start, by whether its
 -- arguments are good and by the client that it would begin.
 unfoldable pub begins : Client → Bool → Client → Started
-begins c good next = cond (running c.turn) (refuse c OutOfTurn)
+begins c good next = cond (running c.front.turn) (refuse c OutOfTurn)
     (cond good (record { says = Onward; client = next }) (refuse c BadPrefix))
 
 -- "a count over 128 or over 8 times the bytes given is 13", and so is a "prefix or id given over 16 bytes".

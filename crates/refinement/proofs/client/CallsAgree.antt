@@ -270,10 +270,10 @@ attached-back c f = go c.turn c.id f.id
     go (waiting ph) none b = refl
     go (waiting ph) (some x) b = ap some (id-of-from x b)
 
-pub seed-of : (c : Machine.Client) → (client_of c).seed ≡ c.seed
+pub seed-of : (c : Machine.Client) → (client_of c).front.seed ≡ c.seed
 seed-of c = go c.turn
   where
-    go : (t : Turn) → (client_of (turned c t)).seed ≡ c.seed
+    go : (t : Turn) → (client_of (turned c t)).front.seed ≡ c.seed
     go idle = refl
     go (ready ph) = refl
     go (waiting ph) = refl
@@ -322,16 +322,16 @@ reaches c f b (call ∷ calls) g =
     rw (code-call c f call g.0)
     (reaches (machine_call c call).1 (call_fits c f call) (call-bytes c b call g.0) calls g.1)
 
-idle-is : (c : Machine.Client) → Fits c → Holds Bytes c → (client_of c).turn ≡ Idle → Rests (client_of c)
+idle-is : (c : Machine.Client) → Fits c → Holds Bytes c → (client_of c).front.turn ≡ Idle → Rests (client_of c)
 idle-is c f b e = go c.turn e
   where
-    go : (t : Turn) → (client_of (turned c t)).turn ≡ Idle → Rests (client_of (turned c t))
+    go : (t : Turn) → (client_of (turned c t)).front.turn ≡ Idle → Rests (client_of (turned c t))
     go idle e = record { seed = c.seed; byte = f.seed; id = c.id; brief = f.id; bytes = b.id; client = refl }
     go (ready ph) e = absurd (let z : ◌≡◌ {A = ℕ} 0 1 = cc in omega arith)
     go (waiting ph) e = absurd (let z : ◌≡◌ {A = ℕ} 0 1 = cc in omega arith)
 
 -- After any calls, a client with no operation holds a seed, an attached id or none, and nothing else.
-pub idle-rests : (calls : List Call) → All Good calls → (reached CodeClients.fresh calls).turn ≡ Idle
+pub idle-rests : (calls : List Call) → All Good calls → (reached CodeClients.fresh calls).front.turn ≡ Idle
     → Rests (reached CodeClients.fresh calls)
 idle-rests calls g e = rw r.client (idle-is r.machine r.fits r.bytes (rw r.client at e))
   where
@@ -342,16 +342,18 @@ rests-idle : (d : Client) → Rests d → d ≡ CodeClients.idle d
 unfolding CodeClients.idle
 rests-idle d r = rw r.client
 
-same-idle : (c d : Client) → c.seed ≡ d.seed → CodeClients.attached c ≡ CodeClients.attached d
+same-idle : (c d : Client) → c.front.seed ≡ d.front.seed → CodeClients.attached c ≡ CodeClients.attached d
     → CodeClients.idle c ≡ CodeClients.idle d
 unfolding CodeClients.idle CodeClients.attached
-same-idle c d s a = λ i. record
-    { seed = s i; attached = (a i).any; id = (a i).id; turn = Idle; prefix = no_id; bits = 0; walk = no_walk }
+same-idle c d s a = λ i. record {
+  front = record { seed = s i; attached = (a i).any; id = (a i).id; turn = Idle; prefix = no_id; bits = 0 };
+  walk = no_walk;
+}
 
 -- So two such clients with the same seed and attached id are equal.
-pub idle-canonical : (xs ys : List Call) → All Good xs → All Good ys → (reached CodeClients.fresh xs).turn ≡ Idle
-    → (reached CodeClients.fresh ys).turn ≡ Idle
-    → (reached CodeClients.fresh xs).seed ≡ (reached CodeClients.fresh ys).seed
+pub idle-canonical : (xs ys : List Call) → All Good xs → All Good ys → (reached CodeClients.fresh xs).front.turn ≡ Idle
+    → (reached CodeClients.fresh ys).front.turn ≡ Idle
+    → (reached CodeClients.fresh xs).front.seed ≡ (reached CodeClients.fresh ys).front.seed
     → CodeClients.attached (reached CodeClients.fresh xs) ≡ CodeClients.attached (reached CodeClients.fresh ys)
     → reached CodeClients.fresh xs ≡ reached CodeClients.fresh ys
 idle-canonical xs ys g h e f s a =

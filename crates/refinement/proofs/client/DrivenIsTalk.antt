@@ -233,9 +233,9 @@ module _ (code : Client) (paper : Paper.Client) (a : Alike code paper) where
   alike-resting : (seed : ℕ) (id : Option Id) → paper ≡ ClientDriven.resting seed id → code ≡ resting seed id
   alike-resting seed id e = a.is_code ∙ idle-left a.machine seed id (sym a.is-paper ∙ e)
 
-  alike-seed : code.seed ≡ paper.seed
+  alike-seed : code.front.seed ≡ paper.seed
   unfolding paper_of
-  alike-seed = ap (λ (c : Client). c.seed) a.is_code ∙ seed-of a.machine
+  alike-seed = ap (λ (c : Client). c.front.seed) a.is_code ∙ seed-of a.machine
       ∙ sym (ap (λ (p : Paper.Client). p.seed) a.is-paper)
 
   alike-id : attached_to code ≡ paper.id

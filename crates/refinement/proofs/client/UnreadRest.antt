@@ -33,7 +33,7 @@ goes-rest c next at = go next.then
     go (Err r) = refl
 
 -- Any client with a job's request out.
-module _ (c : Client) (j : Job) (out : c.turn ≡ Waiting (Demand j)) (image : List ℕ) where
+module _ (c : Client) (j : Job) (out : c.front.turn ≡ Waiting (Demand j)) (image : List ℕ) where
   next : Reply → Next
   next (ok payload) = accepted j payload image
   next (device status) = declined j status
@@ -51,7 +51,7 @@ module _ (c : Client) (j : Job) (out : c.turn ≡ Waiting (Demand j)) (image : L
       → record' c image bytes ≡ judged r end
   unfolding record' answered_to
   record-answered bytes r end e =
-      sym (at-waiting c.turn _ _ _ (Demand j) out)
+      sym (at-waiting c.front.turn _ _ _ (Demand j) out)
       ∙ ap (λ (t : Told). cond (other_image (Demand j) (length image)) (refuses c OtherImage) t)
       (tells-answered bytes r end e)
 

@@ -132,14 +132,14 @@ record Leaves (c : Client) (n : ℕ) (t : Told) : Type 0 where
   client : (r : Refusal) → t.says ≡ Refused r → t.client ≡ leaves r c
   lost : t.says ≡ Refused Io → t.rest ≡ n
   whole : (r : Refusal) → t.says ≡ Refused r → keeps r ≡ true → t.rest ≡ 0
-  seed : t.client.seed ≡ c.seed
+  seed : t.client.front.seed ≡ c.front.seed
 
 -- After a record in turn, with the right image lent: each refusal ends the operation.
 record Tells (c : Client) (n : ℕ) (t : Told) : Type 0 where
   client : (r : Refusal) → t.says ≡ Refused r → t.client ≡ leaves r c
   lost : t.says ≡ Refused Io → t.rest ≡ n
   ends : (r : Refusal) → t.says ≡ Refused r → keeps r ≡ false
-  seed : t.client.seed ≡ c.seed
+  seed : t.client.front.seed ≡ c.front.seed
 
 module _ (c : Client) (n : ℕ) where
   told-leaves : (t : Told) → Tells c n t → Leaves c n t
@@ -158,7 +158,7 @@ module _ (c : Client) (n : ℕ) where
     seed = refl;
   }
 
-  unrefused-tells : (t : Told) → is_refused t.says ≡ false → t.client.seed ≡ c.seed → Tells c n t
+  unrefused-tells : (t : Told) → is_refused t.says ≡ false → t.client.front.seed ≡ c.front.seed → Tells c n t
   unrefused-tells t h e = record {
     client = λ r k. unrefused t.says r h k;
     lost = λ k. unrefused t.says Io h k;
@@ -173,7 +173,7 @@ module _ (c : Client) (n : ℕ) where
     client = λ r e. rw (← same-refusal q r e) ed;
     lost = λ e. ea (same-refusal q Io e);
     ends = λ r e. rw (← same-refusal q r e) k;
-    seed = ap (λ (y : Client). y.seed) ed ∙ leaves-seed q c;
+    seed = ap (λ (y : Client). y.front.seed) ed ∙ leaves-seed q c;
   }
 
   lost-tells : Tells c n (stops c (Refused Io) n)
@@ -255,7 +255,7 @@ module _ (c : Client) (image bytes : List ℕ) where
   record-leaves : Leaves c (length bytes) (record' c image bytes)
   unfolding record' keeps number_of
   record-leaves =
-      each_turn (λ (t : Turn) (o : Told). Leaves c (length bytes) o) c.turn
+      each_turn (λ (t : Turn) (o : Told). Leaves c (length bytes) o) c.front.turn
       (refuses-leaves c (length bytes) OutOfTurn refl refl)
       (λ p. refuses-leaves c (length bytes) OutOfTurn refl refl)
       (λ p.
@@ -274,25 +274,25 @@ module _ (c : Client) (image bytes : List ℕ) where
       → (record' c image bytes).rest ≡ 0
   told-kept = record-leaves.whole
 
-  pub told-seed : (record' c image bytes).client.seed ≡ c.seed
+  pub told-seed : (record' c image bytes).client.front.seed ≡ c.front.seed
   told-seed = record-leaves.seed
 
   -- "Order: 21, 20, .. then the record."
-  pub told-idle : c.turn ≡ Idle → record' c image bytes ≡ refuses c OutOfTurn
+  pub told-idle : c.front.turn ≡ Idle → record' c image bytes ≡ refuses c OutOfTurn
   unfolding record'
-  told-idle e = sym (at-idle c.turn _ _ _ e)
+  told-idle e = sym (at-idle c.front.turn _ _ _ e)
 
-  pub told-ready : (p : Phase) → c.turn ≡ Ready p → record' c image bytes ≡ refuses c OutOfTurn
+  pub told-ready : (p : Phase) → c.front.turn ≡ Ready p → record' c image bytes ≡ refuses c OutOfTurn
   unfolding record'
-  told-ready p e = sym (at_ready c.turn _ _ _ p e)
+  told-ready p e = sym (at_ready c.front.turn _ _ _ p e)
 
-  pub told-waiting : (p : Phase) → c.turn ≡ Waiting p
+  pub told-waiting : (p : Phase) → c.front.turn ≡ Waiting p
       → record' c image bytes ≡ cond (other_image p (length image)) (refuses c OtherImage) (answered_to c p image bytes)
   unfolding record'
-  told-waiting p e = sym (at-waiting c.turn _ _ _ p e)
+  told-waiting p e = sym (at-waiting c.front.turn _ _ _ p e)
 
   -- A record in turn, with the right image lent, is never refused with 20, 21 or another refusal that changes no state.
-  pub told-due : (p : Phase) → c.turn ≡ Waiting p → other_image p (length image) ≡ false → (r : Refusal)
+  pub told-due : (p : Phase) → c.front.turn ≡ Waiting p → other_image p (length image) ≡ false → (r : Refusal)
       → (record' c image bytes).says ≡ Refused r → keeps r ≡ false
   told-due p e h r f = (answered-tells p).ends r (ap (λ (t : Told). t.says) (sym reads) ∙ f)
     where
@@ -301,22 +301,22 @@ module _ (c : Client) (image bytes : List ℕ) where
 
 -- A failed link.
 module _ (c : Client) where
-  pub failed-idle : c.turn ≡ Idle → link_failed c ≡ refuses c OutOfTurn
+  pub failed-idle : c.front.turn ≡ Idle → link_failed c ≡ refuses c OutOfTurn
   unfolding link_failed
-  failed-idle e = sym (at-idle c.turn _ _ _ e)
+  failed-idle e = sym (at-idle c.front.turn _ _ _ e)
 
-  pub failed-ready : (p : Phase) → c.turn ≡ Ready p → link_failed c ≡ refuses c OutOfTurn
+  pub failed-ready : (p : Phase) → c.front.turn ≡ Ready p → link_failed c ≡ refuses c OutOfTurn
   unfolding link_failed
-  failed-ready p e = sym (at_ready c.turn _ _ _ p e)
+  failed-ready p e = sym (at_ready c.front.turn _ _ _ p e)
 
-  pub failed-waiting : (p : Phase) → c.turn ≡ Waiting p → link_failed c ≡ stops c (Refused Io) 0
+  pub failed-waiting : (p : Phase) → c.front.turn ≡ Waiting p → link_failed c ≡ stops c (Refused Io) 0
   unfolding link_failed
-  failed-waiting p e = sym (at-waiting c.turn _ _ _ p e)
+  failed-waiting p e = sym (at-waiting c.front.turn _ _ _ p e)
 
   failed-leaves : Leaves c 0 (link_failed c)
   unfolding link_failed keeps number_of
   failed-leaves =
-      each_turn (λ (t : Turn) (o : Told). Leaves c 0 o) c.turn
+      each_turn (λ (t : Turn) (o : Told). Leaves c 0 o) c.front.turn
       (refuses-leaves c 0 OutOfTurn refl refl)
       (λ p. refuses-leaves c 0 OutOfTurn refl refl)
       (λ p. told-leaves c 0 _ (lost-tells c 0))
@@ -324,5 +324,5 @@ module _ (c : Client) where
   pub failed-refused : (r : Refusal) → (link_failed c).says ≡ Refused r → (link_failed c).client ≡ leaves r c
   failed-refused = failed-leaves.client
 
-  pub failed-seed : (link_failed c).client.seed ≡ c.seed
+  pub failed-seed : (link_failed c).client.front.seed ≡ c.front.seed
   failed-seed = failed-leaves.seed

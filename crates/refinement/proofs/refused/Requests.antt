@@ -47,7 +47,7 @@ module _ (c : Client) (image buffer : List ℕ) where
   request-asks : Asks c buffer (request c image buffer)
   unfolding request asked_for keeps number_of
   request-asks =
-      each_turn (λ (t : Turn) (o : Asking). Asks c buffer o) c.turn
+      each_turn (λ (t : Turn) (o : Asking). Asks c buffer o) c.front.turn
       (withheld-asks c buffer OutOfTurn refl)
       (λ p. either (Asks c buffer) (other_image p (length image)) (withheld-asks c buffer OtherImage refl)
       (granting-asks c buffer p _))
@@ -58,16 +58,16 @@ module _ (c : Client) (image buffer : List ℕ) where
   asked-refused = request-asks.refused
 
   -- "Order: 21, 20, .. 16".
-  pub asked-idle : c.turn ≡ Idle → request c image buffer ≡ withheld c OutOfTurn buffer
+  pub asked-idle : c.front.turn ≡ Idle → request c image buffer ≡ withheld c OutOfTurn buffer
   unfolding request
-  asked-idle e = sym (at-idle c.turn _ _ _ e)
+  asked-idle e = sym (at-idle c.front.turn _ _ _ e)
 
-  pub asked-waiting : (p : Phase) → c.turn ≡ Waiting p → request c image buffer ≡ withheld c OutOfTurn buffer
+  pub asked-waiting : (p : Phase) → c.front.turn ≡ Waiting p → request c image buffer ≡ withheld c OutOfTurn buffer
   unfolding request
-  asked-waiting p e = sym (at-waiting c.turn _ _ _ p e)
+  asked-waiting p e = sym (at-waiting c.front.turn _ _ _ p e)
 
-  pub asked-ready : (p : Phase) → c.turn ≡ Ready p
+  pub asked-ready : (p : Phase) → c.front.turn ≡ Ready p
       → request c image buffer ≡ cond (other_image p (length image)) (withheld c OtherImage buffer)
       (granting c p (frame_bytes (frame_of c p image)) buffer)
   unfolding request asked_for
-  asked-ready p e = sym (at_ready c.turn _ _ _ p e)
+  asked-ready p e = sym (at_ready c.front.turn _ _ _ p e)

@@ -38,25 +38,25 @@ module _ (r : Refusal) (c : Client) where
   unfolding leaves
   leaves_kept h = rw h
 
-  pub leaves-ended : keeps r ≡ false → (leaves r c).turn ≡ Idle
+  pub leaves-ended : keeps r ≡ false → (leaves r c).front.turn ≡ Idle
   unfolding leaves idle
   leaves-ended h = rw h
 
-  pub leaves-seed : (leaves r c).seed ≡ c.seed
+  pub leaves-seed : (leaves r c).front.seed ≡ c.front.seed
   unfolding leaves idle cleared
-  leaves-seed = either (λ (d : Client). d.seed ≡ c.seed) (keeps r) refl
-      (either (λ (d : Client). (idle d).seed ≡ c.seed) (parts r) refl refl)
+  leaves-seed = either (λ (d : Client). d.front.seed ≡ c.front.seed) (keeps r) refl
+      (either (λ (d : Client). (idle d).front.seed ≡ c.front.seed) (parts r) refl refl)
 
-  pub leaves-attached : parts r ≡ false → ((leaves r c).attached ≡ c.attached) × ((leaves r c).id ≡ c.id)
+  pub leaves-attached : parts r ≡ false → ((leaves r c).front.attached ≡ c.front.attached) × ((leaves r c).front.id ≡ c.front.id)
   unfolding leaves idle
-  leaves-attached h = either (λ (d : Client). (d.attached ≡ c.attached) × (d.id ≡ c.id)) (keeps r) (refl, refl)
+  leaves-attached h = either (λ (d : Client). (d.front.attached ≡ c.front.attached) × (d.front.id ≡ c.front.id)) (keeps r) (refl, refl)
       (rw h (refl, refl))
 
 -- A start that is refused changes nothing.
 pub begins-kept : (c : Client) (good : Bool) (next : Client) (r : Refusal) → (begins c good next).says ≡ Refused r
     → (begins c good next).client ≡ c
 unfolding begins
-begins-kept c good next r e = go (running c.turn) good e
+begins-kept c good next r e = go (running c.front.turn) good e
   where
     begun-or : Bool → Bool → Started
     begun-or late good = cond late (refuse c OutOfTurn)
