@@ -32,6 +32,7 @@ fn attaches(f: Front, any: bool, id: Id, at: usize) -> Verdict
 }
 
 // What the answer says when a walk ends early.
+// Kept as a function, not a `From<End>` of Says: both types are of other crates, so neither can get an impl here.
 #[tactic(auto, unfolding(crate::specs::Record::stop_of))]
 fn stop_of(end: End) -> Says
     ensures { result ≡ stop_of end }

@@ -29,6 +29,7 @@ fn asks(f: Front, p: Place, search: Search) -> Ask
     ensures { (t : Table) → result ≡ asks (client_of f (walk_of p t)) search }
 {
     let prefix = f.prefix;
+    // Kept as a local: the borrow checker does not yet cover a literal's array that is another field's value straight.
     let bits = prefix.bytes;
     match search {
         Search::Probing => Ask {

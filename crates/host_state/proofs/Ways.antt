@@ -1,67 +1,22 @@
 -- Lemmas for the functions that load and save a client: one for each path through the code.
-use Prim.Native.Nat.{ℕ, suc, ◌+◌, ◌≤◌}
+use Prim.Native.Nat.{ℕ, ◌≤◌}
 use mathlib.Core.List.{List, [], ◌∷◌, ◌++◌}
 use mathlib.Core.Path.{◌≡◌, refl, ◌∙◌}
 use native.Mathlib.Omega.{arith}
-use lib.ListN.{length, take, drop, get_or}
-use mir.Syntax.{w8}
-use mir.Val.{Fits}
-use Rattle.paper.specs.Frame.{le, byte, field}
+use lib.ListN.{length, take, drop}
+use Rattle.paper.specs.Frame.{le}
 use Rattle.paper.proofs.Fields.{Put, num, one, behind, after, own, put-length, joined_length}
-use Rattle.paper.proofs.Words.{Bytes, le-length}
+use Rattle.paper.proofs.Words.{le-length}
 use Rattle.ids.specs.declared.Id.{Id}
 use Rattle.walk_table.specs.declared.Table.{Table}
 use Rattle.walk.specs.declared.Walk.{Walk}
 use Rattle.walk.specs.declared.Place.{Place}
-use Rattle.walk.specs.Moves.{place_of}
-use Rattle.client.specs.declared.Turn.{Turn}
 use Rattle.client.specs.declared.Front.{Front}
-use Rattle.client.specs.Verdicts.{front_of}
 use Rattle.host_turn.specs.declared.Flat.{Flat}
-use Rattle.host_turn.specs.Turns.{flat_of, turn_of}
-use Rattle.host_turn_bytes.specs.TurnBytes.{flag, flagged, saved_flat, loaded_flat}
+use Rattle.host_turn.specs.Turns.{flat_of}
+use Rattle.host_turn_bytes.specs.TurnBytes.{flag, saved_flat}
 use Rattle.host_turn_bytes.proofs.Laws.{flat-length}
 use Rattle.host_state.specs.State.{size, saved_id, saved_table, saved_walk, saved_head, saved_front, with_place}
-use Rattle.host_state.specs.State.{loaded_id, loaded_table, loaded_walk, loaded}
-
--- Loading.
-module _ (at : ℕ) (b : List ℕ) where
-  pub id-loaded : (x : List ℕ) → x ≡ take 16 (drop at b)
-      → ◌≡◌ {A = Id} (record { bytes = x; len = byte (at + 16) b }) (loaded_id at b)
-  unfolding loaded_id
-  id-loaded x e = rw e
-
-module _ (b : List ℕ) where
-  pub front-loaded : (x y : Id) (f : Flat) (t : Turn) → x ≡ loaded_id 2 b → f ≡ loaded_flat 19 b → t ≡ turn_of f
-      → y ≡ loaded_id 69 b
-      → ◌≡◌ {A = Front} (record {
-        seed = byte 0 b;
-        attached = flagged (byte 1 b);
-        id = x;
-        turn = t;
-        prefix = y;
-        bits = byte 86 b;
-      }) (front_of (loaded b))
-  unfolding loaded
-  front-loaded x y f t ex ef et ey = rw (ex, et, ef, ey)
-
-  pub place-loaded : (p m : List ℕ) (n : ℕ) (x : Id) → p ≡ take 16 (drop 87 b) → m ≡ take 128 (drop 111 b)
-      → x ≡ loaded_id 1335 b → n ≡ field 103 8 b
-      → ◌≡◌ {A = Place} (record { path = p; depth = n; marks = m; candidate = x }) (place_of (loaded b).walk)
-  unfolding loaded loaded_walk
-  place-loaded p m n x ep em ex en = rw (ep, em, ex, en)
-
-  pub count-loaded : (n : ℕ) → n ≡ field 1327 8 b → n ≡ (loaded b).walk.found.count
-  unfolding loaded loaded_walk loaded_table
-  count-loaded n e = e
-
-  -- If every element of a list fits 8 bits, the list consists of bytes.
-  pub all-bytes : ((k : ℕ) → Fits w8 (get_or b k 0)) → Bytes b
-  all-bytes = go b
-    where
-      go : (s : List ℕ) → ((k : ℕ) → Fits w8 (get_or s k 0)) → Bytes s
-      go [] h = tt
-      go (x ∷ s) h = ((h 0).fits, go s (λ k. h (suc k)))
 
 -- The length of each part.
 pub id-length : (x : Id) → length x.bytes ≡ 16 → length (saved_id x) ≡ 17
@@ -96,14 +51,6 @@ module _ (f : Front) where
       (k, (refl, tt))
 
 -- Saving.
-pub put_id : (at : ℕ) (b d₁ d₂ : List ℕ) (x : Id) → length x.bytes ≡ 16 → at + 17 ≤ length b
-    → d₁ ≡ take at b ++ x.bytes ++ drop (at + 16) b
-    → d₂ ≡ take (at + 16) d₁ ++ (x.len ∷ []) ++ drop (at + 16 + 1) d₁ → d₂ ≡ take at b ++ saved_id x ++ drop (at + 17) b
-unfolding saved_id
-put_id at b d₁ d₂ x h room e₁ e₂ =
-    let first : Put at 16 x.bytes b d₁ = record { sized = h; holds = e₁ } in
-    (behind (omega arith) first (one e₂)).holds
-
 module _ (b d₁ d₂ d₃ d₄ : List ℕ) where
   pub put-head : (f : Front) (x : Flat) (g : ℕ) → length (saved_id f.id) ≡ 17 → x ≡ flat_of f.turn
       → g ≡ flag f.attached → d₁ ≡ (f.seed ∷ []) ++ drop 1 b

@@ -1,5 +1,7 @@
 // The client in 1,352 bytes: its front and its walk's place are loaded and saved, its list is changed in place.
 // Any bytes hold some client, and zero bytes hold a fresh one.
+// Kept as slices with `size ≤ length`, not as `&[u8; 1352]`: docs/CONTRACTS.md names these calls, which take longer
+// buffers too, and say that the bytes past the client stay.
 #![tactic(auto)]
 
 ghost use Rattle.std.specs.Prelude.{◌≡◌, ◌++◌, ◌+◌, ◌≤◌, length, take, drop};
@@ -22,6 +24,7 @@ pub fn size() -> usize
     1352
 }
 
+#[tactic(auto, unfolding(crate::specs::State::loaded_id))]
 fn load_id(bytes: &[u8], at: usize) -> Id
     requires { at + 17 ≤ length bytes.now }
     ensures { result ≡ loaded_id at bytes.now }
@@ -35,6 +38,7 @@ fn load_id(bytes: &[u8], at: usize) -> Id
 
 // The front of the client that some bytes hold. The second fact, that a lent slice consists of bytes, is for its
 // callers.
+#[tactic(auto, unfolding(crate::specs::State::loaded))]
 pub fn load_front(bytes: &[u8]) -> Front
     requires { size ≤ length bytes.now }
     ensures value { result ≡ front_of (loaded bytes.now) }
@@ -51,6 +55,7 @@ pub fn load_front(bytes: &[u8]) -> Front
 }
 
 // The place of the client's walk.
+#[tactic(auto, unfolding(crate::specs::State::loaded, crate::specs::State::loaded_walk))]
 pub fn load_place(bytes: &[u8]) -> Place
     requires { size ≤ length bytes.now }
     ensures { result ≡ place_of (loaded bytes.now).walk }
@@ -66,6 +71,7 @@ pub fn load_place(bytes: &[u8]) -> Place
 }
 
 // How many ids the walk's list holds.
+#[tactic(auto, unfolding(crate::specs::State::loaded, crate::specs::State::loaded_walk, crate::specs::State::loaded_table))]
 pub fn count(bytes: &[u8]) -> usize
     requires { size ≤ length bytes.now }
     ensures { result ≡ (loaded bytes.now).walk.found.count }
@@ -73,6 +79,7 @@ pub fn count(bytes: &[u8]) -> usize
     wire::get::<8, u64>(bytes, 1327) as usize
 }
 
+#[tactic(auto, unfolding(crate::specs::State::saved_id))]
 pub fn save_id(bytes: &mut [u8], at: usize, x: Id)
     requires { at + 17 ≤ length bytes.old }
     ensures bytes_after { bytes.new
