@@ -5,7 +5,8 @@
 ghost use Rattle.std.specs.Prelude.{◌≡◌};
 ghost use Rattle.walk.specs.declared.Walk.{Walk};
 ghost use Rattle.walk.specs.Moves.{begin};
-ghost use Rattle.client.specs.Verdicts.{client_of, started_of};
+ghost use Rattle.client.specs.declared.Opening.{Opening};
+ghost use Rattle.client.specs.Verdicts.{front_of, client_of, started_of};
 ghost use Rattle.client_start.specs.Start.{starts, demands, bad_prefix, start_select, start_deselect, start_attach};
 ghost use Rattle.client_start.specs.Start.{start_attach_to, start_discover, start_info, start_erase, start_flash};
 ghost use Rattle.client_start.specs.Start.{resets, start_reset, start_set_baud};
@@ -14,6 +15,14 @@ use client::{
     Client, Front, Job, Opening, Phase, Purpose, Refusal, Reset, Says, Search, Started, Turn,
 };
 use ids::Id;
+
+// The answer by value to a start that is decided on the client's front.
+fn by_value<F: FnOnce(Front) -> Opening>(c: Client, decide: F) -> Started
+    requires { F.pre decide (front_of c) }
+    ensures { (o : Opening) × F.post decide (front_of c) o × (result ≡ started_of o c.walk) }
+{
+    decide(c.front()).started(c.walk)
+}
 
 // Starts an operation in its first phase, with a walk under a prefix, unless one runs.
 #[tactic(auto, unfolding(crate::specs::Start::starts))]
@@ -32,6 +41,7 @@ fn starts(f: Front, phase: Phase, prefix: Id, bits: u8, from: Id) -> Opening
 }
 
 // Starts an operation without a prefix or a walk.
+#[tactic(auto, using(crate::proofs::Ways::begins), unfolding(crate::specs::Start::demands))]
 fn demands(f: Front, phase: Phase) -> Opening
     ensures { (w : Walk) → started_of result w ≡ demands (client_of f w) phase }
 {
@@ -43,21 +53,19 @@ fn demands(f: Front, phase: Phase) -> Opening
 fn bad_prefix(f: Front) -> Opening
     ensures { (w : Walk) → started_of result w ≡ bad_prefix (client_of f w) }
 {
-    if client::running(f.turn) {
-        return f.refuse(Refusal::OutOfTurn);
-    }
-    f.refuse(Refusal::BadPrefix)
+    f.refuse(if client::running(f.turn) {
+        Refusal::OutOfTurn
+    } else {
+        Refusal::BadPrefix
+    })
 }
 
 // A plain select of the first bits of a prefix.
-#[tactic(auto, unfolding(crate::specs::Start::start_select))]
+#[tactic(auto, using(crate::proofs::Ways::begins), unfolding(crate::specs::Start::start_select))]
 pub fn open_select(f: Front, prefix: &[u8], bits: usize) -> Opening
     ensures { (w : Walk) → started_of result w ≡ start_select (client_of f w) prefix.now bits }
 {
-    if ids::MAX_BYTES < prefix.len() {
-        return bad_prefix(f);
-    }
-    if 8 * prefix.len() < bits {
+    if ids::MAX_BYTES < prefix.len() || 8 * prefix.len() < bits {
         return bad_prefix(f);
     }
     starts(
@@ -69,27 +77,27 @@ pub fn open_select(f: Front, prefix: &[u8], bits: usize) -> Opening
     )
 }
 
-#[tactic(auto, unfolding(crate::specs::Start::start_select))]
 pub fn start_select(c: Client, prefix: &[u8], bits: usize) -> Started
     ensures { result ≡ start_select c prefix.now bits }
 {
-    open_select(c.front(), prefix, bits).started(c.walk)
+    by_value(c, |f| open_select(f, prefix, bits))
 }
 
+#[tactic(auto, using(crate::proofs::Ways::begins), unfolding(crate::specs::Start::start_deselect))]
 pub fn open_deselect(f: Front) -> Opening
     ensures { (w : Walk) → started_of result w ≡ start_deselect (client_of f w) }
 {
     starts(f, Phase::Select(Search::Parting), Id::none(), 0, Id::none())
 }
 
-#[tactic(auto, unfolding(crate::specs::Start::start_deselect))]
 pub fn start_deselect(c: Client) -> Started
     ensures { result ≡ start_deselect c }
 {
-    open_deselect(c.front()).started(c.walk)
+    by_value(c, |f| open_deselect(f))
 }
 
 // Attach to the only pod on the wire.
+#[tactic(auto, using(crate::proofs::Ways::begins), unfolding(crate::specs::Start::start_attach))]
 pub fn open_attach(f: Front) -> Opening
     ensures { (w : Walk) → started_of result w ≡ start_attach (client_of f w) }
 {
@@ -102,15 +110,14 @@ pub fn open_attach(f: Front) -> Opening
     )
 }
 
-#[tactic(auto, unfolding(crate::specs::Start::start_attach))]
 pub fn start_attach(c: Client) -> Started
     ensures { result ≡ start_attach c }
 {
-    open_attach(c.front()).started(c.walk)
+    by_value(c, |f| open_attach(f))
 }
 
 // Attach to the one pod whose id begins with a prefix.
-#[tactic(auto, unfolding(crate::specs::Start::start_attach_to))]
+#[tactic(auto, using(crate::proofs::Ways::begins), unfolding(crate::specs::Start::start_attach_to))]
 pub fn open_attach_to(f: Front, prefix: &[u8]) -> Opening
     ensures { (w : Walk) → started_of result w ≡ start_attach_to (client_of f w) prefix.now }
 {
@@ -126,11 +133,10 @@ pub fn open_attach_to(f: Front, prefix: &[u8]) -> Opening
     )
 }
 
-#[tactic(auto, unfolding(crate::specs::Start::start_attach_to))]
 pub fn start_attach_to(c: Client, prefix: &[u8]) -> Started
     ensures { result ≡ start_attach_to c prefix.now }
 {
-    open_attach_to(c.front(), prefix).started(c.walk)
+    by_value(c, |f| open_attach_to(f, prefix))
 }
 
 // Find every pod whose id begins with a prefix.
@@ -150,11 +156,10 @@ pub fn open_discover(f: Front, prefix: &[u8]) -> Opening
     )
 }
 
-#[tactic(auto, unfolding(crate::specs::Start::start_discover))]
 pub fn start_discover(c: Client, prefix: &[u8]) -> Started
     ensures { result ≡ start_discover c prefix.now }
 {
-    open_discover(c.front(), prefix).started(c.walk)
+    by_value(c, |f| open_discover(f, prefix))
 }
 
 // Ask for the device information.
@@ -165,11 +170,10 @@ pub fn open_info(f: Front) -> Opening
     demands(f, Phase::Demand(Job::Informing(Purpose::Tell)))
 }
 
-#[tactic(auto, unfolding(crate::specs::Start::start_info))]
 pub fn start_info(c: Client) -> Started
     ensures { result ≡ start_info c }
 {
-    open_info(c.front()).started(c.walk)
+    by_value(c, |f| open_info(f))
 }
 
 // Erase the whole app region.
@@ -180,11 +184,10 @@ pub fn open_erase(f: Front) -> Opening
     demands(f, Phase::Demand(Job::Informing(Purpose::Clear)))
 }
 
-#[tactic(auto, unfolding(crate::specs::Start::start_erase))]
 pub fn start_erase(c: Client) -> Started
     ensures { result ≡ start_erase c }
 {
-    open_erase(c.front()).started(c.walk)
+    by_value(c, |f| open_erase(f))
 }
 
 // Flash an image. The host lends an image of this length to each call until the flash has ended.
@@ -195,11 +198,10 @@ pub fn open_flash(f: Front, image: &[u8]) -> Opening
     demands(f, Phase::Demand(Job::Informing(Purpose::Load(image.len()))))
 }
 
-#[tactic(auto, unfolding(crate::specs::Start::start_flash))]
 pub fn start_flash(c: Client, image: &[u8]) -> Started
     ensures { result ≡ start_flash c image.now }
 {
-    open_flash(c.front(), image).started(c.walk)
+    by_value(c, |f| open_flash(f, image))
 }
 
 // In the bootloader the reply is awaited. Otherwise the operation ends when the request is handed out.
@@ -226,11 +228,10 @@ pub fn open_reset(f: Front, bootloader: bool, in_boot: bool) -> Opening
     resets(f, reset, in_boot)
 }
 
-#[tactic(auto, unfolding(crate::specs::Start::start_reset))]
 pub fn start_reset(c: Client, bootloader: bool, in_boot: bool) -> Started
     ensures { result ≡ start_reset c bootloader in_boot }
 {
-    open_reset(c.front(), bootloader, in_boot).started(c.walk)
+    by_value(c, |f| open_reset(f, bootloader, in_boot))
 }
 
 // Store a baud for the bootloader, then reset.
@@ -246,9 +247,8 @@ pub fn open_set_baud(f: Front, baud: u8, bootloader: bool, in_boot: bool) -> Ope
     resets(f, reset, in_boot)
 }
 
-#[tactic(auto, unfolding(crate::specs::Start::start_set_baud))]
 pub fn start_set_baud(c: Client, baud: u8, bootloader: bool, in_boot: bool) -> Started
     ensures { result ≡ start_set_baud c baud bootloader in_boot }
 {
-    open_set_baud(c.front(), baud, bootloader, in_boot).started(c.walk)
+    by_value(c, |f| open_set_baud(f, baud, bootloader, in_boot))
 }
