@@ -1,4 +1,5 @@
--- A lemma for each way through the client's functions, with the facts known there as its premises.
+-- Lemmas for the ways through the client's functions that the check does not find alone, with the facts known there as
+-- their premises.
 use Prim.Native.Nat.{ℕ}
 use mathlib.Core.Bool.{false}
 use mathlib.Core.Path.{◌≡◌, ◌∙◌}

@@ -1,4 +1,5 @@
--- A lemma for each way through the handling of a record, with the facts known there as its premises.
+-- Lemmas for the ways through the handling of a record that the check does not find alone, with the facts known there as
+-- their premises.
 -- Some premises are only there for the search. A callee's result that appears only in facts over every walk is found by
 -- its range.
 use Prim.Native.Nat.{ℕ, ◌<◌}

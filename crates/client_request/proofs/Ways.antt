@@ -1,4 +1,5 @@
--- A lemma for each way through the functions for a request, with the facts known there as its premises.
+-- Lemmas for the ways through the functions for a request that the check does not find alone, with the facts known there
+-- as their premises.
 use Rattle.std.proofs.Common.{◌≡◌, ℕ, Bool, true, false, cond, ltb, List, ◌++◌, length, drop, refl, ap, ◌∙◌}
 use Rattle.ids.specs.declared.Id.{Id}
 use Rattle.ids.specs.Ids.{no_id}

@@ -1,4 +1,4 @@
--- Lemmas for the functions that load and save a client: one for each path through the code.
+-- Lemmas for the functions that save a client, and the length of each part.
 use Prim.Native.Nat.{ℕ, ◌≤◌}
 use mathlib.Core.List.{List, [], ◌∷◌, ◌++◌}
 use mathlib.Core.Path.{◌≡◌, refl, ◌∙◌}
