@@ -6,7 +6,7 @@ ghost use Rattle.client_record.specs.Answer.{goes, tells};
 
 use client::{Front, Job, Phase, Refusal, Says, Verdict};
 use client_job::{Next, Then};
-use hearing::Answered;
+use hearing::NoReply;
 
 // The verdict for what is next. The unread rest begins at the place given.
 #[tactic(auto, unfolding(crate::specs::Answer::goes))]
@@ -25,14 +25,14 @@ fn goes(f: Front, next: Next, at: usize) -> Verdict
 pub fn tells(f: Front, job: Job, image: &[u8], bytes: &[u8]) -> Verdict
     ensures { (w : Walk) → told_of result w ≡ tells (client_of f w) job image.now bytes.now }
 {
-    let a = hearing::answer(bytes);
-    match a {
-        Answered::Lost => f.stops(Says::Refused(Refusal::Io), bytes.len()),
-        Answered::Device(status, end) => goes(f, client_job::declined(job, status), end),
-        Answered::Ok(from, len, end) => {
-            let to = from + len;
+    match hearing::answer(bytes) {
+        Ok(reply) => {
+            let from = reply.payload;
+            let to = from + reply.len;
             let next = client_job::accepted(job, &bytes[from..to], image);
-            goes(f, next, end)
+            goes(f, next, reply.end)
         }
+        Err(NoReply::Device(status, end)) => goes(f, client_job::declined(job, status), end),
+        Err(NoReply::Lost) => f.stops(Says::Refused(Refusal::Io), bytes.len()),
     }
 }

@@ -7,7 +7,7 @@ use native.Mathlib.Omega.{arith}
 use lib.ListN.{length, drop}
 use lib.Dec.{eqb}
 use borrow.Author.Tests.{eq-eqb, ne_eqb}
-use Rattle.std.specs.Prelude.{Result, Err}
+use Rattle.std.specs.Prelude.{Result, Ok, Err}
 use Rattle.paper.specs.Frame as PaperFrame
 use Rattle.paper.specs.Frame.{read, short, too_long, bad_check, whole, status-CrcMismatch}
 use Rattle.paper.specs.Answers as PaperAnswers
@@ -16,8 +16,9 @@ use Rattle.reader.specs.declared.Frame.{Frame}
 use Rattle.reader.specs.declared.Unread.{Unread}
 use Rattle.reader.specs.declared.Unread.TheVariants.{Short, TooLong}
 use Rattle.reader.specs.Shown.{frame_at, shown_from}
-use Rattle.hearing.specs.declared.Answered.{Answered}
-use Rattle.hearing.specs.declared.Answered.TheVariants.{Lost, Device, Ok}
+use Rattle.hearing.specs.declared.Reply.{Reply}
+use Rattle.hearing.specs.declared.NoReply.{NoReply}
+use Rattle.hearing.specs.declared.NoReply.TheVariants.{Lost, Device}
 use Rattle.hearing.specs.Heard.{replied_by, shown_answer}
 use Rattle.hearing.proofs.Shows.{Shows, read_as, shows, end_is, end_after, inside}
 
@@ -73,6 +74,9 @@ module _ (right : Bool) (bytes : List ℕ) (at : ℕ) (x : Result Frame Unread) 
         go zero h q = absurd (omega (arith, inside right bytes at x e f c, end_after bytes at f right found))
         go (suc n) h q = sym (next n ∙ simp (ne_eqb _ _ z)) ∙ q
 
+abbrev reply_at : ℕ → ℕ → ℕ → Reply
+reply_at from len end = record { payload = from; len = len; end = end }
+
 -- The code's answer of a frame is the paper's. The payload is between the head and the check.
 replied-shown : (at : ℕ) (f : PaperFrame.Frame)
     → replied_by (frame_at at f) ≡ shown_answer (answered (reply_of f) (at + PaperFrame.size f))
@@ -82,15 +86,15 @@ replied-shown at f = go (eqb f.status 1)
     place : (at n : ℕ) → at + 10 ≡ at + (12 + n) - (2 + n)
     place at n = omega arith
 
-    go : (b : Bool) → cond b (Ok (at + 10) (length f.payload) (at + PaperFrame.size f))
-        (Device f.status (at + PaperFrame.size f))
+    go : (b : Bool) → cond b (Ok (reply_at (at + 10) (length f.payload) (at + PaperFrame.size f)))
+        (Err (Device f.status (at + PaperFrame.size f)))
         ≡ shown_answer (answered (cond b (ok f.payload) (device f.status)) (at + PaperFrame.size f))
-    go true = ap (λ (i : ℕ). Ok i (length f.payload) (at + PaperFrame.size f)) (place at (length f.payload))
+    go true = ap (λ (i : ℕ). Ok (reply_at i (length f.payload) (at + PaperFrame.size f))) (place at (length f.payload))
     go false = refl
 
 module _ (bytes : List ℕ) (at : ℕ) (x : Result Frame Unread) (e : x ≡ shown_from at (read (drop at bytes)))
     (r : Reach bytes at) where
-  pub answers-whole : (f : Frame) → x ≡ read_as true f → (f.status ≡ 0 → ⊥) → (a : Answered) → a ≡ replied_by f
+  pub answers-whole : (f : Frame) → x ≡ read_as true f → (f.status ≡ 0 → ⊥) → (a : Result Reply NoReply) → a ≡ replied_by f
       → a ≡ shown_answer (answer bytes)
   answers-whole f c z a ea =
       let s = found true bytes at x e f c in
@@ -101,7 +105,7 @@ module _ (bytes : List ℕ) (at : ℕ) (x : Result Frame Unread) (e : x ≡ show
       ∙ ap shown_answer (halted true bytes at x e f c r z)
 
   pub answers-bad : (f : Frame) → x ≡ read_as false f → (f.status ≡ 0 → ⊥)
-      → Device 3 f.end ≡ shown_answer (answer bytes)
+      → Err (Device 3 f.end) ≡ shown_answer (answer bytes)
   answers-bad f c z = ap shown_answer (halted false bytes at x e f c r z)
 
 -- The readings without a frame: too long, or short.
@@ -110,7 +114,7 @@ lost_as true = Err TooLong
 lost_as false = Err Short
 
 pub ended : (long : Bool) (bytes : List ℕ) (at : ℕ) (x : Result Frame Unread) → x ≡ shown_from at (read (drop at bytes))
-    → Reach bytes at → x ≡ lost_as long → Lost ≡ shown_answer (answer bytes)
+    → Reach bytes at → x ≡ lost_as long → Err Lost ≡ shown_answer (answer bytes)
 unfolding answer_from
 ended long bytes at x e r c = ap shown_answer (go long (read (drop at bytes)) refl (sym e ∙ c) r.left r.same)
   where

@@ -1,5 +1,5 @@
 -- What is heard in a record, and the answer to a request, as values of the code.
-use Rattle.std.specs.Prelude.{ℕ, ◌+◌, ◌-◌, ◌≤◌, Bool, true, false, cond, List, ltb, eqb, length, take, drop}
+use Rattle.std.specs.Prelude.{ℕ, ◌+◌, ◌-◌, ◌≤◌, Bool, true, false, cond, List, Result, Ok, Err, ltb, eqb, length, take, drop}
 use Rattle.paper.specs.Hearing as PaperHearing
 use Rattle.paper.specs.Hearing.{longest, nothing, one, unaddressed, garble}
 use Rattle.paper.specs.Answers as PaperAnswers
@@ -11,8 +11,9 @@ use Rattle.hearing.specs.declared.Heard.TheVariants.{Nothing, TooLong, Unaddress
 use Rattle.hearing.specs.declared.Hearing.{Hearing}
 use Rattle.hearing.specs.declared.Replies.{Replies}
 use Rattle.hearing.specs.declared.Replies.TheVariants.{None, Several}
-use Rattle.hearing.specs.declared.Answered.{Answered}
-use Rattle.hearing.specs.declared.Answered.TheVariants.{Lost, Device, Ok}
+use Rattle.hearing.specs.declared.Reply.{Reply}
+use Rattle.hearing.specs.declared.NoReply.{NoReply}
+use Rattle.hearing.specs.declared.NoReply.TheVariants.{Lost, Device}
 
 -- A result for each case of what is heard.
 abbrev pub on_heard {ℓ} : {A : Type ℓ} → Heard → A → A → A → A → A → A
@@ -65,11 +66,13 @@ shown_heard unaddressed = heard_as Unaddressed
 shown_heard garble = heard_as Garble
 
 -- The answer of a whole frame that is no echo.
-unfoldable pub replied_by : Frame → Answered
-replied_by f = cond (eqb f.status 1) (Ok f.payload f.len f.end) (Device f.status f.end)
+unfoldable pub replied_by : Frame → Result Reply NoReply
+replied_by f =
+    cond (eqb f.status 1) (Ok (record { payload = f.payload; len = f.len; end = f.end })) (Err (Device f.status f.end))
 
 -- The paper's answer as a value of the code. The payload ends two bytes before the frame does, at its check.
-abbrev pub shown_answer : PaperAnswers.Answer → Answered
-shown_answer lost = Lost
-shown_answer (answered (ok payload) end) = Ok (end - (2 + length payload)) (length payload) end
-shown_answer (answered (device status) end) = Device status end
+abbrev pub shown_answer : PaperAnswers.Answer → Result Reply NoReply
+shown_answer lost = Err Lost
+shown_answer (answered (ok payload) end) =
+    Ok (record { payload = end - (2 + length payload); len = length payload; end = end })
+shown_answer (answered (device status) end) = Err (Device status end)

@@ -35,13 +35,20 @@ pub enum Replies {
     Several,
 }
 
-// The answer to a request other than a Select. Lost: no frame answers. Device: a status other than Ok (3 for a bad
-// check), and the end of the frame. Ok: where the payload begins, its length, and the end of the frame.
+// A reply with status Ok: where its payload begins in the record, the payload's length, and the end of the frame.
 #[derive(Clone, Copy)]
-pub enum Answered {
+pub struct Reply {
+    pub payload: usize,
+    pub len: usize,
+    pub end: usize,
+}
+
+// Why a request other than a Select has no such reply. Lost: no frame answers. Device: a status other than Ok (3 for a
+// bad check), and the end of the frame.
+#[derive(Clone, Copy)]
+pub enum NoReply {
     Lost,
     Device(u8, usize),
-    Ok(usize, usize, usize),
 }
 
 // Something heard without an id.
@@ -53,6 +60,7 @@ pub fn heard_as(heard: Heard) -> Hearing
 }
 
 // The replies after one more frame. An echo (a frame of status Request) is no reply.
+#[tactic(auto, unfolding(crate::specs::Heard::noted))]
 pub fn noted(replies: Replies, f: Frame) -> Replies
     ensures { result ≡ noted replies f }
 {
@@ -67,6 +75,7 @@ pub fn noted(replies: Replies, f: Frame) -> Replies
 }
 
 // The hearing of one reply with status Ok, whose payload is the id.
+#[tactic(auto, unfolding(crate::specs::Heard::one_heard))]
 fn one_heard(bytes: &[u8], at: usize, len: usize) -> Hearing
     requires { at + len ≤ length bytes.now }
     ensures { result ≡ one_heard (take len (drop at bytes.now)) }
@@ -83,6 +92,7 @@ fn one_heard(bytes: &[u8], at: usize, len: usize) -> Hearing
 }
 
 // What is heard once every frame of the record is read.
+#[tactic(auto, unfolding(crate::specs::Heard::concluded))]
 fn concluded(bytes: &[u8], replies: Replies) -> Hearing
     requires { Within bytes.now replies }
     ensures { result ≡ concluded bytes.now replies }
@@ -123,13 +133,12 @@ pub fn hear(bytes: &[u8]) -> Hearing
 }
 
 // The answer to a request: that of the first frame that is no echo.
-pub fn answer(bytes: &[u8]) -> Answered
+pub fn answer(bytes: &[u8]) -> Result<Reply, NoReply>
     ensures { result ≡ shown_answer (answer bytes.now) }
 {
     let mut at = 0;
-    let found = loop {
-        let r = reader::read(bytes, at);
-        match r {
+    loop {
+        match reader::read(bytes, at) {
             Ok(f) => {
                 if f.status != wire::REQUEST {
                     break replied(f);
@@ -138,25 +147,29 @@ pub fn answer(bytes: &[u8]) -> Answered
             }
             Err(Unread::BadCheck(bad)) => {
                 if bad.status != wire::REQUEST {
-                    break Answered::Device(wire::CRC_MISMATCH, bad.end);
+                    break Err(NoReply::Device(wire::CRC_MISMATCH, bad.end));
                 }
                 at = bad.end;
             }
-            Err(Unread::Short) => break Answered::Lost,
-            Err(Unread::TooLong) => break Answered::Lost,
+            Err(Unread::Short) => break Err(NoReply::Lost),
+            Err(Unread::TooLong) => break Err(NoReply::Lost),
         }
-    };
-    found
+    }
 }
 
 // The answer of a whole frame that is no echo.
-fn replied(f: Frame) -> Answered
+#[tactic(auto, unfolding(crate::specs::Heard::replied_by))]
+fn replied(f: Frame) -> Result<Reply, NoReply>
     ensures { result ≡ replied_by f }
 {
     if f.status != wire::OK {
-        return Answered::Device(f.status, f.end);
+        return Err(NoReply::Device(f.status, f.end));
     }
-    Answered::Ok(f.payload, f.len, f.end)
+    Ok(Reply {
+        payload: f.payload,
+        len: f.len,
+        end: f.end,
+    })
 }
 
 // The unread rest of the lent record; empty if the place is past the end.
@@ -171,14 +184,9 @@ pub fn rest(bytes: &[u8], at: usize) -> &[u8]
 }
 
 // Whether an id over 16 bytes was heard.
+#[tactic(auto, unfolding(crate::specs::Heard::is_long))]
 pub fn is_long(h: Heard) -> bool
     ensures { result ≡ is_long h }
 {
-    match h {
-        Heard::Nothing => false,
-        Heard::One => false,
-        Heard::TooLong => true,
-        Heard::Unaddressed => false,
-        Heard::Garble => false,
-    }
+    matches!(h, Heard::TooLong)
 }

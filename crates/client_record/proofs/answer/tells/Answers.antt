@@ -9,11 +9,11 @@ overflow_add-to c = search (payload-fits, rules)
 pub slice_bounds-accepted-end : goal.slice_bounds-accepted-end
 slice_bounds-accepted-end c = search (payload-within, rules)
 
-pub returns-in-Lost : goal.returns-in-Lost
-returns-in-Lost c = search (tells-lost, rules)
+pub returns-in-Err-Lost : goal.returns-in-Err-Lost
+returns-in-Err-Lost c = search (tells-lost, rules)
 
-pub returns-in-Device : goal.returns-in-Device
-returns-in-Device c = search (tells-device, rules)
+pub returns-in-Err-Device : goal.returns-in-Err-Device
+returns-in-Err-Device c = search (tells-device, rules)
 
 pub returns-in-Ok : goal.returns-in-Ok
 returns-in-Ok c = search (tells-ok, rules)
