@@ -4,7 +4,7 @@ use Rattle.paper.specs.Hearing.{hear}
 use Rattle.ids.specs.declared.Id.{Id}
 use Rattle.ids.specs.Ids.{no_id}
 use Rattle.hearing.specs.declared.Heard.{Heard}
-use Rattle.hearing.specs.Heard.{on_heard, shown_heard}
+use Rattle.hearing.specs.Heard.{on_heard, kind_of, id_in, shown_heard}
 use Rattle.walk_table.specs.Rows.{no_table}
 use Rattle.walk.specs.declared.Walk.{Walk}
 use Rattle.walk.specs.declared.Phase as Walk
@@ -87,7 +87,7 @@ hears c s h x at =
 unfoldable pub answered_to : Client → Phase → List ℕ → List ℕ → Told
 answered_to c p image bytes =
     on_phase p
-    (λ s. hears c s (shown_heard (hear bytes)).heard (shown_heard (hear bytes)).id (length bytes))
+    (λ s. hears c s (kind_of (shown_heard (hear bytes))) (id_in (shown_heard (hear bytes))) (length bytes))
     (λ j. tells c j image bytes)
     (λ reset. stops c (Over Outcome.Quiet) (length bytes))
 

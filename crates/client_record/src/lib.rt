@@ -7,6 +7,7 @@ pub mod answer;
 
 ghost use Rattle.std.specs.Prelude.{◌≡◌, true, false};
 ghost use Rattle.paper.specs.Answers.{rest};
+ghost use Rattle.hearing.specs.Heard.{kind_of, id_in};
 ghost use Rattle.walk_table.specs.declared.Table.{Table};
 ghost use Rattle.walk.specs.declared.Walk.{Walk};
 ghost use Rattle.walk.specs.Moves.{walk_of};
@@ -17,7 +18,7 @@ ghost use Rattle.client_record.specs.Record.{attaches, stop_of, met, backed, wal
 ghost use Rattle.client_record.specs.Record.{record', link_failed};
 
 use client::{Change, Client, Front, Outcome, Phase, Refusal, Says, Search, Told, Turn, Verdict};
-use hearing::Heard;
+use hearing::Hearing;
 use ids::Id;
 use walk::{Place, Walk};
 use walk_step::{End, Move};
@@ -47,26 +48,26 @@ fn stop_of(end: End) -> Says
 
 // Handles what an attach heard.
 #[tactic(auto, unfolding(crate::specs::Record::met))]
-fn met(f: Front, given: bool, h: Heard, id: Id, at: usize) -> Verdict
-    ensures { (w : Walk) → told_of result w ≡ met (client_of f w) given h id at }
+fn met(f: Front, given: bool, h: Hearing, at: usize) -> Verdict
+    ensures { (w : Walk) → told_of result w ≡ met (client_of f w) given (kind_of h) (id_in h) at }
 {
     let prefix = f.prefix;
     match h {
-        Heard::Nothing => {
+        Hearing::Nothing => {
             if given {
                 return f.over(Says::Refused(Refusal::NoSuchUid), prefix, false, at);
             }
             f.stops(Says::Refused(Refusal::NoDevice), at)
         }
-        Heard::One => attaches(f, true, id, at),
-        Heard::TooLong => f.stops(Says::Refused(Refusal::LongId), at),
-        Heard::Unaddressed => {
+        Hearing::One(id) => attaches(f, true, id, at),
+        Hearing::TooLong => f.stops(Says::Refused(Refusal::LongId), at),
+        Hearing::Unaddressed => {
             if given {
                 return f.stops(Says::Refused(Refusal::NotAddressable), at);
             }
             attaches(f, false, Id::none(), at)
         }
-        Heard::Garble => f.stays(Phase::Select(Search::Backing(given)), at),
+        Hearing::Garble => f.stays(Phase::Select(Search::Backing(given)), at),
     }
 }
 
@@ -109,27 +110,28 @@ fn walked(f: Front, step: Result<Move, End>, at: usize) -> Verdict
 
 // Handles what a plain select heard.
 #[tactic(auto, unfolding(crate::specs::Record::probed))]
-fn probed(f: Front, h: Heard, id: Id, at: usize) -> Verdict
-    ensures { (w : Walk) → told_of result w ≡ probed (client_of f w) h id at }
+fn probed(f: Front, h: Hearing, at: usize) -> Verdict
+    ensures { (w : Walk) → told_of result w ≡ probed (client_of f w) (kind_of h) (id_in h) at }
 {
-    if hearing::is_long(h) {
+    let kind = h.kind();
+    if hearing::is_long(kind) {
         return f.stops(Says::Refused(Refusal::LongId), at);
     }
-    f.over(Says::Over(Outcome::Heard(h)), id, false, at)
+    f.over(Says::Over(Outcome::Heard(kind)), h.id(), false, at)
 }
 
 // Handles what a Select heard, by what it was for.
 #[tactic(auto, unfolding(crate::specs::Record::hears))]
-fn hears(f: Front, p: Place, count: usize, search: Search, h: Heard, id: Id, at: usize) -> Verdict
+fn hears(f: Front, p: Place, count: usize, search: Search, h: Hearing, at: usize) -> Verdict
     ensures { (t : Table) → t.count ≡ count
-        → told_of result (walk_of p t) ≡ hears (client_of f (walk_of p t)) search h id at }
+        → told_of result (walk_of p t) ≡ hears (client_of f (walk_of p t)) search (kind_of h) (id_in h) at }
 {
     match search {
-        Search::Probing => probed(f, h, id, at),
+        Search::Probing => probed(f, h, at),
         Search::Parting => f.cleared().stops(Says::Over(Outcome::Quiet), at),
-        Search::Seeking(given) => met(f, given, h, id, at),
+        Search::Seeking(given) => met(f, given, h, at),
         Search::Backing(given) => backed(f, given, at),
-        Search::Walking(q) => walked(f, walk_step::step(p, count, q, h, id), at),
+        Search::Walking(q) => walked(f, walk_step::step(p, count, q, h), at),
     }
 }
 
@@ -141,10 +143,8 @@ fn answered(f: Front, p: Place, count: usize, phase: Phase, image: &[u8], bytes:
 {
     match phase {
         Phase::Select(search) => {
-            let x = hearing::hear(bytes);
-            let h = x.heard;
-            let id = x.id;
-            hears(f, p, count, search, h, id, bytes.len())
+            let h = hearing::hear(bytes);
+            hears(f, p, count, search, h, bytes.len())
         }
         Phase::Demand(job) => crate::answer::tells(f, job, image, bytes),
         Phase::Leave(_) => f.stops(Says::Over(Outcome::Quiet), bytes.len()),

@@ -3,7 +3,7 @@
 #![tactic(auto)]
 
 use frame::Head;
-use hearing::Heard;
+use hearing::Hearing;
 use std::io;
 use wire::Written;
 
@@ -38,19 +38,17 @@ fn print_heard(out: &impl Print, bytes: &[u8], n: usize) -> io::Result<()> {
         return Ok(());
     }
     let h = hearing::hear(&bytes[0..n]);
-    let kind = h.heard;
-    match kind {
-        Heard::Nothing => show::print(out, b"  heard: nothing\n"),
-        Heard::One => {
-            let id = h.id;
+    match h {
+        Hearing::Nothing => show::print(out, b"  heard: nothing\n"),
+        Hearing::One(id) => {
             let x = id.bytes;
             show::print(out, b"  heard: one ")?;
             show::print_front(out, &x, id.size())?;
             show::print(out, b"\n")
         }
-        Heard::TooLong => show::print(out, b"  heard: too long\n"),
-        Heard::Unaddressed => show::print(out, b"  heard: unaddressed\n"),
-        Heard::Garble => show::print(out, b"  heard: garble\n"),
+        Hearing::TooLong => show::print(out, b"  heard: too long\n"),
+        Hearing::Unaddressed => show::print(out, b"  heard: unaddressed\n"),
+        Hearing::Garble => show::print(out, b"  heard: garble\n"),
     }
 }
 

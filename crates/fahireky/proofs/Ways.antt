@@ -8,6 +8,7 @@ use Rattle.wire.specs.declared.Written.{Written}
 use Rattle.text.specs.declared.Parsed.{Parsed}
 use Rattle.text.specs.Texts as Texts
 use Rattle.hearing.specs.declared.Hearing.{Hearing}
+use Rattle.hearing.specs.Heard.{kind_of, id_in}
 use Rattle.walk_table.specs.declared.Table.{Table}
 use Rattle.walk.specs.declared.Walk.{Walk}
 use Rattle.walk.specs.declared.Place.{Place}
@@ -121,17 +122,17 @@ module _ (X : Hearing) (a : List ℕ) (k n : ℕ) (en : n ≡ State.size) (e : k
   pub hears-short : (k ≡ 0 → ⊥) → record { code = k; bytes = a } ≡ hears_out X a
   unfolding hears_out
   hears-short h = lent-short State.size (length a) k unlent (λ (code : ℕ). record { code = code; bytes = a })
-      (shows (said_of X.heard) X.id a) h
+      (shows (said_of (kind_of X)) (id_in X) a) h
 
-  pub hears-is : (x : Hearing) (w : Says) (r : Coded) → k ≡ 0 → x ≡ X → w ≡ said_of x.heard → r ≡ shows w x.id a
+  pub hears-is : (x : Hearing) (w : Says) (r : Coded) → k ≡ 0 → x ≡ X → w ≡ said_of (kind_of x) → r ≡ shows w (id_in x) a
       → r ≡ hears_out X a
   unfolding hears_out
   hears-is x w r z ex ew er =
       er
-      ∙ ap (λ (v : Says). shows v x.id a) ew
-      ∙ ap (λ (y : Hearing). shows (said_of y.heard) y.id a) ex
+      ∙ ap (λ (v : Says). shows v (id_in x) a) ew
+      ∙ ap (λ (y : Hearing). shows (said_of (kind_of y)) (id_in y) a) ex
       ∙ lent-enough State.size (length a) (λ (code : ℕ). record { code = code; bytes = a })
-      (shows (said_of X.heard) X.id a) (state-room State.size (length a) k unlent z)
+      (shows (said_of (kind_of X)) (id_in X) a) (state-room State.size (length a) k unlent z)
       (answer-room State.size (length a) k unlent z)
 
 -- Ids, texts and keys.

@@ -228,10 +228,8 @@ pub fn fahireky_hear(bytes: &[u8], answer: &mut [u8]) -> u64
     if short != 0 {
         return short;
     }
-    let x = hearing::hear(bytes);
-    let h = x.heard;
-    let id = x.id;
-    host_buffers::shows(host_buffers::said_of(h), id, answer)
+    let h = hearing::hear(bytes);
+    host_buffers::shows(host_buffers::said_of(h.kind()), h.id(), answer)
 }
 
 // The place where the unread rest of a record begins, at most its length.

@@ -21,10 +21,10 @@ use Rattle.reader.specs.declared.Frame.{Frame}
 use Rattle.reader.specs.declared.Unread.{Unread}
 use Rattle.reader.specs.Shown.{frame_at, shown_from}
 use Rattle.hearing.specs.declared.Hearing.{Hearing}
-use Rattle.hearing.specs.declared.Heard.TheVariants.{Unaddressed, Garble}
+use Rattle.hearing.specs.declared.Hearing.TheVariants.{Unaddressed, Garble}
 use Rattle.hearing.specs.declared.Replies.{Replies}
 use Rattle.hearing.specs.declared.Replies.TheVariants.{None, One, Several}
-use Rattle.hearing.specs.Heard.{Within, on_replies, heard_as, one_heard, noted, concluded, shown_heard}
+use Rattle.hearing.specs.Heard.{Within, on_replies, one_heard, noted, concluded, shown_heard}
 use Rattle.hearing.proofs.Shows.{Shows, shows, end_is, inside}
 
 -- The code's replies, and the paper's replies that they represent.
@@ -74,7 +74,7 @@ unfolding concluded replies_heard
 stands-concluded no-reply = refl
 stands-concluded (one-reply p f es w eb) = rw (es, eb) (go (eqb p.status 1) (eqb p.status 2))
   where
-    go : (a b : Bool) → cond a (one_heard p.payload) (cond b (heard_as Unaddressed) (heard_as Garble))
+    go : (a b : Bool) → cond a (one_heard p.payload) (cond b Unaddressed Garble)
         ≡ shown_heard (cond a (one p.payload) (cond b unaddressed garble))
     go true b = refl
     go false true = refl
@@ -146,14 +146,14 @@ module _ (bytes : List ℕ) (at : ℕ) (rs : Replies) (h : at < length bytes) (r
           }
 
   module _ (x : Result Frame Unread) (e : x ≡ shown_from at (read (drop at bytes))) where
-    pub hears-unfit : Unfit x → (g : Hearing) → g ≡ heard_as Garble → g ≡ shown_heard (hear bytes)
+    pub hears-unfit : Unfit x → (g : Hearing) → g ≡ Garble → g ≡ shown_heard (hear bytes)
     hears-unfit u g q = q ∙ ap shown_heard (unclean (unfit-unclean at (read (drop at bytes)) (rw e at u)))
 
     module _ (f : Frame) (c : x ≡ Ok f) where
       found : Shows bytes at f true
       found = shows true bytes at x e f c
 
-      pub hears-skipped : (f.payload ≡ at + 10 → ⊥) → (g : Hearing) → g ≡ heard_as Garble → g ≡ shown_heard (hear bytes)
+      pub hears-skipped : (f.payload ≡ at + 10 → ⊥) → (g : Hearing) → g ≡ Garble → g ≡ shown_heard (hear bytes)
       unfolding clean
       hears-skipped z g q = q ∙ ap shown_heard (unclean (rw (found.came, ne_eqb _ _ moved)))
         where

@@ -4,11 +4,12 @@ use Rattle.paper.specs.Hearing as PaperHearing
 use Rattle.paper.specs.Hearing.{longest, nothing, one, unaddressed, garble}
 use Rattle.paper.specs.Answers as PaperAnswers
 use Rattle.paper.specs.Answers.{lost, answered, ok, device}
+use Rattle.ids.specs.declared.Id.{Id}
 use Rattle.ids.specs.Ids.{no_id, id_from}
 use Rattle.reader.specs.declared.Frame.{Frame}
 use Rattle.hearing.specs.declared.Heard.{Heard}
-use Rattle.hearing.specs.declared.Heard.TheVariants.{Nothing, TooLong, Unaddressed, Garble}
 use Rattle.hearing.specs.declared.Hearing.{Hearing}
+use Rattle.hearing.specs.declared.Hearing.TheVariants.{Nothing, TooLong, Unaddressed, Garble}
 use Rattle.hearing.specs.declared.Replies.{Replies}
 use Rattle.hearing.specs.declared.Replies.TheVariants.{None, Several}
 use Rattle.hearing.specs.declared.Reply.{Reply}
@@ -17,11 +18,27 @@ use Rattle.hearing.specs.declared.NoReply.TheVariants.{Lost, Device}
 
 -- A result for each case of what is heard.
 abbrev pub on_heard {ℓ} : {A : Type ℓ} → Heard → A → A → A → A → A → A
-on_heard Nothing n o t u g = n
+on_heard Heard.Nothing n o t u g = n
 on_heard Heard.One n o t u g = o
-on_heard TooLong n o t u g = t
-on_heard Unaddressed n o t u g = u
-on_heard Garble n o t u g = g
+on_heard Heard.TooLong n o t u g = t
+on_heard Heard.Unaddressed n o t u g = u
+on_heard Heard.Garble n o t u g = g
+
+-- The kind of what is heard.
+abbrev pub kind_of : Hearing → Heard
+kind_of Nothing = Heard.Nothing
+kind_of (Hearing.One x) = Heard.One
+kind_of TooLong = Heard.TooLong
+kind_of Unaddressed = Heard.Unaddressed
+kind_of Garble = Heard.Garble
+
+-- The id heard, or no id.
+abbrev pub id_in : Hearing → Id
+id_in Nothing = no_id
+id_in (Hearing.One x) = x
+id_in TooLong = no_id
+id_in Unaddressed = no_id
+id_in Garble = no_id
 
 -- Whether an id over 16 bytes was heard.
 unfoldable pub is_long : Heard → Bool
@@ -37,33 +54,29 @@ on_replies Several none this many = many
 abbrev pub Within : List ℕ → Replies → Type 0
 Within bytes r = on_replies r (Unit {0}) (λ f. f.payload + f.len ≤ length bytes) (Unit {0})
 
--- Something heard without an id.
-abbrev pub heard_as : Heard → Hearing
-heard_as h = record { heard = h; id = no_id }
-
 -- The replies after one more frame. An echo (status 0) is no reply.
 unfoldable pub noted : Replies → Frame → Replies
 noted r f = cond (eqb f.status 0) r (on_replies r (Replies.One f) (λ g. Several) Several)
 
 -- One reply with status Ok, whose payload is the id. An id of over 16 bytes is too long.
 unfoldable pub one_heard : List ℕ → Hearing
-one_heard id = cond (ltb longest (length id)) (heard_as TooLong) (record { heard = Heard.One; id = id_from id })
+one_heard id = cond (ltb longest (length id)) TooLong (Hearing.One (id_from id))
 
 -- What is heard once every frame of the record is read.
 unfoldable pub concluded : List ℕ → Replies → Hearing
 concluded bytes r =
-    on_replies r (heard_as Nothing)
+    on_replies r Nothing
     (λ f.
     cond (eqb f.status 1) (one_heard (take f.len (drop f.payload bytes)))
-    (cond (eqb f.status 2) (heard_as Unaddressed) (heard_as Garble)))
-    (heard_as Garble)
+    (cond (eqb f.status 2) Unaddressed Garble))
+    Garble
 
 -- What the paper hears, as a value of the code.
 abbrev pub shown_heard : PaperHearing.Heard → Hearing
-shown_heard nothing = heard_as Nothing
+shown_heard nothing = Nothing
 shown_heard (one id) = one_heard id
-shown_heard unaddressed = heard_as Unaddressed
-shown_heard garble = heard_as Garble
+shown_heard unaddressed = Unaddressed
+shown_heard garble = Garble
 
 -- The answer of a whole frame that is no echo.
 unfoldable pub replied_by : Frame → Result Reply NoReply

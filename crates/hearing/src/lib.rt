@@ -4,13 +4,24 @@
 ghost use Rattle.std.specs.Prelude.{◌≡◌, ◌+◌, ◌≤◌, length, take, drop};
 ghost use Rattle.paper.specs.Hearing.{hear};
 ghost use Rattle.paper.specs.Answers.{answer, rest};
-ghost use Rattle.hearing.specs.Heard.{is_long, Within, heard_as, noted, one_heard, concluded, shown_heard, replied_by};
+ghost use Rattle.hearing.specs.Heard.{is_long, Within, kind_of, id_in, noted, one_heard, concluded, shown_heard, replied_by};
 ghost use Rattle.hearing.specs.Heard.{shown_answer};
 
 use ids::Id;
 use reader::{Frame, Unread};
 
 // What one Select heard. An id over 16 bytes is TooLong.
+#[derive(Clone, Copy)]
+pub enum Hearing {
+    Nothing,
+    One(Id),
+    TooLong,
+    Unaddressed,
+    Garble,
+}
+
+// Its kind. An answer to a host has the kind and the id apart, and says_back of
+// crates/host_theory/proofs/BuffersRead.antt reads the kind back without the id.
 #[derive(Clone, Copy)]
 pub enum Heard {
     Nothing,
@@ -20,14 +31,8 @@ pub enum Heard {
     Garble,
 }
 
-// What one Select heard, with the id for One and no id otherwise.
-#[derive(Clone, Copy)]
-pub struct Hearing {
-    pub heard: Heard,
-    pub id: Id,
-}
-
 // The replies among the frames read so far.
+// Kept as an enum of its own: an Option in a Result says three cases in two types, and is no plainer.
 #[derive(Clone, Copy)]
 pub enum Replies {
     None,
@@ -51,12 +56,28 @@ pub enum NoReply {
     Device(u8, usize),
 }
 
-// Something heard without an id.
-pub fn heard_as(heard: Heard) -> Hearing
-    ensures { result ≡ heard_as heard }
-{
-    let id = Id::none();
-    Hearing { heard, id }
+impl Hearing {
+    pub fn kind(self) -> Heard
+        ensures { result ≡ kind_of self }
+    {
+        match self {
+            Hearing::Nothing => Heard::Nothing,
+            Hearing::One(_) => Heard::One,
+            Hearing::TooLong => Heard::TooLong,
+            Hearing::Unaddressed => Heard::Unaddressed,
+            Hearing::Garble => Heard::Garble,
+        }
+    }
+
+    // The id heard, or no id.
+    pub fn id(self) -> Id
+        ensures { result ≡ id_in self }
+    {
+        match self {
+            Hearing::One(id) => id,
+            _ => Id::none(),
+        }
+    }
 }
 
 // The replies after one more frame. An echo (a frame of status Request) is no reply.
@@ -81,14 +102,10 @@ fn one_heard(bytes: &[u8], at: usize, len: usize) -> Hearing
     ensures { result ≡ one_heard (take len (drop at bytes.now)) }
 {
     if ids::MAX_BYTES < len {
-        return heard_as(Heard::TooLong);
+        return Hearing::TooLong;
     }
     let e = at + len;
-    let id = Id::of(&bytes[at..e]);
-    Hearing {
-        heard: Heard::One,
-        id,
-    }
+    Hearing::One(Id::of(&bytes[at..e]))
 }
 
 // What is heard once every frame of the record is read.
@@ -98,16 +115,16 @@ fn concluded(bytes: &[u8], replies: Replies) -> Hearing
     ensures { result ≡ concluded bytes.now replies }
 {
     match replies {
-        Replies::None => heard_as(Heard::Nothing),
-        Replies::Several => heard_as(Heard::Garble),
+        Replies::None => Hearing::Nothing,
+        Replies::Several => Hearing::Garble,
         Replies::One(f) => {
             if f.status == wire::OK {
                 return one_heard(bytes, f.payload, f.len);
             }
             if f.status == wire::UNSUPPORTED {
-                return heard_as(Heard::Unaddressed);
+                return Hearing::Unaddressed;
             }
-            heard_as(Heard::Garble)
+            Hearing::Garble
         }
     }
 }
@@ -121,10 +138,10 @@ pub fn hear(bytes: &[u8]) -> Hearing
     while at < bytes.len() {
         let r = reader::read(bytes, at);
         let Ok(f) = r else {
-            return heard_as(Heard::Garble);
+            return Hearing::Garble;
         };
         if f.payload != at + 10 {
-            return heard_as(Heard::Garble);
+            return Hearing::Garble;
         }
         replies = noted(replies, f);
         at = f.end;

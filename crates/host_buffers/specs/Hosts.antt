@@ -5,7 +5,7 @@ use Rattle.ids.specs.Ids.{no_id}
 use Rattle.walk_table.specs.Rows.{no_table}
 use Rattle.hearing.specs.declared.Heard.{Heard}
 use Rattle.hearing.specs.declared.Hearing.{Hearing}
-use Rattle.hearing.specs.Heard.{is_long}
+use Rattle.hearing.specs.Heard.{is_long, kind_of, id_in}
 use Rattle.client.specs.declared.Client.{Client}
 use Rattle.client.specs.declared.Outcome.TheVariants as Outcome
 use Rattle.client.specs.declared.Refusal.TheVariants.{LongId}
@@ -97,4 +97,4 @@ said_of h = cond (is_long h) (Refused LongId) (Over (Outcome.Heard h))
 
 unfoldable pub hears_out : Hearing → List ℕ → Coded
 hears_out x a = lent State.size (length a) (λ code. record { code = code; bytes = a })
-    (shows (said_of x.heard) x.id a)
+    (shows (said_of (kind_of x)) (id_in x) a)

@@ -19,7 +19,7 @@ use Rattle.theory.proofs.frames.FramesReadBack.{bytes-append}
 use Rattle.ids.specs.Ids.{with_one, set_bit, id_from}
 use Rattle.ids.proofs.Shift.{or-shl}
 use Rattle.ids.specs.Paths.{cut}
-use Rattle.hearing.specs.Heard.{one_heard, shown_heard}
+use Rattle.hearing.specs.Heard.{id_in, kind_of, one_heard, shown_heard}
 use Rattle.hearing.specs.declared.Hearing.{Hearing}
 use Rattle.host_state.specs.State.{Array, IdFits}
 use Rattle.host_state.proofs.Laws.{zero-bytes, no-id-fits}
@@ -73,14 +73,14 @@ id-from-fits id short h = record {
 }
 
 -- The id heard in some bytes.
-pub heard-fits : (bytes : List ℕ) → Bytes bytes → IdFits (shown_heard (hear bytes)).id
+pub heard-fits : (bytes : List ℕ) → Bytes bytes → IdFits (id_in (shown_heard (hear bytes)))
 unfolding one_heard
 heard-fits bytes h = go (hear bytes) (heard-bytes bytes h)
   where
-    go : (x : Paper.Heard) → Telling Bytes x → IdFits (shown_heard x).id
+    go : (x : Paper.Heard) → Telling Bytes x → IdFits (id_in (shown_heard x))
     go nothing t = no-id-fits
     go (one id) t =
-        chosen (λ (x : Hearing). IdFits x.id) (ltb 16 (length id)) _ _ (λ e. no-id-fits)
+        chosen (λ (x : Hearing). IdFits (id_in x)) (ltb 16 (length id)) _ _ (λ e. no-id-fits)
         (λ e. id-made-fits id (ltb-false 16 (length id) e) t)
     go unaddressed t = no-id-fits
     go garble t = no-id-fits

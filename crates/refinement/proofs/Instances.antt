@@ -18,7 +18,7 @@ use Rattle.theory.proofs.walk.StatesFit as StatesFit
 use Rattle.theory.proofs.walk.StatesFit.{Short}
 use Rattle.theory.proofs.Instances.{ids, found, under, pods}
 use Rattle.ids.specs.Ids.{no_id}
-use Rattle.hearing.specs.Heard.{shown_heard}
+use Rattle.hearing.specs.Heard.{kind_of, id_in, shown_heard}
 use Rattle.walk_table.specs.Rows.{row, sorted}
 use Rattle.walk.specs.declared.Phase.TheVariants.{Mine}
 use Rattle.walk.specs.Moves as Moves
@@ -110,8 +110,8 @@ confirming-fits = record {
 }
 
 pub step-sim-met :
-    Steps.step (walk_of confirming) Mine (shown_heard (one (0xC1 ∷ 0x87 ∷ []))).heard
-    (shown_heard (one (0xC1 ∷ 0x87 ∷ []))).id
+    Steps.step (walk_of confirming) Mine (kind_of (shown_heard (one (0xC1 ∷ 0x87 ∷ []))))
+    (id_in (shown_heard (one (0xC1 ∷ 0x87 ∷ []))))
     ≡ next_of (step confirming (one (0xC1 ∷ 0x87 ∷ [])))
 step-sim-met = step-sim confirming (one (0xC1 ∷ 0x87 ∷ [])) confirming-fits
 

@@ -14,7 +14,7 @@ use Rattle.theory.specs.ClientMachine as Machine
 use Rattle.theory.specs.ClientMachine.{Turn, idle, ready, waiting}
 use Rattle.ids.specs.declared.Id.{Id}
 use Rattle.ids.specs.Ids.{no_id, id_from}
-use Rattle.hearing.specs.Heard.{shown_heard}
+use Rattle.hearing.specs.Heard.{id_in, kind_of, shown_heard}
 use Rattle.walk_table.specs.declared.Table.{Table}
 use Rattle.walk_table.specs.Rows.{no_table}
 use Rattle.walk.specs.declared.Walk.{Walk}
@@ -192,7 +192,7 @@ refused_as n carries =
 
 abbrev pub ended_as : Option (ℕ × ℕ) → PaperTalk.Outcome → Shown
 ended_as p quiet = making (Over Outcome.Quiet) p
-ended_as p (heard h) = beside (Over (Outcome.Heard (shown_heard h).heard)) (shown_heard h).id
+ended_as p (heard h) = beside (Over (Outcome.Heard (kind_of (shown_heard h)))) (id_in (shown_heard h))
 ended_as p (attached id) = beside (Over (Outcome.Attached (is_there id))) (value_of id)
 ended_as p (found ids) = record { says = Over Outcome.Found; progress = None; id = no_id; found = table_of ids }
 ended_as p (knows info) = making (Over (Outcome.Knows (code_info info))) p

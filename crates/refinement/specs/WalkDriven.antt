@@ -4,7 +4,7 @@ use Rattle.paper.specs.Hearing as Paper
 use Rattle.paper.specs.Hearing.{Prefix}
 use Rattle.paper.specs.Walk.{Wire}
 use Rattle.ids.specs.Ids.{no_id}
-use Rattle.hearing.specs.Heard.{shown_heard}
+use Rattle.hearing.specs.Heard.{id_in, kind_of, shown_heard}
 use Rattle.walk.specs.declared.Walk.{Walk}
 use Rattle.walk.specs.declared.Phase.{Phase}
 use Rattle.walk.specs.declared.Phase.TheVariants.{Asked}
@@ -20,7 +20,7 @@ abbrev pub bits_asked : Ask → Prefix
 bits_asked a = asked a.bits a.count
 
 abbrev pub told : Walk → Phase → Paper.Heard → Next
-told w p h = step w p (shown_heard h).heard (shown_heard h).id
+told w p h = step w p (kind_of (shown_heard h)) (id_in (shown_heard h))
 
 abbrev pub on_goes {ℓ} : {A : Type ℓ} → Goes → (Phase → A) → A → A
 on_goes (On p) on ended = on p

@@ -2,16 +2,15 @@
 // A step depends on how many ids the list holds, and not on the list.
 #![tactic(auto)]
 
-ghost use Rattle.std.specs.Prelude.{◌≡◌, ◌≤◌, false, Ok, Err};
-ghost use Rattle.hearing.specs.Heard.{on_heard};
+ghost use Rattle.std.specs.Prelude.{◌≡◌, ◌≤◌};
+ghost use Rattle.hearing.specs.Heard.{kind_of, id_in};
 ghost use Rattle.walk_table.specs.declared.Table.{Table};
 ghost use Rattle.walk.specs.Moves.{walk_of};
 ghost use Rattle.walk_step.specs.Steps.{going, descend, leave, silent, kept, confirming, hears, mine, other};
 ghost use Rattle.walk_step.specs.Steps.{settled, tell, step};
-ghost use Rattle.walk_step.specs.declared.End.TheVariants.{LongId};
 ghost use Rattle.walk_step.specs.Joined.{joined};
 
-use hearing::Heard;
+use hearing::Hearing;
 use ids::Id;
 use walk::{Phase, Place};
 
@@ -67,28 +66,19 @@ fn descend(p: Place) -> Result<Move, End>
     on(Phase::Asked, p.lower())
 }
 
-// Whether a child confirms the candidate. The answer is the parameter `nothing` if nothing was heard, `one` if an id
-// was heard, and no otherwise. An id over 16 bytes ends the walk with 14.
-fn holds(h: Heard, nothing: bool, one: bool) -> Result<bool, End>
-    ensures { result ≡ on_heard h (Ok nothing) (Ok one) (Err LongId) (Ok false) (Ok false) }
-{
-    match h {
-        Heard::Nothing => Ok(nothing),
-        Heard::One => Ok(one),
-        Heard::TooLong => Err(End::LongId),
-        Heard::Unaddressed => Ok(false),
-        Heard::Garble => Ok(false),
-    }
-}
-
 // The candidate's own child was asked for. The other child is next, whether or not the candidate was heard again.
 #[tactic(auto, unfolding(crate::specs::Joined::joined, crate::specs::Steps::mine))]
-fn mine(p: Place, h: Heard, id: Id) -> Result<Move, End>
-    ensures { (t : Table) → joined result t ≡ mine (walk_of p t) h id }
+fn mine(p: Place, h: Hearing) -> Result<Move, End>
+    ensures { (t : Table) → joined result t ≡ mine (walk_of p t) (kind_of h) (id_in h) }
 {
     let x = p.candidate;
-    let good = holds(h, false, id.same(x))?;
-    on(Phase::Other(good), p)
+    match h {
+        Hearing::Nothing => on(Phase::Other(false), p),
+        Hearing::One(id) => on(Phase::Other(id.same(x)), p),
+        Hearing::TooLong => Err(End::LongId),
+        Hearing::Unaddressed => on(Phase::Other(false), p),
+        Hearing::Garble => on(Phase::Other(false), p),
+    }
 }
 
 impl Spot {
@@ -149,22 +139,23 @@ impl Spot {
 
     // The path was asked for.
     #[tactic(auto, unfolding(crate::specs::Joined::joined, crate::specs::Steps::hears))]
-    fn hears(self, h: Heard, id: Id) -> Result<Move, End>
-        ensures { (t : Table) → t.count ≡ self.count → joined result t ≡ hears (walk_of self.place t) h id }
+    fn hears(self, h: Hearing) -> Result<Move, End>
+        ensures { (t : Table) → t.count ≡ self.count
+            → joined result t ≡ hears (walk_of self.place t) (kind_of h) (id_in h) }
     {
         let p = self.place;
         match h {
-            Heard::Nothing => self.silent(),
-            Heard::One => {
+            Hearing::Nothing => self.silent(),
+            Hearing::One(id) => {
                 let path = p.path;
                 if ids::path::begins(id, path, p.depth) {
                     return self.confirming(id);
                 }
                 descend(p)
             }
-            Heard::TooLong => Err(End::LongId),
-            Heard::Unaddressed => Err(End::Unaddressed),
-            Heard::Garble => descend(p),
+            Hearing::TooLong => Err(End::LongId),
+            Hearing::Unaddressed => Err(End::Unaddressed),
+            Hearing::Garble => descend(p),
         }
     }
 
@@ -186,21 +177,28 @@ impl Spot {
 
     // The other child was asked for. The candidate holds if it was heard again in its own child and this one is silent.
     #[tactic(auto, unfolding(crate::specs::Joined::joined, crate::specs::Steps::other))]
-    fn other(self, good: bool, h: Heard) -> Result<Move, End>
-        ensures { (t : Table) → t.count ≡ self.count → joined result t ≡ other (walk_of self.place t) good h }
+    fn other(self, good: bool, h: Hearing) -> Result<Move, End>
+        ensures { (t : Table) → t.count ≡ self.count
+            → joined result t ≡ other (walk_of self.place t) good (kind_of h) }
     {
-        let held = holds(h, good, false)?;
-        self.settled(held)
+        match h {
+            Hearing::Nothing => self.settled(good),
+            Hearing::One(_) => self.settled(false),
+            Hearing::TooLong => Err(End::LongId),
+            Hearing::Unaddressed => self.settled(false),
+            Hearing::Garble => self.settled(false),
+        }
     }
 
     // The step by what the Select was for.
     #[tactic(auto, unfolding(crate::specs::Joined::joined, crate::specs::Steps::tell, crate::specs::Steps::done, walk_table::specs::Rows::giving))]
-    fn tell(self, phase: Phase, h: Heard, id: Id) -> Result<Move, End>
-        ensures { (t : Table) → t.count ≡ self.count → joined result t ≡ tell (walk_of self.place t) phase h id }
+    fn tell(self, phase: Phase, h: Hearing) -> Result<Move, End>
+        ensures { (t : Table) → t.count ≡ self.count
+            → joined result t ≡ tell (walk_of self.place t) phase (kind_of h) (id_in h) }
     {
         match phase {
-            Phase::Asked => self.hears(h, id),
-            Phase::Mine => mine(self.place, h, id),
+            Phase::Asked => self.hears(h),
+            Phase::Mine => mine(self.place, h),
             Phase::Other(good) => self.other(good, h),
             Phase::Leaving => Ok(Move::Done),
         }
@@ -209,8 +207,8 @@ impl Spot {
 
 // The step of any walk. One with over 128 levels or 64 ids, which no calls lead to, ends with 12.
 #[tactic(auto, unfolding(crate::specs::Joined::joined, crate::specs::Steps::step))]
-pub fn step(p: Place, count: usize, phase: Phase, h: Heard, id: Id) -> Result<Move, End>
-    ensures { (t : Table) → t.count ≡ count → joined result t ≡ step (walk_of p t) phase h id }
+pub fn step(p: Place, count: usize, phase: Phase, h: Hearing) -> Result<Move, End>
+    ensures { (t : Table) → t.count ≡ count → joined result t ≡ step (walk_of p t) phase (kind_of h) (id_in h) }
 {
     if ids::MAX_BITS < p.depth {
         return Err(End::DuplicateUid);
@@ -219,5 +217,5 @@ pub fn step(p: Place, count: usize, phase: Phase, h: Heard, id: Id) -> Result<Mo
         return Err(End::DuplicateUid);
     }
     let spot = Spot { place: p, count };
-    spot.tell(phase, h, id)
+    spot.tell(phase, h)
 }

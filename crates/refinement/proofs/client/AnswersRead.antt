@@ -28,6 +28,7 @@ use Rattle.theory.proofs.talk.JobSteps.{Ends, told-leads}
 use Rattle.ids.specs.Ids.{id_of}
 use Rattle.ids.proofs.Laws.{id-of-from}
 use Rattle.hearing.specs.declared.Hearing.{Hearing}
+use Rattle.hearing.specs.Heard.{kind_of, id_in}
 use Rattle.walk_table.specs.declared.Entry.{Entry}
 use Rattle.walk_table.specs.Rows.{rows}
 use Rattle.client.specs.Numbers.{number_of, carried_by, ids_of, heard_from, progress_of, end_of, says_of}
@@ -166,7 +167,7 @@ unfolding says_of end_of heard_from progress_of
 outcome-read quiet f = quiet_read none
 outcome-read (heard nothing) f = refl
 outcome-read (heard (one x)) f =
-    ap (λ (r : Hearing). over none (heard (heard_from r.heard r.id))) (told x f)
+    ap (λ (r : Hearing). over none (heard (heard_from (kind_of r) (id_in r)))) (told x f)
     ∙ ap (λ (y : Paper.Id). over none (heard (one y))) (id-of-from x (short-of x f))
 outcome-read (heard unaddressed) f = refl
 outcome-read (heard garble) f = refl

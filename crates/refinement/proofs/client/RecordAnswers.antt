@@ -27,9 +27,9 @@ use Rattle.theory.proofs.walk.StatesFit as StatesFit
 use Rattle.theory.proofs.walk.StatesFit.{Held}
 use Rattle.theory.proofs.client.ClientsFit.{FitsSearch, FitsPhase, FitsTurn, Fits}
 use Rattle.ids.specs.Ids.{id_from}
-use Rattle.hearing.specs.declared.Heard.TheVariants.{One, TooLong}
+use Rattle.hearing.specs.declared.Hearing.TheVariants.{One, TooLong}
 use Rattle.hearing.specs.declared.Hearing.{Hearing}
-use Rattle.hearing.specs.Heard.{heard_as, one_heard, shown_heard}
+use Rattle.hearing.specs.Heard.{id_in, kind_of, one_heard, shown_heard}
 use Rattle.walk_table.specs.Rows.{no_table}
 use Rattle.walk_step.specs.Steps.{Next}
 use Rattle.walk_step.specs.Steps as Steps
@@ -84,7 +84,7 @@ module _ (seed : ℕ) (id : Option Paper.Id) (at : ℕ) where
 
   -- The code's answer to what is heard in a search, and the machine's.
   abbrev answers : Search → Paper.Heard → Told
-  answers s h = Code.hears (code s) (search_in s) (shown_heard h).heard (shown_heard h).id at
+  answers s h = Code.hears (code s) (search_in s) (kind_of (shown_heard h)) (id_in (shown_heard h)) at
 
   abbrev settles : Search → Option Paper.Id → Then → Told
   settles s x t = told_as (settle (out s x) none t at)
@@ -99,7 +99,7 @@ module _ (seed : ℕ) (id : Option Paper.Id) (at : ℕ) where
 
       go : (b : Bool)
           → cond b (stops c (Refused LongId) at)
-          (over c (Over (Outcome.Heard (shown_heard h).heard)) (shown_heard h).id no_table at)
+          (over c (Over (Outcome.Heard (kind_of (shown_heard h)))) (id_in (shown_heard h)) no_table at)
           ≡ settles (probing bytes bits) id (cond b (refuses 14 []) (ends (heard h)))
       go true = refl
       go false = refl
@@ -125,9 +125,9 @@ module _ (seed : ℕ) (id : Option Paper.Id) (at : ℕ) where
       c = code (seeking uid)
 
       said : Bool → Hearing
-      said b = cond b (heard_as TooLong) (record { heard = One; id = id_from x })
+      said b = cond b TooLong (One (id_from x))
 
-      go : (b : Bool) → Code.met c (is_there uid) (said b).heard (said b).id at
+      go : (b : Bool) → Code.met c (is_there uid) (kind_of (said b)) (id_in (said b)) at
           ≡ settles (seeking uid) id (cond b (refuses 14 []) (sought uid (one x)))
       go true = refl
       go false = refl

@@ -22,9 +22,10 @@ use Rattle.ids.specs.Ids.{set_bit, no_id, id_from}
 use Rattle.ids.proofs.Laws.{id-of-from}
 use Rattle.ids.proofs.Pack.{pack_one}
 use Rattle.ids.specs.Paths.{cut}
-use Rattle.hearing.specs.declared.Heard.TheVariants.{One, TooLong}
+use Rattle.hearing.specs.declared.Heard.TheVariants as Heard
+use Rattle.hearing.specs.declared.Hearing.TheVariants.{One, TooLong}
 use Rattle.hearing.specs.declared.Hearing.{Hearing}
-use Rattle.hearing.specs.Heard.{is_long, heard_as, one_heard, shown_heard}
+use Rattle.hearing.specs.Heard.{id_in, is_long, kind_of, one_heard, shown_heard}
 use Rattle.walk_table.specs.declared.Table.{Table}
 use Rattle.walk_table.specs.Rows.{keep}
 use Rattle.walk.specs.declared.Walk.{Walk}
@@ -167,7 +168,7 @@ module _ (pre : Prefix) where
         rw (id-of-from id s, lt-ltb (length (path pre marks)) (8 * length id) n)
 
     one-sim : (id : Paper.Id) → Short id
-        → Code.hears (standing_at pre marks ids no_id) One (id_from id) ≡ next_of (hears pre marks ids (one id))
+        → Code.hears (standing_at pre marks ids no_id) Heard.One (id_from id) ≡ next_of (hears pre marks ids (one id))
     unfolding Code.hears hears
     one-sim id s = rw (packed-read 16 (path pre marks) h, id-of-from id s) (go (matches (path pre marks) id))
       where
@@ -190,19 +191,19 @@ pub short-of : (x : Paper.Id) → long (one x) ≡ false → Short x
 unfolding long
 short-of x e = ltb-false 16 (length x) e
 
-pub told : (x : Paper.Id) → long (one x) ≡ false → one_heard x ≡ record { heard = One; id = id_from x }
+pub told : (x : Paper.Id) → long (one x) ≡ false → one_heard x ≡ One (id_from x)
 unfolding long one_heard
 told x e = rw e
 
 -- An id that is too long ends the walk.
-heard-one : (x : Paper.Id) (f : Hearing → Next) (m : Machine.Next) → f (heard_as TooLong) ≡ Code.stopped LongId
-    → (Short x → f (record { heard = One; id = id_from x }) ≡ next_of m)
+heard-one : (x : Paper.Id) (f : Hearing → Next) (m : Machine.Next) → f TooLong ≡ Code.stopped LongId
+    → (Short x → f (One (id_from x)) ≡ next_of m)
     → f (one_heard x) ≡ next_of (cond (long (one x)) (ended (stopped 14)) m)
 unfolding long one_heard
 heard-one x f m e g = go (ltb 16 (length x)) refl
   where
     go : (b : Bool) → ltb 16 (length x) ≡ b
-        → f (cond b (heard_as TooLong) (record { heard = One; id = id_from x })) ≡ next_of (cond b (ended (stopped 14)) m)
+        → f (cond b TooLong (One (id_from x))) ≡ next_of (cond b (ended (stopped 14)) m)
     go true t = e
     go false t = g (ltb-false 16 (length x) t)
 
@@ -212,12 +213,12 @@ module _ (pre : Prefix) (marks : Marks) (ids : List Paper.Id) (d : length (path 
   abbrev steps : Phase → Paper.Heard → Machine.Next
   steps phase h = cond (too_long phase h) (ended (stopped 14)) (tell pre marks ids phase h)
 
-  hears-sim : (h : Paper.Heard) → Code.hears (standing_at pre marks ids no_id) (shown_heard h).heard (shown_heard h).id
+  hears-sim : (h : Paper.Heard) → Code.hears (standing_at pre marks ids no_id) (kind_of (shown_heard h)) (id_in (shown_heard h))
       ≡ next_of (steps asked h)
   unfolding Code.hears hears too_long tell long
   hears-sim nothing = silent-sim pre ids marks d
   hears-sim (one x) =
-      heard-one x (λ (r : Hearing). Code.hears (standing_at pre marks ids no_id) r.heard r.id)
+      heard-one x (λ (r : Hearing). Code.hears (standing_at pre marks ids no_id) (kind_of r) (id_in r))
       (hears pre marks ids (one x)) refl (one-sim pre marks ids d x)
   hears-sim unaddressed = refl
   hears-sim garble = descend-sim pre ids marks
@@ -227,11 +228,11 @@ module _ (pre : Prefix) (marks : Marks) (ids : List Paper.Id) (d : length (path 
     holding = standing_at pre marks ids (id_from id)
 
     mine-sim : Short id → (h : Paper.Heard)
-        → Code.mine holding (shown_heard h).heard (shown_heard h).id ≡ next_of (steps (mine id) h)
+        → Code.mine holding (kind_of (shown_heard h)) (id_in (shown_heard h)) ≡ next_of (steps (mine id) h)
     unfolding Code.mine is_one too_long tell long
     mine-sim k nothing = refl
     mine-sim k (one x) =
-        heard-one x (λ (r : Hearing). Code.mine holding r.heard r.id) (tell pre marks ids (mine id) (one x)) refl
+        heard-one x (λ (r : Hearing). Code.mine holding (kind_of r) (id_in r)) (tell pre marks ids (mine id) (one x)) refl
         (λ l. ap (λ (b : Bool). Code.going (Other b) holding) (ap₂ same_id (id-of-from x l) (id-of-from id k)))
     mine-sim k unaddressed = refl
     mine-sim k garble = refl
@@ -242,18 +243,18 @@ module _ (pre : Prefix) (marks : Marks) (ids : List Paper.Id) (d : length (path 
     fails-sim false = settled-sim pre marks ids d id false
 
     other-sim : (good : Bool) (h : Paper.Heard)
-        → Code.other holding good (shown_heard h).heard ≡ next_of (steps (other id good) h)
+        → Code.other holding good (kind_of (shown_heard h)) ≡ next_of (steps (other id good) h)
     unfolding Code.other is_nothing too_long tell long
     other-sim true nothing = settled-sim pre marks ids d id true
     other-sim false nothing = settled-sim pre marks ids d id false
-    other-sim good (one x) = heard-one x (λ (r : Hearing). Code.other holding good r.heard)
+    other-sim good (one x) = heard-one x (λ (r : Hearing). Code.other holding good (kind_of r))
         (tell pre marks ids (other id good) (one x)) refl (λ l. fails-sim good)
     other-sim good unaddressed = fails-sim good
     other-sim good garble = fails-sim good
 
   tell-sim : (phase : Phase) (h : Paper.Heard) → Held (path pre marks) phase
-      → Code.tell (standing_at pre marks ids (candidate_of phase)) (phase_of phase) (shown_heard h).heard
-      (shown_heard h).id ≡ next_of (steps phase h)
+      → Code.tell (standing_at pre marks ids (candidate_of phase)) (phase_of phase) (kind_of (shown_heard h))
+      (id_in (shown_heard h)) ≡ next_of (steps phase h)
   unfolding Code.tell tell too_long Code.done
   tell-sim asked h w = hears-sim h
   tell-sim (mine id) h w = mine-sim id w.0 h
@@ -263,12 +264,12 @@ module _ (pre : Prefix) (marks : Marks) (ids : List Paper.Id) (d : length (path 
       ending : Table → Next
       ending t = record { goes = Done; walk = Moves.finding Moves.no_walk t }
 
-pub long-is : (h : Paper.Heard) → is_long (shown_heard h).heard ≡ long h
+pub long-is : (h : Paper.Heard) → is_long (kind_of (shown_heard h)) ≡ long h
 unfolding is_long long one_heard
 long-is nothing = refl
 long-is (one x) = go (ltb 16 (length x))
   where
-    go : (b : Bool) → is_long (cond b (heard_as TooLong) (record { heard = One; id = id_from x })).heard ≡ b
+    go : (b : Bool) → is_long (kind_of (cond b TooLong (One (id_from x)))) ≡ b
     go true = refl
     go false = refl
 long-is unaddressed = refl
@@ -276,7 +277,7 @@ long-is garble = refl
 
 -- One step.
 pub step-sim : (s : State) (h : Paper.Heard) → Fits s
-    → Code.step (walk_of s) (phase_of s.phase) (shown_heard h).heard (shown_heard h).id ≡ next_of (step s h)
+    → Code.step (walk_of s) (phase_of s.phase) (kind_of (shown_heard h)) (id_in (shown_heard h)) ≡ next_of (step s h)
 unfolding Code.step step table_of
 step-sim s h t =
     rw (le-leb (length (path s.pre s.marks)) 128 t.depth, le-leb (length s.ids) 64 t.few)
