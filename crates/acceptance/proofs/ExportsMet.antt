@@ -18,7 +18,7 @@ use Rattle.paper.specs.Talk.{walking, ◌>>=◌}
 use Rattle.paper.specs.Text.{uid_hex, parse_uid, unhex}
 use Rattle.paper.specs.Walk.{ask}
 use Rattle.lore.proofs.Choice.{either}
-use Rattle.text.specs.Texts.{written, parsed, bad_text}
+use Rattle.text.specs.Texts.{written, parsed}
 use Rattle.client.specs.declared.Started.{Started}
 use Rattle.client.specs.Clients.{running}
 use Rattle.client.specs.Numbers.{number_of, changes_no_state}
@@ -29,7 +29,7 @@ use Rattle.host_answer.specs.AnswerBytes as AnswerBytes
 use Rattle.host_state.specs.State as State
 use Rattle.host_state.specs.State.{loaded}
 use Rattle.host_answer.specs.Numbers.{note_of, refusal_note, refusing}
-use Rattle.host_buffers.specs.Codes.{coded, written_code, writes, read_as, read_uid}
+use Rattle.host_buffers.specs.Codes.{coded, written_code, writes, read_uid}
 use Rattle.host_buffers.specs.Hosts.{code_of, Requested, told_by, leaves, handed}
 use Rattle.host_buffers.specs.Exports as Export
 use Rattle.host_theory.specs.ExportedCalls.{exported, made, held, Lending, Fair, exports, read_from, Coded, behind}
@@ -123,7 +123,7 @@ text-untouched-met = text-untouched (replicate 17 0) (7 ∷ []) refused
     refused h = omega arith
 
 pub id-untouched-met : (Export.parse_uid (0x30 ∷ []) (7 ∷ [])).bytes ≡ 7 ∷ []
-unfolding parse_uid unhex parsed bad_text read_uid read_as coded
+unfolding parse_uid unhex parsed read_uid coded
 id-untouched-met = id-untouched (0x30 ∷ []) (7 ∷ []) refused
   where
     refused : (Export.parse_uid (0x30 ∷ []) (7 ∷ [])).code % 256 ≡ 0 → ⊥

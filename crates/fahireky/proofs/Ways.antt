@@ -3,9 +3,10 @@ use Prim.Native.Nat.{ℕ}
 use mathlib.Core.List.{List}
 use mathlib.Core.Path.{◌≡◌, sym, ◌∙◌, ap, subst}
 use lib.ListN.{length}
-use Rattle.std.specs.Prelude.{Option}
+use Rattle.std.specs.Prelude.{Option, Result}
+use Rattle.ids.specs.declared.Id.{Id}
 use Rattle.wire.specs.declared.Written.{Written}
-use Rattle.text.specs.declared.Parsed.{Parsed}
+use Rattle.text.specs.declared.BadText.{BadText}
 use Rattle.text.specs.Texts as Texts
 use Rattle.hearing.specs.declared.Hearing.{Hearing}
 use Rattle.hearing.specs.Heard.{kind_of, id_in}
@@ -141,7 +142,7 @@ pub writes-is : (o : Texts.Outcome) (w : Written) (b : List ℕ) (r : ℕ) → r
 unfolding writes
 writes-is o w b r eo er = rw er (ap writes eo)
 
-pub read_is : (p q : Parsed) (b : List ℕ) (r : Coded) → p ≡ q → r ≡ read_uid p b → r ≡ read_uid q b
+pub read_is : (p q : Result Id BadText) (b : List ℕ) (r : Coded) → p ≡ q → r ≡ read_uid p b → r ≡ read_uid q b
 read_is p q b r e er = rw e at er
 
 pub key-is : (x y : Option ℕ) (r : ℕ) → x ≡ y → r ≡ key_code x → r ≡ key_code y

@@ -1,12 +1,10 @@
 -- The codes that exported calls return: for answers, ids, texts and keys.
-use Rattle.std.specs.Prelude.{ℕ, Option, Some, None, ◌+◌, ◌*◌, ◌%◌, cond, List, ◌++◌, ltb, length, drop}
+use Rattle.std.specs.Prelude.{ℕ, Option, Some, None, Result, Ok, Err, ◌+◌, ◌*◌, ◌%◌, cond, List, ◌++◌, ltb, length, drop}
 use Rattle.ids.specs.declared.Id.{Id}
 use Rattle.ids.specs.Ids.{id_of}
 use Rattle.wire.specs.declared.Written.{Written}
 use Rattle.wire.specs.declared.Written.TheVariants.{Done, Short, TooLong}
-use Rattle.text.specs.declared.Parsed.{Parsed}
-use Rattle.text.specs.declared.Parse.{Parse}
-use Rattle.text.specs.declared.Parse.TheVariants.{Uid, BadText}
+use Rattle.text.specs.declared.BadText.{BadText}
 use Rattle.text.specs.Texts as Texts
 
 -- A code: the number in the low byte, the length above it. The length of every answer is below 2 ^ 56.
@@ -33,12 +31,9 @@ put_uid x out =
     (record { code = coded 16 (length (id_of x)); bytes = out })
     (record { code = coded 0 (length (id_of x)); bytes = id_of x ++ drop (length (id_of x)) out })
 
-unfoldable pub read_as : Parse → Id → List ℕ → Coded
-read_as Uid x out = put_uid x out
-read_as BadText x out = record { code = coded 22 0; bytes = out }
-
-unfoldable pub read_uid : Parsed → List ℕ → Coded
-read_uid p out = read_as p.answer p.id out
+unfoldable pub read_uid : Result Id BadText → List ℕ → Coded
+read_uid (Ok x) out = put_uid x out
+read_uid (Err bad) out = record { code = coded 22 0; bytes = out }
 
 -- A key, with bit 32 set to say that there is one.
 unfoldable pub key_code : Option ℕ → ℕ

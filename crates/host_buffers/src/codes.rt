@@ -3,7 +3,7 @@ ghost use Rattle.std.specs.Prelude.{◌≡◌};
 ghost use Rattle.host_buffers.specs.Codes.{coded, written_code, put_uid, read_uid, key_code};
 
 use ids::Id;
-use text::{Parse, Parsed};
+use text::BadText;
 use wire::Written;
 
 // A code: the number in the low byte, the length above it.
@@ -29,23 +29,20 @@ fn put_uid(x: Id, out: &mut [u8]) -> u64
     ensures { record { code = result; bytes = out.new } ≡ put_uid x out.old }
 {
     let n = x.size();
-    let b = x.bytes;
     if out.len() < n {
         return coded(16, n as u64);
     }
-    wire::copy(out, &b[..n]);
+    wire::copy(out, x.as_slice());
     coded(0, n as u64)
 }
 
 // The code of a text that was parsed; the id goes to the front of the buffer.
-pub fn read_uid(p: Parsed, out: &mut [u8]) -> u64
-    ensures { record { code = result; bytes = out.new } ≡ read_uid p out.old }
+pub fn read_uid(parsed: Result<Id, BadText>, out: &mut [u8]) -> u64
+    ensures { record { code = result; bytes = out.new } ≡ read_uid parsed out.old }
 {
-    let answer = p.answer;
-    let x = p.id;
-    match answer {
-        Parse::Uid => put_uid(x, out),
-        Parse::BadText => coded(22, 0),
+    match parsed {
+        Ok(x) => put_uid(x, out),
+        Err(BadText) => coded(22, 0),
     }
 }
 

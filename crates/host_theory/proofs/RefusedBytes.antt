@@ -9,12 +9,12 @@ use native.Mathlib.Omega.{arith}
 use lib.Dec.{ltb}
 use lib.ListN.{length}
 use borrow.Author.Tests.{ltb-false}
+use Rattle.std.specs.Prelude.{Result, Ok, Err}
 use Rattle.paper.specs.Text.{Written, wrote, refuses13, refuses16, uid_hex, parse_uid}
 use Rattle.lore.proofs.Choice.{by-test, either, clash}
 use Rattle.ids.specs.declared.Id.{Id}
 use Rattle.ids.specs.Ids.{id_of}
-use Rattle.text.specs.declared.Parse.{Parse}
-use Rattle.text.specs.declared.Parse.TheVariants.{Uid, BadText}
+use Rattle.text.specs.declared.BadText.{BadText}
 use Rattle.text.specs.Texts.{shown, written, parsed}
 use Rattle.client.specs.declared.Client.{Client}
 use Rattle.client.specs.declared.Outcome.{Outcome}
@@ -33,7 +33,7 @@ use Rattle.host_state.specs.State as State
 use Rattle.host_state.specs.State.{loaded}
 use Rattle.host_answer.specs.Numbers.{note_of, going, ending, refusing, outcome_note, refusal_note}
 use Rattle.host_answer.specs.AnswerBytes as AnswerBytes
-use Rattle.host_buffers.specs.Codes.{coded, Coded, written_code, writes, read_as, read_uid, put_uid}
+use Rattle.host_buffers.specs.Codes.{coded, Coded, written_code, writes, read_uid, put_uid}
 use Rattle.host_buffers.proofs.codes.Laws.{code-number}
 use Rattle.host_buffers.specs.Hosts.{code_of, lent, Requested, told_by, leaves, tells, starts, handed, asks, requests}
 use Rattle.host_buffers.specs.Exports as Export
@@ -235,10 +235,10 @@ text-untouched id text n = go (uid_hex id (length text)) n
 
 pub id-untouched : (text id : List ℕ) → ((Export.parse_uid text id).code % 256 ≡ 0 → ⊥)
     → (Export.parse_uid text id).bytes ≡ id
-unfolding read_uid read_as put_uid
-id-untouched text id = go (parsed (parse_uid text)).answer (parsed (parse_uid text)).id
+unfolding read_uid put_uid
+id-untouched text id = go (parsed (parse_uid text))
   where
-    go : (p : Parse) (x : Id) → ((read_as p x id).code % 256 ≡ 0 → ⊥) → (read_as p x id).bytes ≡ id
-    go Uid x = either (λ (c : Coded). (c.code % 256 ≡ 0 → ⊥) → c.bytes ≡ id) (ltb (length id) (length (id_of x)))
+    go : (p : Result Id BadText) → ((read_uid p id).code % 256 ≡ 0 → ⊥) → (read_uid p id).bytes ≡ id
+    go (Ok x) = either (λ (c : Coded). (c.code % 256 ≡ 0 → ⊥) → c.bytes ≡ id) (ltb (length id) (length (id_of x)))
         (λ n. refl) (λ n. absurd (n (code-number 0 (length (id_of x)) (omega arith))))
-    go BadText x = λ n. refl
+    go (Err bad) = λ n. refl

@@ -59,29 +59,27 @@ pub struct Fed {
 pub fn front(s: &[u8], n: usize) -> &[u8]
     ensures { result.now ≡ take n s.now }
 {
-    if n <= s.len() { &s[..n] } else { s }
+    &s[..n.min(s.len())]
 }
 
 // What a character is at a place in a line.
+#[tactic(auto, using(std::proofs::lemmas::Bool::Decides::nat_tests), unfolding(crate::specs::Reading::turn))]
 pub fn taken(p: Place, b: u8) -> Turn
     ensures { result ≡ turn p b }
 {
-    if b == 10 {
+    if b == b'\n' {
         return match p {
             Place::Start => Turn::Empty,
             Place::Even => Turn::Line,
             Place::Odd(_) => Turn::Bad,
         };
     }
-    let d = text::digit(b);
-    if d < 16 {
-        match p {
-            Place::Start => Turn::Half(d),
-            Place::Even => Turn::Half(d),
+    match text::digit(b) {
+        Some(d) => match p {
+            Place::Start | Place::Even => Turn::Half(d),
             Place::Odd(h) => Turn::Whole(h % 16 * 16 + d),
-        }
-    } else {
-        Turn::Bad
+        },
+        None => Turn::Bad,
     }
 }
 
@@ -98,27 +96,26 @@ pub fn halts(e: Event, joined: bool, over: bool) -> bool
 
 impl Reader {
     // Adds a byte to the buffer. If there is no room, only over is set.
+    #[tactic(auto, using(std::proofs::lemmas::Bool::Decides::nat_tests), unfolding(crate::specs::Reading::keep))]
     pub fn keep(self, v: u8, buf: &mut [u8]) -> Step
         ensures { record { step = result; bytes = buf.new } ≡ keep self v buf.old }
     {
-        let n = self.len;
-        if n < buf.len() {
-            buf[n] = v;
-            return Step {
-                reader: Reader {
-                    place: Place::Even,
-                    len: n + 1,
-                    over: self.over,
-                },
-                event: Event::More,
-            };
-        }
-        Step {
-            reader: Reader {
+        let reader = if self.len < buf.len() {
+            buf[self.len] = v;
+            Reader {
                 place: Place::Even,
-                len: n,
+                len: self.len + 1,
+                ..self
+            }
+        } else {
+            Reader {
+                place: Place::Even,
                 over: true,
-            },
+                ..self
+            }
+        };
+        Step {
+            reader,
             event: Event::More,
         }
     }
@@ -128,22 +125,17 @@ impl Reader {
         ensures { result ≡ record { reader = record { place = p; len = self.len; over = self.over }; event = e } }
     {
         Step {
-            reader: Reader {
-                place: p,
-                len: self.len,
-                over: self.over,
-            },
+            reader: Reader { place: p, ..self },
             event: e,
         }
     }
 
     // Reads one character.
+    #[tactic(auto, unfolding(crate::specs::Reading::step))]
     pub fn step(self, b: u8, buf: &mut [u8]) -> Step
         ensures { record { step = result; bytes = buf.new } ≡ step self buf.old b }
     {
-        let p = self.place;
-        let t = taken(p, b);
-        match t {
+        match taken(self.place, b) {
             Turn::Half(h) => self.at(Place::Odd(h), Event::More),
             Turn::Whole(v) => self.keep(v, buf),
             Turn::Line => self.at(Place::Start, Event::Line),
@@ -161,25 +153,21 @@ impl Reader {
         ensures { record { fed = result; bytes = buf.new }
             ≡ feed joined from self buf.old (drop from piece.now) }
     {
-        let mut w = self;
-        let mut i = from;
-        while i < piece.len() {
-            let s = w.step(piece[i], buf);
-            i += 1;
-            let r = s.reader;
-            let e = s.event;
-            if halts(e, joined, r.over) {
+        let mut reader = self;
+        for i in from..piece.len() {
+            let step = reader.step(piece[i], buf);
+            reader = step.reader;
+            if halts(step.event, joined, reader.over) {
                 return Fed {
-                    reader: r,
-                    at: i,
-                    event: e,
+                    reader,
+                    at: i + 1,
+                    event: step.event,
                 };
             }
-            w = r;
         }
         Fed {
-            reader: w,
-            at: i,
+            reader,
+            at: from.max(piece.len()),
             event: Event::More,
         }
     }

@@ -1,50 +1,28 @@
 -- Lemmas for each path through reading an id's text, from the facts that hold there.
-use Prim.Native.Nat.{ℕ, suc, ◌+◌, ◌-◌, ◌*◌, ◌/◌, ◌%◌, ◌<◌, ◌≤◌}
+use Prim.Native.Nat.{ℕ, suc, ◌+◌, ◌*◌, ◌/◌, ◌%◌, ◌<◌, ◌≤◌}
 use mathlib.Core.Bool.{Bool, true, false, cond, ◌&&◌}
 use mathlib.Core.List.{List, [], ◌∷◌, ◌++◌, append_assoc, append-nil}
 use mathlib.Core.Option.{Option, none, some}
-use mathlib.Core.Path.{◌≡◌, refl, sym, ◌∙◌, ap, ap₂}
+use mathlib.Core.Path.{◌≡◌, refl, sym, ◌∙◌, ap}
 use native.Mathlib.Decide.{dec_lt}
+use native.Mathlib.Nat.{add-zero}
 use native.Mathlib.Numerals.{add-one}
 use native.Mathlib.Omega.{arith}
 use lib.Dec.{ltb}
 use lib.ListN.{length, take, drop, get_or, set, replicate, take-append-drop, drop_of_length-le}
 use lib.Seq.{drop-cons, drop-drop, drop-set-lt, take-suc-set, length-take-le}
 use borrow.Author.Tests.{lt-leb, le-leb}
+use Rattle.std.specs.Option.{MatchOption, ok_or}
+use Rattle.std.specs.Prelude.{Option as Found, None, Some, Result, Ok, Err}
+use Rattle.std.specs.Simd.{first_chunks}
+use Rattle.lore.proofs.Chunks.{get_or-chunk}
 use Rattle.paper.specs.Hearing.{on_some}
 use Rattle.paper.specs.Text.{digit, unhex, parse_uid}
-use Rattle.paper.proofs.Hex.{digit-number, digit-upper, digit-small, digit-other, unhex-pair, unhex-bad-high}
-use Rattle.paper.proofs.Hex.{unhex-bad-low}
+use Rattle.paper.proofs.Hex.{unhex-pair, unhex-bad-high, unhex-bad-low}
 use Rattle.ids.proofs.Ways.{id-is}
 use Rattle.ids.specs.declared.Id.{Id}
-use Rattle.text.specs.declared.Parsed.{Parsed}
-use Rattle.text.specs.declared.Parse.TheVariants.{Uid}
-use Rattle.text.specs.Texts.{parsed, bad_text}
-
-module _ (c : ℕ) where
-  pub under-number : c < 48 → 16 ≡ digit c
-  under-number h = sym (digit-other c (λ l. omega arith) (λ l. omega arith) (λ l. omega arith))
-
-  pub number : 48 ≤ c → c < 58 → c - 48 ≡ digit c
-  number h g = sym (digit-number c h (omega arith))
-
-  pub under-upper : 58 ≤ c → c < 65 → 16 ≡ digit c
-  under-upper h g = sym (digit-other c (λ l. omega arith) (λ l. omega arith) (λ l. omega arith))
-
-  pub upper : 65 ≤ c → c < 71 → c - 55 ≡ digit c
-  upper h g = sym (digit-upper c h (omega arith))
-
-  pub under-small : 71 ≤ c → c < 97 → 16 ≡ digit c
-  under-small h g = sym (digit-other c (λ l. omega arith) (λ l. omega arith) (λ l. omega arith))
-
-  pub small : 97 ≤ c → c < 103 → c - 87 ≡ digit c
-  small h g = sym (digit-small c h (omega arith))
-
-  pub over-small : 103 ≤ c → 16 ≡ digit c
-  over-small h = sym (digit-other c (λ l. omega arith) (λ l. omega arith) (λ l. omega arith))
-
--- The value of a character, by the tests that it passes and fails.
-pub ruleset digits = (under-number, number, under-upper, upper, under-small, small, over-small)
+use Rattle.text.specs.declared.BadText.{BadText}
+use Rattle.text.specs.Texts.{parsed}
 
 -- The bytes read so far joined with those of the rest, or none if the rest cannot be read.
 abbrev pub Joined : List ℕ → Option (List ℕ) → Option (List ℕ)
@@ -70,92 +48,97 @@ unhex-odd (c ∷ d ∷ text) h = go (unhex-odd text (omega arith)) (ltb (digit c
     go e true = rw e
     go e false = refl
 
-not-even : (n : ℕ) → (n % 2 ≡ 0 → ⊥) → n % 2 ≡ 1
-not-even n h = go (dec_lt (n % 2) 1)
-  where
-    go : Dec (n % 2 < 1) → n % 2 ≡ 1
-    go (yes l) = absurd (h (omega arith))
-    go (no l) = omega arith
+-- What a digit that is read is, and what one that is not read is.
+abbrev pub Digit : Found ℕ → ℕ → Type 0
+Digit o c = MatchOption o (digit c ≡ 16) (λ v. (v ≡ digit c) × (v < 16))
 
-module _ (text : List ℕ) (r : Parsed) (bad : r ≡ bad_text) where
-  pub too-long : 32 < length text → r ≡ parsed (parse_uid text)
+pub bad_digit : (o : Found ℕ) (c : ℕ) (e : BadText) → Digit o c → Err e ≡ ok_or o (record {}) → digit c ≡ 16
+bad_digit None c e d q = d
+bad_digit (Some v) c e d q = cc
+
+pub good_digit : (o : Found ℕ) (c v : ℕ) → Digit o c → Ok v ≡ ok_or {E = BadText} o (record {})
+    → (v ≡ digit c) × (v < 16)
+good_digit None c v d q = cc
+good_digit (Some w) c v d q = let e : v ≡ w = cc in rw e d
+
+module _ (text : List ℕ) where
+  -- The text is refused: it is too long, or it is not hexadecimal.
+  pub refused : (r : Result Id BadText) → r ≡ Err (record {}) → (length text ≤ 32 → unhex text ≡ none)
+      → r ≡ parsed (parse_uid text)
   unfolding parsed parse_uid
-  too-long h = rw (lt-leb (length text) 32 h) bad
+  refused r bad h =
+      elim (dec_lt 32 (length text)) [
+        | yes g ↦ rw (lt-leb (length text) 32 g) bad
+        | no g ↦ rw (le-leb (length text) 32 (omega arith), h (omega arith)) bad
+      ]
 
-  not-read : length text ≤ 32 → unhex text ≡ none → r ≡ parsed (parse_uid text)
-  unfolding parsed parse_uid
-  not-read h e = rw (le-leb (length text) 32 h, e) bad
-
-  pub odd : (length text % 2 ≡ 0 → ⊥) → r ≡ parsed (parse_uid text)
-  odd n = go (dec_lt 32 (length text))
+  pub odd : (r : Result Id BadText) (rest : List ℕ) → r ≡ Err (record {}) → length rest ≡ length text % 2
+      → (length rest ≡ 0 → ⊥) → r ≡ parsed (parse_uid text)
+  odd r rest bad e n = refused r bad (λ h. unhex-odd text one)
     where
-      go : Dec (32 < length text) → r ≡ parsed (parse_uid text)
-      go (yes h) = too-long h
-      go (no h) = not-read (omega arith) (unhex-odd text (not-even (length text) n))
+      one : length text % 2 ≡ 1
+      one = elim (dec_lt (length rest) 1) [ yes l ↦ absurd (n (omega arith)) | no l ↦ omega arith ]
 
-module _ (text out : List ℕ) (i h l : ℕ) (inv : Joined (take i out) (unhex (drop (2 * i) text)) ≡ unhex text)
-    (short : length text ≤ 32) (inside : i < length text / 2)
-    (eh : h ≡ digit (get_or text (2 * i) 0)) (el : l ≡ digit (get_or text (2 * i + 1) 0)) where
-  two : drop (2 * i) text ≡ get_or text (2 * i) 0 ∷ get_or text (2 * i + 1) 0 ∷ drop (2 * (i + 1)) text
-  two =
-      drop-cons text (2 * i) 0 (omega arith)
-      ∙ ap (get_or text (2 * i) 0 ∷◌) (drop-cons text (suc (2 * i)) 0 (omega arith)
-      ∙ ap₂ (λ (m n : ℕ). get_or text m 0 ∷ drop n text) next after)
+module _ (text out : List ℕ) (i : ℕ) (inv : Joined (take i out) (unhex (drop (2 * i) text)) ≡ unhex text) where
+  module _ (pairs : List (List ℕ)) (is : pairs ≡ first_chunks 2 (length text / 2) text)
+      (many : length pairs ≡ length text / 2) (h : i < length pairs) where
+    two : drop (2 * i) text ≡ get_or (get_or pairs i []) 0 0 ∷ get_or (get_or pairs i []) 1 0 ∷ drop (2 * (i + 1)) text
+    two =
+        let a : get_or (get_or pairs i []) 0 0 ≡ get_or text (2 * i) 0 =
+        rw is (simp add-zero at (get_or-chunk 2 (length text / 2) text i 0 0 (omega arith) (omega arith))) in
+        let one : 2 * i + 1 ≡ suc (2 * i) = omega arith in
+        let b : get_or (get_or pairs i []) 1 0 ≡ get_or text (suc (2 * i)) 0 =
+        rw is (rw one at (get_or-chunk 2 (length text / 2) text i 1 0 (omega arith) (omega arith))) in
+        let after : 2 * (i + 1) ≡ suc (suc (2 * i)) = omega arith in
+        rw (a, b, after) (drop-cons text (2 * i) 0 (omega arith)
+        ∙ ap (get_or text (2 * i) 0 ∷◌) (drop-cons text (suc (2 * i)) 0 (omega arith)))
+
+    none_of : unhex (drop (2 * i) text) ≡ none → unhex text ≡ none
+    none_of e = sym inv ∙ ap (Joined (take i out)) e
+
+    pub bad-high : digit (get_or (get_or pairs i []) 0 0) ≡ 16 → unhex text ≡ none
+    bad-high g = none_of (ap unhex two ∙ unhex-bad-high (get_or (get_or pairs i []) 0 0) (get_or (get_or pairs i []) 1 0)
+        (drop (2 * (i + 1)) text) (omega arith))
+
+    pub bad-low : digit (get_or (get_or pairs i []) 1 0) ≡ 16 → unhex text ≡ none
+    bad-low g = none_of (ap unhex two ∙ unhex-bad-low (get_or (get_or pairs i []) 0 0) (get_or (get_or pairs i []) 1 0)
+        (drop (2 * (i + 1)) text) (omega arith))
+
+    pub read_more : (u v : ℕ) → (u ≡ digit (get_or (get_or pairs i []) 0 0)) × (u < 16)
+        → (v ≡ digit (get_or (get_or pairs i []) 1 0)) × (v < 16) → i < length out
+        → Joined (take (i + 1) (set out i (u * 16 + v))) (unhex (drop (2 * (i + 1)) text)) ≡ unhex text
+    read_more u v (eu, a) (ev, b) room =
+        ap (λ (front : List ℕ). Joined front rest) stored
+        ∙ joined-more (take i out) (u * 16 + v) rest
+        ∙ ap (Joined (take i out)) (sym pair)
+        ∙ inv
+      where
+        rest : Option (List ℕ)
+        rest = unhex (drop (2 * (i + 1)) text)
+
+        pair : unhex (drop (2 * i) text) ≡ on_some rest none (λ bytes. some ((u * 16 + v) ∷ bytes))
+        pair = rw (two, eu, ev) (unhex-pair (get_or (get_or pairs i []) 0 0) (get_or (get_or pairs i []) 1 0)
+            (drop (2 * (i + 1)) text) rest (omega arith) (omega arith) refl)
+
+        stored : take (i + 1) (set out i (u * 16 + v)) ≡ take i out ++ ((u * 16 + v) ∷ [])
+        stored = rw (add-one i) (take-suc-set out i (u * 16 + v) room)
+
+  pub read_all : (n : ℕ) (rest : List ℕ) → n ≡ length text / 2 → length rest ≡ length text % 2 → length rest ≡ 0
+      → n ≤ 16 → i ≤ n → n ≤ i → length out ≡ 16 → drop i out ≡ drop i (replicate 16 0)
+      → Ok (record { bytes = out; len = n }) ≡ parsed (parse_uid text)
+  unfolding parsed parse_uid unhex
+  read_all n rest en er even short h g long zeros =
+      rw (le-leb (length text) 32 (omega arith), ← inv, past, append-nil (take i out))
+      (ap (λ (x : Id). Ok x)
+      (id-is (take i out) out n (omega (arith, size)) (rw (size, ← zeros) (sym (take-append-drop i out)))))
     where
-      next : suc (2 * i) ≡ 2 * i + 1
-      next = omega arith
+      size : length (take i out) ≡ i
+      size = length-take-le i out (omega arith)
 
-      after : suc (suc (2 * i)) ≡ 2 * (i + 1)
-      after = omega arith
-
-  none_of : unhex (drop (2 * i) text) ≡ none → unhex text ≡ none
-  none_of e = sym inv ∙ ap (Joined (take i out)) e
-
-  pub bad-high : (r : Parsed) → r ≡ bad_text → 16 ≤ h → r ≡ parsed (parse_uid text)
-  bad-high r bad g = not-read text r bad short
-      (none_of (ap unhex two ∙ unhex-bad-high (get_or text (2 * i) 0) (get_or text (2 * i + 1) 0) (drop (2 * (i + 1)) text)
-      (omega arith)))
-
-  pub bad-low : (r : Parsed) → r ≡ bad_text → 16 ≤ l → r ≡ parsed (parse_uid text)
-  bad-low r bad g = not-read text r bad short
-      (none_of (ap unhex two ∙ unhex-bad-low (get_or text (2 * i) 0) (get_or text (2 * i + 1) 0) (drop (2 * (i + 1)) text)
-      (omega arith)))
-
-  pub read_more : h < 16 → l < 16 → length out ≡ 16
-      → Joined (take (i + 1) (set out i (h * 16 + l))) (unhex (drop (2 * (i + 1)) text)) ≡ unhex text
-  read_more a b long =
-      ap (λ (front : List ℕ). Joined front rest) stored
-      ∙ joined-more (take i out) (h * 16 + l) rest
-      ∙ ap (Joined (take i out)) (sym pair)
-      ∙ inv
-    where
-      rest : Option (List ℕ)
-      rest = unhex (drop (2 * (i + 1)) text)
-
-      pair : unhex (drop (2 * i) text) ≡ on_some rest none (λ bytes. some ((h * 16 + l) ∷ bytes))
-      pair = rw (two, eh, el) (unhex-pair (get_or text (2 * i) 0) (get_or text (2 * i + 1) 0)
-          (drop (2 * (i + 1)) text) rest (omega arith) (omega arith) refl)
-
-      stored : take (i + 1) (set out i (h * 16 + l)) ≡ take i out ++ ((h * 16 + l) ∷ [])
-      stored = rw (add-one i) (take-suc-set out i (h * 16 + l) (omega arith))
+      past : drop (2 * i) text ≡ []
+      past = drop_of_length-le text {i = 2 * i} (omega arith)
 
 pub zero_more : (out : List ℕ) (i v : ℕ) → drop i out ≡ drop i (replicate 16 0)
     → drop (i + 1) (set out i v) ≡ drop (i + 1) (replicate 16 0)
 zero_more out i v e = drop-set-lt (i + 1) out i v (omega arith) ∙ sym (drop-drop 1 i out) ∙ ap (drop 1) e
     ∙ drop-drop 1 i (replicate 16 0)
-
-pub read_all : (text out : List ℕ) (i n : ℕ) → Joined (take i out) (unhex (drop (2 * i) text)) ≡ unhex text
-    → n ≡ length text → n ≤ 32 → n % 2 ≡ 0 → i ≤ n / 2 → n / 2 ≤ i
-    → length out ≡ 16 → drop i out ≡ drop i (replicate 16 0)
-    → record { answer = Uid; id = record { bytes = out; len = n / 2 } } ≡ parsed (parse_uid text)
-unfolding parsed parse_uid unhex
-read_all text out i n inv e short even h g long zeros =
-    rw (le-leb (length text) 32 (omega arith), ← inv, past, append-nil (take i out))
-    (ap (λ (x : Id). record { answer = Uid; id = x })
-    (id-is (take i out) out (n / 2) (omega (arith, size)) (rw (size, ← zeros) (sym (take-append-drop i out)))))
-  where
-    size : length (take i out) ≡ i
-    size = length-take-le i out (omega arith)
-
-    past : drop (2 * i) text ≡ []
-    past = drop_of_length-le text {i = 2 * i} (omega arith)

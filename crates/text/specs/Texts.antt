@@ -1,13 +1,13 @@
 -- The answers of writing an id as text, and of reading it.
-use Rattle.std.specs.Prelude.{ℕ, List, ◌++◌, length, drop}
+use Rattle.std.specs.Prelude.{ℕ, List, ◌++◌, length, drop, Result, Ok, Err}
 use Rattle.std.proofs.Math.Option.{Option}
 use Rattle.paper.specs.Hearing.{on_some}
 use Rattle.paper.specs.Text.{Written, wrote, refuses13, refuses16, uid_hex}
 use Rattle.wire.specs.declared.Written.{Written as Answer}
 use Rattle.wire.specs.declared.Written.TheVariants.{Done, Short, TooLong}
-use Rattle.ids.specs.Ids.{no_id, id_from}
-use Rattle.text.specs.declared.Parsed.{Parsed}
-use Rattle.text.specs.declared.Parse.TheVariants.{Uid, BadText}
+use Rattle.ids.specs.declared.Id.{Id}
+use Rattle.ids.specs.Ids.{id_from}
+use Rattle.text.specs.declared.BadText.{BadText}
 
 -- The answer of writing, and the text buffer after it.
 pub record Outcome : Type 0 where
@@ -23,8 +23,5 @@ shown (refuses16 n) buffer = record { answer = Short n; bytes = buffer }
 unfoldable pub written : List ℕ → List ℕ → Outcome
 written id buffer = shown (uid_hex id (length buffer)) buffer
 
-unfoldable pub bad_text : Parsed
-bad_text = record { answer = BadText; id = no_id }
-
-unfoldable pub parsed : Option (List ℕ) → Parsed
-parsed o = on_some o bad_text (λ id. record { answer = Uid; id = id_from id })
+unfoldable pub parsed : Option (List ℕ) → Result Id BadText
+parsed o = on_some o (Err (record {})) (λ id. Ok (id_from id))

@@ -1,61 +1,37 @@
 // Ids as hexadecimal text, written and read.
 #![tactic(auto)]
 
-ghost use Rattle.std.specs.Prelude.{◌≡◌, ◌++◌, ◌+◌, ◌*◌, ◌≤◌, ◌<◌, length, drop};
+ghost use Rattle.std.specs.Prelude.{◌≡◌, ◌++◌, ◌+◌, ◌*◌, ◌≤◌, ◌<◌, length, drop, MatchOption};
 ghost use Rattle.paper.specs.Text.{hex_digit, digit, hex_text, parse_uid};
-ghost use Rattle.text.specs.Texts.{written, parsed, bad_text};
+ghost use Rattle.text.specs.Texts.{written, parsed};
 
 use ids::Id;
 use wire::Written;
 
-// Whether a text is an id. BadText is refusal 22.
-#[derive(Clone, Copy)]
-pub enum Parse {
-    Uid,
-    BadText,
-}
-
-// The answer, and the id; no id with BadText.
-#[derive(Clone, Copy)]
-pub struct Parsed {
-    pub answer: Parse,
-    pub id: Id,
-}
-
-// Characters: '0' to '9' are 48 to 57, 'A' to 'F' 65 to 70, 'a' to 'f' 97 to 102.
+// A text that is no id: refusal 22.
+#[derive(Clone, Copy, PartialEq, Eq)]
+pub struct BadText;
 
 // The lower case digit of a value below 16.
+#[tactic(auto, unfolding(paper::specs::Text::hex_digit))]
 pub fn hex_digit(v: u8) -> u8
     requires { v < 16 }
     ensures { result ≡ hex_digit v }
 {
-    if v < 10 { 48 + v } else { 87 + v }
+    if v < 10 { b'0' + v } else { b'a' + (v - 10) }
 }
 
-// The value of a digit in either letter case; 16 for any other character.
-pub fn digit(c: u8) -> u8
-    ensures value { result ≡ digit c }
-    ensures upper_bound { result ≤ 16 }
+// The value of a digit in either letter case.
+#[tactic(auto, using(std::proofs::lemmas::Bool::Decides::nat_tests), unfolding(paper::specs::Text::digit))]
+pub fn digit(c: u8) -> Option<u8>
+    ensures { MatchOption result (digit c ≡ 16) (λ v. (v ≡ digit c) × (v < 16)) }
 {
-    if c < 48 {
-        return 16;
+    match c {
+        b'0'..=b'9' => Some(c - b'0'),
+        b'A'..=b'F' => Some(c - b'A' + 10),
+        b'a'..=b'f' => Some(c - b'a' + 10),
+        _ => None,
     }
-    if c < 58 {
-        return c - 48;
-    }
-    if c < 65 {
-        return 16;
-    }
-    if c < 71 {
-        return c - 55;
-    }
-    if c < 97 {
-        return 16;
-    }
-    if c < 103 {
-        return c - 87;
-    }
-    16
 }
 
 // Writes the digits of each byte to the front of the text.
@@ -65,12 +41,9 @@ fn put_hex(text: &mut [u8], bytes: &[u8])
     ensures { text.new
         ≡ hex_text bytes.now ++ drop (2 * length bytes.now) text.old }
 {
-    let mut i = 0;
-    while i < bytes.len() {
-        let b = bytes[i];
+    for (i, b) in bytes.iter().enumerate() {
         text[2 * i] = hex_digit(b / 16);
         text[2 * i + 1] = hex_digit(b % 16);
-        i += 1;
     }
 }
 
@@ -91,45 +64,19 @@ pub fn uid_hex(id: &[u8], text: &mut [u8]) -> Written
 }
 
 // Reads an id from a text. BadText for an odd length, for over 32 digits and for a bad digit.
-pub fn parse_uid(text: &[u8]) -> Parsed
+pub fn parse_uid(text: &[u8]) -> Result<Id, BadText>
     ensures { result ≡ parsed (parse_uid text.now) }
 {
-    let n = text.len();
-    let mut out = [0u8; ids::MAX_BYTES];
-    if 32 < n {
-        return bad_text();
+    let (pairs, odd) = text.as_chunks::<2>();
+    if ids::MAX_BYTES < pairs.len() || !odd.is_empty() {
+        return Err(BadText);
     }
-    if n % 2 != 0 {
-        return bad_text();
+    let mut bytes = [0u8; ids::MAX_BYTES];
+    for (i, [h, l]) in pairs.iter().enumerate() {
+        bytes[i] = digit(*h).ok_or(BadText)? * 16 + digit(*l).ok_or(BadText)?;
     }
-    let mut i = 0;
-    while i < n / 2 {
-        let h = digit(text[2 * i]);
-        let l = digit(text[2 * i + 1]);
-        if 16 <= h {
-            return bad_text();
-        }
-        if 16 <= l {
-            return bad_text();
-        }
-        out[i] = h * 16 + l;
-        i += 1;
-    }
-    Parsed {
-        answer: Parse::Uid,
-        id: Id {
-            bytes: out,
-            len: (n / 2) as u8,
-        },
-    }
-}
-
-fn bad_text() -> Parsed
-    ensures { result ≡ bad_text }
-{
-    let id = Id::none();
-    Parsed {
-        answer: Parse::BadText,
-        id,
-    }
+    Ok(Id {
+        bytes,
+        len: pairs.len() as u8,
+    })
 }

@@ -1,10 +1,12 @@
 -- Answers to the goals of `host_buffers::codes::read_uid`.
-use Rattle.host_buffers.proofs.codes.Ways.{uid-read, uid-bad}
 use borrow.Author.Rules.{rules}
+use Rattle.host_buffers.specs.Codes.{read_uid}
 use Rattle.host_buffers.proofs.codes.read_uid.Goals as goal
 
-pub returns-in-Uid : goal.returns-in-Uid
-returns-in-Uid c = search (uid-read, rules)
+pub returns-in-Ok : goal.returns-in-Ok
+unfolding read_uid
+returns-in-Ok c = search rules
 
-pub returns-in-BadText : goal.returns-in-BadText
-returns-in-BadText c = search (uid-bad, rules)
+pub returns-in-Err : goal.returns-in-Err
+unfolding read_uid
+returns-in-Err c = search rules
