@@ -15,9 +15,7 @@ use Rattle.paper.specs.Log.{id_lines, last_line}
 use Rattle.wire.specs.declared.Written.{Written}
 use Rattle.text.specs.Texts.{Outcome, written}
 use Rattle.text.proofs.Writing.{writes}
-use Rattle.ids.specs.declared.Id.{Id}
 use Rattle.ids.specs.Ids.{id_of}
-use Rattle.ids.proofs.Laws.{held, id-part}
 use Rattle.walk_table.specs.declared.Entry.{Entry}
 use Rattle.walk_table.specs.declared.Table.{Table}
 use Rattle.walk_table.specs.Rows.{row, rows}
@@ -87,22 +85,6 @@ module _ (a b out₀ out part : List ℕ) (at k : ℕ) (e : record { len = at; b
     where
       size : at + k ≡ length (a ++ b)
       size = omega (arith, here, ap (λ (x : Placed). x.len) p, length-append a b)
-
--- The line of an id fits in 33 bytes.
-module _ (x : Id) (n : ℕ) (e : n ≡ length (id_of x)) (h : n ≤ 16) where
-  pub id-short : length (take n x.bytes) ≤ 16
-  id-short = omega (arith, id-part x n e)
-
-  pub id-room : (out : List ℕ) → 33 ≤ length out → 2 * length (take n x.bytes) < length out
-  id-room out r = omega (arith, id-part x n e)
-
-  pub id-most : (k : ℕ) → k ≡ 2 * length (take n x.bytes) + 1 → k ≤ 33
-  id-most k q = omega (arith, id-part x n e)
-
-pub id-wrote : (x : Id) (n k : ℕ) (out out' : List ℕ) → n ≡ length (id_of x)
-    → record { len = k; bytes = out' } ≡ placed (line (take n x.bytes)) out
-    → record { len = k; bytes = out' } ≡ placed (line (id_of x)) out
-id-wrote x n k out out' en e = e ∙ ap (λ (l : List ℕ). placed (line l) out) (held x n en)
 
 -- The loop over the ids: one more id.
 rows_more : (n : ℕ) (t : Table) (i : ℕ) → rows t i (suc n) ≡ rows t i n ++ (row t (i + n) ∷ [])

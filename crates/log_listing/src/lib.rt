@@ -27,7 +27,7 @@ fn put_line(bytes: &[u8], out: &mut [u8]) -> usize
 {
     let n = 2 * bytes.len();
     text::uid_hex(bytes, out);
-    out[n] = 10;
+    out[n] = b'\n';
     n + 1
 }
 
@@ -37,9 +37,7 @@ fn put_id(id: Id, out: &mut [u8]) -> usize
     ensures out_after { record { len = result; bytes = out.new } ≡ placed (line (id_of id)) out.old }
     ensures upper_bound { result ≤ 33 }
 {
-    let n = id.size();
-    let bytes = id.bytes;
-    put_line(&bytes[..n], out)
+    put_line(id.as_slice(), out)
 }
 
 // Writes the lines of the first n ids.
@@ -51,13 +49,8 @@ fn put_ids(found: Table, n: usize, out: &mut [u8]) -> usize
     ensures upper_bound { result ≤ 33 * n }
 {
     let mut at = 0;
-    let mut i = 0;
-    while i < n {
-        let x = found.row(i);
-        let id = x.id;
-        let k = put_id(id, &mut out[at..]);
-        at += k;
-        i += 1;
+    for i in 0..n {
+        at += put_id(found.row(i).id, &mut out[at..]);
     }
     at
 }
@@ -76,27 +69,21 @@ fn put_last(code: u8, count: u8, selects: u16, out: &mut [u8]) -> usize
 }
 
 // How many rows are in use: at most 64.
+#[tactic(auto, using(std::proofs::lemmas::Bool::Decides::nat_tests), unfolding(crate::specs::Listing::used))]
 fn used(found: Table) -> usize
     ensures value { result ≡ used found }
     ensures upper_bound { result ≤ 64 }
 {
-    let n = found.count;
-    if n < walk_table::ROWS {
-        n
-    } else {
-        walk_table::ROWS
-    }
+    found.count.min(walk_table::ROWS)
 }
 
 fn put_all(answer: Answer, out: &mut [u8]) -> usize
     requires { 2121 ≤ length out.old }
     ensures { record { len = result; bytes = out.new } ≡ placed (text answer) out.old }
 {
-    let found = answer.found;
-    let n = used(found);
-    let at = put_ids(found, n, out);
-    let k = put_last(answer.code, n as u8, answer.selects, &mut out[at..]);
-    at + k
+    let n = used(answer.found);
+    let at = put_ids(answer.found, n, out);
+    at + put_last(answer.code, n as u8, answer.selects, &mut out[at..])
 }
 
 // Writes the whole output to the front of the buffer. It always fits: 64 lines of 33 bytes, and one of 9.
