@@ -69,20 +69,22 @@ pub fn no_place() -> Place
 pub fn begin(prefix: Id) -> Place
     ensures { walk_of result no_table ≡ begin prefix }
 {
-    let mut w = no_place();
-    let p = prefix.bytes;
-    let n = prefix.size();
-    w.path = p;
-    w.depth = 8 * n;
-    w
+    let path = prefix.bytes;
+    Place {
+        path,
+        depth: 8 * prefix.size(),
+        ..no_place()
+    }
 }
 
 // The bits of a deselect: 129 zero bits, which no id has.
 pub fn nobody() -> Ask
     ensures { result ≡ nobody }
 {
-    let bits = [0u8; ids::MAX_BYTES];
-    Ask { bits, count: 129 }
+    Ask {
+        bits: [0; ids::MAX_BYTES],
+        count: 129,
+    }
 }
 
 impl Walk {
@@ -108,44 +110,40 @@ impl Place {
         requires { self.depth ≤ 128 }
         ensures { (t : Table) → result ≡ mark (walk_of self t) }
     {
-        let marks = self.marks;
-        mark_at(&marks, self.depth)
+        mark_at(&self.marks, self.depth)
     }
 
     // Goes down to the zero child.
-    pub fn lower(self) -> Place
+    pub fn lower(mut self) -> Place
         requires { self.depth < 128 }
         ensures { (t : Table) → walk_of result t ≡ lower (walk_of self t) }
     {
-        let mut w = self;
-        let d = w.depth;
-        w.marks[d] = 1;
-        w.depth = d + 1;
-        w
+        let d = self.depth;
+        self.marks[d] = 1;
+        self.depth = d + 1;
+        self
     }
 
     // Goes from a zero child to the one child beside it.
-    pub fn turn(self) -> Place
+    pub fn turn(mut self) -> Place
         requires depth_nonzero { 0 < self.depth }
         requires depth_bound { self.depth ≤ 128 }
         ensures { (t : Table) → walk_of result t ≡ turn (walk_of self t) }
     {
-        let mut w = self;
-        let d = w.depth - 1;
-        let p = w.path;
-        let q = ids::set_bit(p, d);
-        w.path = q;
-        w.marks[d] = 2;
-        w
+        let d = self.depth - 1;
+        self.path = ids::set_bit(self.path, d);
+        self.marks[d] = 2;
+        self
     }
 
     // The same place with an id to confirm.
     pub fn holding(self, id: Id) -> Place
         ensures { (t : Table) → walk_of result t ≡ holding (walk_of self t) id }
     {
-        let mut w = self;
-        w.candidate = id;
-        w
+        Place {
+            candidate: id,
+            ..self
+        }
     }
 
     // Goes up, out of each one child, to the nearest zero child or the given prefix.
@@ -163,12 +161,11 @@ impl Place {
             path = cut;
             marks[d] = 0;
         }
-        let candidate = self.candidate;
         Place {
             path,
             depth: d,
             marks,
-            candidate,
+            candidate: self.candidate,
         }
     }
 
@@ -198,8 +195,7 @@ impl Place {
         if ids::MAX_BITS < d {
             return nobody();
         }
-        let x = self.candidate;
-        let next = x.bit(d);
+        let next = self.candidate.bit(d);
         match p {
             Phase::Asked => {
                 let bits = self.path;
