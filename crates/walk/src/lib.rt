@@ -69,6 +69,7 @@ pub fn no_place() -> Place
 pub fn begin(prefix: Id) -> Place
     ensures { walk_of result no_table ≡ begin prefix }
 {
+    // Kept as a local: the prover does not cover an array field that is read straight into a struct literal.
     let path = prefix.bytes;
     Place {
         path,
@@ -157,6 +158,7 @@ impl Place {
         let mut d = self.depth;
         while mark_at(&marks, d) == 2 {
             d -= 1;
+            // Kept as a local: the prover does not cover a call whose array goes straight into another local.
             let cut = ids::path::cut(path, d);
             path = cut;
             marks[d] = 0;
@@ -198,6 +200,7 @@ impl Place {
         let next = self.candidate.bit(d);
         match p {
             Phase::Asked => {
+                // Kept as a local: as in `begin`.
                 let bits = self.path;
                 Ask { bits, count: d }
             }
