@@ -8,7 +8,6 @@ use native.Mathlib.Omega.{arith}
 use lib.Dec.{leb, ltb, eqb}
 use lib.ListN.{length}
 use borrow.Author.Tests.{ltb-true, ltb-false, eqb-true, not-false}
-use Rattle.std.specs.Prelude as Std
 use Rattle.std.specs.Prelude.{Result, Ok, Err}
 use Rattle.paper.specs.Answers as Paper
 use Rattle.paper.specs.Answers.{lost, answered, ok, device, answer, sound, too_large, spans_too_far, incompatible, key}
@@ -32,7 +31,6 @@ use Rattle.client.specs.declared.Client.{Client}
 use Rattle.client.specs.declared.Job.TheVariants.{Writing}
 use Rattle.client.specs.declared.Outcome.TheVariants as Outcome
 use Rattle.client.specs.declared.Refusal.{Refusal}
-use Rattle.client.specs.declared.Refusal.TheVariants as Refusal
 use Rattle.client.specs.declared.Says.TheVariants as Says
 use Rattle.client.specs.Clients as Clients
 use Rattle.client.specs.Clients.{other_image, other_for, differs, stops, over, onward}
