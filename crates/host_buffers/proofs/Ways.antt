@@ -1,5 +1,5 @@
 -- Lemmas for what an exported call leaves: one for each path through the code.
-use Prim.Native.Nat.{ℕ, ◌<◌, ◌≤◌}
+use Prim.Native.Nat.{ℕ, ◌≤◌}
 use mathlib.Core.Bool.{Bool, true, false, cond}
 use mathlib.Core.List.{List, ◌++◌, append_assoc}
 use mathlib.Core.Path.{◌≡◌, refl, sym, ◌∙◌, ap}
@@ -7,20 +7,15 @@ use native.Mathlib.Omega.{arith}
 use lib.Dec.{ltb}
 use lib.ListN.{length, take, drop}
 use lib.Seq.{drop_at, length-take-le}
-use borrow.Author.Tests.{lt-ltb, le-ltb, ltb-false}
+use borrow.Author.Tests.{le-ltb, ltb-false}
 use Rattle.ids.specs.declared.Id.{Id}
 use Rattle.ids.specs.Ids.{no_id}
 use Rattle.walk_table.specs.declared.Table.{Table}
 use Rattle.walk_table.specs.Rows.{no_table, giving}
 use Rattle.walk.specs.declared.Walk.{Walk}
 use Rattle.paper.proofs.Fields.{behind}
-use Rattle.hearing.specs.declared.Heard.{Heard}
-use Rattle.hearing.specs.Heard.{is_long}
-use Rattle.client.specs.declared.Outcome.TheVariants as Outcome
-use Rattle.client.specs.declared.Refusal.TheVariants.{LongId}
 use Rattle.client.specs.declared.Progress.TheVariants.{None}
 use Rattle.client.specs.declared.Says.{Says}
-use Rattle.client.specs.declared.Says.TheVariants.{Over, Refused}
 use Rattle.client.specs.declared.Progress.{Progress}
 use Rattle.client.specs.declared.Front.{Front}
 use Rattle.client.specs.declared.Opening.{Opening}
@@ -37,22 +32,7 @@ use Rattle.host_state.specs.State.{saved_table, saved_walk, saved_front, saved, 
 use Rattle.host_answer.specs.AnswerBytes as AnswerBytes
 use Rattle.host_answer.specs.AnswerBytes.{fronted, listed, shown}
 use Rattle.host_answer.proofs.Ways.{put_of}
-use Rattle.host_buffers.specs.Hosts.{code_of, lent, short_code, told_by, leaves, shows, said_of}
-
--- A buffer that is too short, and buffers that are long enough.
-module _ (n m r need : ℕ) where
-  pub state-short : need ≡ State.size → n < need → r ≡ coded 16 need → r ≡ short_code n m
-  unfolding short_code lent
-  state-short e h q = q ∙ rw (e, lt-ltb n State.size (rw e at h))
-
-  pub answer-short : (s : ℕ) → s ≡ State.size → need ≡ AnswerBytes.size → s ≤ n → m < need → r ≡ coded 16 need
-      → r ≡ short_code n m
-  unfolding short_code lent
-  answer-short s es e k h q = q ∙ rw (e, le-ltb n State.size (rw es at k), lt-ltb m AnswerBytes.size (rw e at h))
-
-  pub none-short : (s : ℕ) → s ≡ State.size → need ≡ AnswerBytes.size → s ≤ n → need ≤ m → 0 ≡ short_code n m
-  unfolding short_code lent
-  none-short s es e k h = rw (le-ltb n State.size (rw es at k), le-ltb m AnswerBytes.size (rw e at h))
+use Rattle.host_buffers.specs.Hosts.{code_of, lent, short_code, told_by, leaves, shows}
 
 -- What the code for short buffers says about the two lengths.
 module _ (b d : Bool) (x y k : ℕ) (e : k ≡ cond b x (cond d y 0)) where
@@ -200,13 +180,3 @@ module _ (c : Change) (s a r : List ℕ) where
       → r ≡ listed (given c (loaded s).walk) a
   unfolding loaded loaded_walk
   list-given e h = h ∙ rw e
-
--- What was heard.
-module _ (h : Heard) (b : Bool) (e : b ≡ is_long h) where
-  pub said-long : b ≡ true → Refused LongId ≡ said_of h
-  unfolding said_of
-  said-long t = rw (sym e ∙ t)
-
-  pub said-heard : b ≡ false → Over (Outcome.Heard h) ≡ said_of h
-  unfolding said_of
-  said-heard f = rw (sym e ∙ f)

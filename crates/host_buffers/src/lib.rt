@@ -17,6 +17,7 @@ use hearing::Heard;
 use ids::Id;
 
 // The code for a state or an answer's buffer of these lengths that is too short; 0 if both are long enough.
+#[tactic(auto, unfolding(crate::specs::Hosts::short_code, crate::specs::Hosts::lent))]
 pub fn short_code(state: usize, answer: usize) -> u64
     ensures { result ≡ short_code state answer }
 {
@@ -98,6 +99,7 @@ pub fn shows(says: Says, id: Id, answer: &mut [u8]) -> u64
 }
 
 // The answer of a plain select that heard `h`.
+#[tactic(auto, unfolding(crate::specs::Hosts::said_of))]
 pub fn said_of(h: Heard) -> Says
     ensures { result ≡ said_of h }
 {
