@@ -23,96 +23,60 @@ pub fn fahireky_start_select(state: &mut [u8], prefix: &[u8], bits: usize, answe
     ensures { record { code = result; state = state.new; answer = answer.new }
         ≡ Export.start_select state.old prefix.now bits answer.old }
 {
-    let short = host_buffers::short_code(state.len(), answer.len());
-    if short != 0 {
-        return short;
-    }
-    let f = host_state::load_front(state);
-    host_buffers::started(client_start::open_select(f, prefix, bits), state, answer)
+    host_buffers::starting(
+        state,
+        answer,
+        |f| client_start::open_select(f, prefix, bits),
+    )
 }
 
 pub fn fahireky_start_deselect(state: &mut [u8], answer: &mut [u8]) -> u64
     ensures { record { code = result; state = state.new; answer = answer.new }
         ≡ Export.start_deselect state.old answer.old }
 {
-    let short = host_buffers::short_code(state.len(), answer.len());
-    if short != 0 {
-        return short;
-    }
-    let f = host_state::load_front(state);
-    host_buffers::started(client_start::open_deselect(f), state, answer)
+    host_buffers::starting(state, answer, |f| client_start::open_deselect(f))
 }
 
 pub fn fahireky_start_attach(state: &mut [u8], answer: &mut [u8]) -> u64
     ensures { record { code = result; state = state.new; answer = answer.new }
         ≡ Export.start_attach state.old answer.old }
 {
-    let short = host_buffers::short_code(state.len(), answer.len());
-    if short != 0 {
-        return short;
-    }
-    let f = host_state::load_front(state);
-    host_buffers::started(client_start::open_attach(f), state, answer)
+    host_buffers::starting(state, answer, |f| client_start::open_attach(f))
 }
 
 pub fn fahireky_start_attach_to(state: &mut [u8], prefix: &[u8], answer: &mut [u8]) -> u64
     ensures { record { code = result; state = state.new; answer = answer.new }
         ≡ Export.start_attach_to state.old prefix.now answer.old }
 {
-    let short = host_buffers::short_code(state.len(), answer.len());
-    if short != 0 {
-        return short;
-    }
-    let f = host_state::load_front(state);
-    host_buffers::started(client_start::open_attach_to(f, prefix), state, answer)
+    host_buffers::starting(state, answer, |f| client_start::open_attach_to(f, prefix))
 }
 
 pub fn fahireky_start_discover(state: &mut [u8], prefix: &[u8], answer: &mut [u8]) -> u64
     ensures { record { code = result; state = state.new; answer = answer.new }
         ≡ Export.start_discover state.old prefix.now answer.old }
 {
-    let short = host_buffers::short_code(state.len(), answer.len());
-    if short != 0 {
-        return short;
-    }
-    let f = host_state::load_front(state);
-    host_buffers::started(client_start::open_discover(f, prefix), state, answer)
+    host_buffers::starting(state, answer, |f| client_start::open_discover(f, prefix))
 }
 
 pub fn fahireky_start_info(state: &mut [u8], answer: &mut [u8]) -> u64
     ensures { record { code = result; state = state.new; answer = answer.new }
         ≡ Export.start_info state.old answer.old }
 {
-    let short = host_buffers::short_code(state.len(), answer.len());
-    if short != 0 {
-        return short;
-    }
-    let f = host_state::load_front(state);
-    host_buffers::started(client_start::open_info(f), state, answer)
+    host_buffers::starting(state, answer, |f| client_start::open_info(f))
 }
 
 pub fn fahireky_start_erase(state: &mut [u8], answer: &mut [u8]) -> u64
     ensures { record { code = result; state = state.new; answer = answer.new }
         ≡ Export.start_erase state.old answer.old }
 {
-    let short = host_buffers::short_code(state.len(), answer.len());
-    if short != 0 {
-        return short;
-    }
-    let f = host_state::load_front(state);
-    host_buffers::started(client_start::open_erase(f), state, answer)
+    host_buffers::starting(state, answer, |f| client_start::open_erase(f))
 }
 
 pub fn fahireky_start_flash(state: &mut [u8], image: &[u8], answer: &mut [u8]) -> u64
     ensures { record { code = result; state = state.new; answer = answer.new }
         ≡ Export.start_flash state.old image.now answer.old }
 {
-    let short = host_buffers::short_code(state.len(), answer.len());
-    if short != 0 {
-        return short;
-    }
-    let f = host_state::load_front(state);
-    host_buffers::started(client_start::open_flash(f, image), state, answer)
+    host_buffers::starting(state, answer, |f| client_start::open_flash(f, image))
 }
 
 pub fn fahireky_start_reset(
@@ -124,15 +88,10 @@ pub fn fahireky_start_reset(
     ensures { record { code = result; state = state.new; answer = answer.new }
         ≡ Export.start_reset state.old bootloader in_boot answer.old }
 {
-    let short = host_buffers::short_code(state.len(), answer.len());
-    if short != 0 {
-        return short;
-    }
-    let f = host_state::load_front(state);
-    host_buffers::started(
-        client_start::open_reset(f, bootloader, in_boot),
+    host_buffers::starting(
         state,
         answer,
+        |f| client_start::open_reset(f, bootloader, in_boot),
     )
 }
 
@@ -146,15 +105,10 @@ pub fn fahireky_start_set_baud(
     ensures { record { code = result; state = state.new; answer = answer.new }
         ≡ Export.start_set_baud state.old baud bootloader in_boot answer.old }
 {
-    let short = host_buffers::short_code(state.len(), answer.len());
-    if short != 0 {
-        return short;
-    }
-    let f = host_state::load_front(state);
-    host_buffers::started(
-        client_start::open_set_baud(f, baud, bootloader, in_boot),
+    host_buffers::starting(
         state,
         answer,
+        |f| client_start::open_set_baud(f, baud, bootloader, in_boot),
     )
 }
 
@@ -168,8 +122,7 @@ pub fn fahireky_request(state: &mut [u8], image: &[u8], buffer: &mut [u8], answe
     } ≡ Export.request state.old image.now buffer.old
         answer.old }
 {
-    let short = host_buffers::short_code(state.len(), answer.len());
-    if short != 0 {
+    if let Some(short) = host_buffers::short_code(state.len(), answer.len()) {
         return short;
     }
     let f = host_state::load_front(state);
@@ -183,26 +136,18 @@ pub fn fahireky_record(state: &mut [u8], image: &[u8], bytes: &[u8], answer: &mu
     ensures { record { code = result; state = state.new; answer = answer.new }
         ≡ Export.record' state.old image.now bytes.now answer.old }
 {
-    let short = host_buffers::short_code(state.len(), answer.len());
-    if short != 0 {
-        return short;
-    }
-    let f = host_state::load_front(state);
-    let p = host_state::load_place(state);
-    let n = host_state::count(state);
-    host_buffers::told(client_record::decide(f, p, n, image, bytes), state, answer)
+    host_buffers::telling(
+        state,
+        answer,
+        |f, p, n| client_record::decide(f, p, n, image, bytes),
+    )
 }
 
 pub fn fahireky_link_failed(state: &mut [u8], answer: &mut [u8]) -> u64
     ensures { record { code = result; state = state.new; answer = answer.new }
         ≡ Export.link_failed state.old answer.old }
 {
-    let short = host_buffers::short_code(state.len(), answer.len());
-    if short != 0 {
-        return short;
-    }
-    let f = host_state::load_front(state);
-    host_buffers::told(client_record::fails(f), state, answer)
+    host_buffers::telling(state, answer, |f, _, _| client_record::fails(f))
 }
 
 // The attached id, if there is one.
@@ -210,13 +155,11 @@ pub fn fahireky_attached(state: &[u8], answer: &mut [u8]) -> u64
     ensures { record { code = result; bytes = answer.new }
         ≡ Export.attached state.now answer.old }
 {
-    let short = host_buffers::short_code(state.len(), answer.len());
-    if short != 0 {
+    if let Some(short) = host_buffers::short_code(state.len(), answer.len()) {
         return short;
     }
     let f = host_state::load_front(state);
-    let id = f.id;
-    host_buffers::shows(Says::Over(Outcome::Attached(f.attached)), id, answer)
+    host_buffers::shows(Says::Over(Outcome::Attached(f.attached)), f.id, answer)
 }
 
 // What the record of a Select holds: nothing, one id, an unaddressed pod, or garble.
@@ -224,8 +167,7 @@ pub fn fahireky_hear(bytes: &[u8], answer: &mut [u8]) -> u64
     ensures { record { code = result; bytes = answer.new }
         ≡ Export.hear bytes.now answer.old }
 {
-    let short = host_buffers::short_code(host_state::size(), answer.len());
-    if short != 0 {
+    if let Some(short) = host_buffers::short_code(host_state::size(), answer.len()) {
         return short;
     }
     let h = hearing::hear(bytes);

@@ -1,20 +1,20 @@
 -- Lemmas for what an exported call leaves: one for each path through the code.
 use Prim.Native.Nat.{ℕ, ◌≤◌}
 use mathlib.Core.Bool.{Bool, true, false, cond}
+use Rattle.std.proofs.Common.{Option, Some, None, IfSome, IfNone}
 use mathlib.Core.List.{List, ◌++◌, append_assoc}
 use mathlib.Core.Path.{◌≡◌, refl, sym, ◌∙◌, ap}
 use native.Mathlib.Omega.{arith}
 use lib.Dec.{ltb}
 use lib.ListN.{length, take, drop}
 use lib.Seq.{drop_at, length-take-le}
-use borrow.Author.Tests.{le-ltb, ltb-false}
+use borrow.Author.Tests.{le-ltb}
 use Rattle.ids.specs.declared.Id.{Id}
 use Rattle.ids.specs.Ids.{no_id}
 use Rattle.walk_table.specs.declared.Table.{Table}
 use Rattle.walk_table.specs.Rows.{no_table, giving}
 use Rattle.walk.specs.declared.Walk.{Walk}
 use Rattle.paper.proofs.Fields.{behind}
-use Rattle.client.specs.declared.Progress.TheVariants.{None}
 use Rattle.client.specs.declared.Says.{Says}
 use Rattle.client.specs.declared.Progress.{Progress}
 use Rattle.client.specs.declared.Front.{Front}
@@ -32,55 +32,74 @@ use Rattle.host_state.specs.State.{saved_table, saved_walk, saved_front, saved, 
 use Rattle.host_answer.specs.AnswerBytes as AnswerBytes
 use Rattle.host_answer.specs.AnswerBytes.{fronted, listed, shown}
 use Rattle.host_answer.proofs.Ways.{put_of}
-use Rattle.host_buffers.specs.Hosts.{code_of, lent, short_code, told_by, leaves, shows}
+use Rattle.host_buffers.specs.Hosts.{code_of, lent, short_code, told_by, Exported, leaves, Starts, Tells, tells, starts}
+use Rattle.host_buffers.specs.Hosts.{shows}
+use Rattle.client.specs.declared.Client.{Client}
+use Rattle.client.specs.declared.Started.{Started}
+use Rattle.client.specs.declared.Told.{Told}
 
--- What the code for short buffers says about the two lengths.
-module _ (b d : Bool) (x y k : ℕ) (e : k ≡ cond b x (cond d y 0)) where
-  neither : (x ≡ 0 → ⊥) → (y ≡ 0 → ⊥) → k ≡ 0 → (b ≡ false) × (d ≡ false)
-  neither nx ny z = go b d refl refl
-    where
-      go : (p q : Bool) → b ≡ p → d ≡ q → (b ≡ false) × (d ≡ false)
-      go true q eb ed = absurd (nx (sym (ap (λ (t : Bool). cond t x (cond d y 0)) eb) ∙ sym e ∙ z))
-      go false true eb ed = absurd (ny
-          (sym (ap (λ (t : Bool). cond t x (cond d y 0)) eb ∙ ap (λ (t : Bool). cond t y 0) ed) ∙ sym e ∙ z))
-      go false false eb ed = (eb, ed)
+-- What the code for short buffers says about the two tests.
+one_of : {A : Type 0} (short : ℕ → A) (enough : A) (b d : Bool) (x y k : ℕ)
+    → cond b (Some x) (cond d (Some y) None) ≡ Some k → short k ≡ cond b (short x) (cond d (short y) enough)
+one_of short enough true d x y k e = cc
+one_of short enough false true x y k e = cc
+one_of short enough false false x y k e = absurd cc
 
-  one_of : {A : Type 0} (short : ℕ → A) (enough : A) → (k ≡ 0 → ⊥)
-      → short k ≡ cond b (short x) (cond d (short y) enough)
-  one_of short enough n = go b d refl refl
-    where
-      go : (p q : Bool) → b ≡ p → d ≡ q → short k ≡ cond b (short x) (cond d (short y) enough)
-      go true q eb ed = ap short (e ∙ ap (λ (t : Bool). cond t x (cond d y 0)) eb)
-          ∙ sym (ap (λ (t : Bool). cond t (short x) (cond d (short y) enough)) eb)
-      go false true eb ed =
-          ap short (e ∙ ap (λ (t : Bool). cond t x (cond d y 0)) eb ∙ ap (λ (t : Bool). cond t y 0) ed)
-          ∙ sym (ap (λ (t : Bool). cond t (short x) (cond d (short y) enough)) eb
-          ∙ ap (λ (t : Bool). cond t (short y) enough) ed)
-      go false false eb ed = absurd (n
-          (e ∙ ap (λ (t : Bool). cond t x (cond d y 0)) eb ∙ ap (λ (t : Bool). cond t y 0) ed))
+neither : {A : Type 0} (short : ℕ → A) (enough : A) (b d : Bool) (x y : ℕ)
+    → cond b (Some x) (cond d (Some y) None) ≡ None → enough ≡ cond b (short x) (cond d (short y) enough)
+neither short enough true d x y e = absurd cc
+neither short enough false true x y e = absurd cc
+neither short enough false false x y e = refl
 
-module _ (n m k : ℕ) (e : k ≡ short_code n m) where
-  both-fit : k ≡ 0 → (ltb n State.size ≡ false) × (ltb m AnswerBytes.size ≡ false)
-  unfolding short_code lent coded
-  both-fit z = neither (ltb n State.size) (ltb m AnswerBytes.size) (coded 16 State.size) (coded 16 AnswerBytes.size) k e
-      (λ h. omega arith) (λ h. omega arith) z
+module _ (n m : ℕ) {A : Type 0} (short : ℕ → A) (enough : A) where
+  pub lent-short : (k : ℕ) → short_code n m ≡ Some k → short k ≡ lent n m short enough
+  unfolding short_code lent
+  lent-short k = one_of short enough (ltb n State.size) (ltb m AnswerBytes.size) (coded 16 State.size)
+      (coded 16 AnswerBytes.size) k
 
-  pub state-room : k ≡ 0 → State.size ≤ n
-  state-room z = ltb-false n State.size (both-fit z).0
-
-  pub answer-room : k ≡ 0 → AnswerBytes.size ≤ m
-  answer-room z = ltb-false m AnswerBytes.size (both-fit z).1
-
-  module _ {A : Type 0} (short : ℕ → A) (enough : A) where
-    pub lent-short : (k ≡ 0 → ⊥) → short k ≡ lent n m short enough
-    unfolding short_code lent
-    lent-short h = one_of (ltb n State.size) (ltb m AnswerBytes.size) (coded 16 State.size)
-        (coded 16 AnswerBytes.size) k e short enough h
+  pub lent-none : short_code n m ≡ None → enough ≡ lent n m short enough
+  unfolding short_code lent
+  lent-none = neither short enough (ltb n State.size) (ltb m AnswerBytes.size) (coded 16 State.size)
+      (coded 16 AnswerBytes.size)
 
 pub lent-enough : {A : Type 0} (n m : ℕ) (short : ℕ → A) (enough : A) → State.size ≤ n → AnswerBytes.size ≤ m
     → enough ≡ lent n m short enough
 unfolding lent
 lent-enough n m short enough hn hm = rw (le-ltb n State.size hn, le-ltb m AnswerBytes.size hm)
+
+-- The same for a start and for a record, where every opening or verdict that is allowed is that of the call on the
+-- client in the state.
+module _ (s a : List ℕ) (r : Exported) where
+  pub tells_is : (d : Client → Told) (gives : Verdict → Type 0) → Tells gives s a r
+      → ((v : Verdict) → gives v → told_of v (loaded s).walk ≡ d (loaded s)) → r ≡ tells d s a
+  unfolding tells
+  tells_is d gives t e = go (short_code (length s) (length a)) refl t.short t.decided
+    where
+      go : (o : Option ℕ) → short_code (length s) (length a) ≡ o
+          → IfSome o (λ code. r ≡ record { code = code; state = s; answer = a })
+          → IfNone o ((v : Verdict) × gives v × (r ≡ leaves (told_of v (loaded s).walk) s a))
+          → r ≡ lent (length s) (length a) (λ code. record { code = code; state = s; answer = a })
+          (leaves (d (loaded s)) s a)
+      go (Some k) q short decided = short ∙ lent-short (length s) (length a)
+          (λ (code : ℕ). record { code = code; state = s; answer = a }) (leaves (d (loaded s)) s a) k q
+      go None q short (v, g, k) = k ∙ ap (λ (t : Told). leaves t s a) (e v g) ∙ lent-none (length s) (length a)
+          (λ (code : ℕ). record { code = code; state = s; answer = a }) (leaves (d (loaded s)) s a) q
+
+  pub starts_is : (d : Client → Started) (gives : Opening → Type 0) → Starts gives s a r
+      → ((o : Opening) → gives o → started_of o (loaded s).walk ≡ d (loaded s)) → r ≡ starts d s a
+  unfolding starts tells
+  starts_is d gives t e = go (short_code (length s) (length a)) refl t.short t.decided
+    where
+      go : (o : Option ℕ) → short_code (length s) (length a) ≡ o
+          → IfSome o (λ code. r ≡ record { code = code; state = s; answer = a })
+          → IfNone o ((p : Opening) × gives p × (r ≡ leaves (told_by (started_of p (loaded s).walk)) s a))
+          → r ≡ lent (length s) (length a) (λ code. record { code = code; state = s; answer = a })
+          (leaves (told_by (d (loaded s))) s a)
+      go (Some k) q short decided = short ∙ lent-short (length s) (length a)
+          (λ (code : ℕ). record { code = code; state = s; answer = a }) (leaves (told_by (d (loaded s))) s a) k q
+      go None q short (p, g, k) = k ∙ ap (λ (t : Started). leaves (told_by t) s a) (e p g)
+          ∙ lent-none (length s) (length a)
+          (λ (code : ℕ). record { code = code; state = s; answer = a }) (leaves (told_by (d (loaded s))) s a) q
 
 -- The answer of a call, and its code.
 module _ (says : Says) (n : Note) (r : ℕ) (en : n ≡ note_of says) (er : r ≡ coded n.number n.length)
@@ -97,10 +116,10 @@ module _ (says : Says) (n : Note) (r : ℕ) (en : n ≡ note_of says) (er : r �
       (behind (omega arith) (put_of 0 83 (fronted n progress x rest) a a₁ (omega arith) l₁ e₁)
       (put_of 83 1096 (saved_table t) a₁ a₂ (omega arith) l₂ e₂)).holds ∙ rw en
 
-  pub shows-is : (x : Id) → a₁ ≡ fronted n None x 0 ++ drop 83 a → a₂ ≡ listed no_table a₁
+  pub shows-is : (x : Id) → a₁ ≡ fronted n Progress.None x 0 ++ drop 83 a → a₂ ≡ listed no_table a₁
       → record { code = r; bytes = a₂ } ≡ shows says x a
   unfolding shows
-  shows-is x e₁ e₂ = rw (code_is, answered None x 0 no_table e₁ e₂)
+  shows-is x e₁ e₂ = rw (code_is, answered Progress.None x 0 no_table e₁ e₂)
 
   -- What a call leaves, from the front and the walk of the client after it.
   module _ (s : List ℕ) (b : Bool) (eb : b ≡ changes_no_state n.number) where
@@ -146,14 +165,14 @@ module _ (n : Note) (r : ℕ) (er : r ≡ coded n.number n.length) (s a a₁ a�
         (rw h (saved-in v.front (changed v.change (loaded_walk 87 s)) s s₁ s₂ room_s e₃ e₄))
 
   module _ (o : Opening) (x : Id) (ex : x ≡ no_id) (en : n ≡ note_of o.says)
-      (e₁ : a₁ ≡ fronted n None x 0 ++ drop 83 a) (e₂ : a₂ ≡ listed no_table a₁) where
-    e₁' : a₁ ≡ fronted n None no_id 0 ++ drop 83 a
+      (e₁ : a₁ ≡ fronted n Progress.None x 0 ++ drop 83 a) (e₂ : a₂ ≡ listed no_table a₁) where
+    e₁' : a₁ ≡ fronted n Progress.None no_id 0 ++ drop 83 a
     e₁' = rw ex at e₁
 
     pub started-kept : b ≡ true → record { code = r; state = s; answer = a₂ }
         ≡ leaves (told_by (started_of o (loaded s).walk)) s a
     unfolding told_by
-    started-kept h = left o.says n r en er a a₁ a₂ room_a l₁ l₂ s b eb None no_id 0 no_table o.front _ s e₁' e₂
+    started-kept h = left o.says n r en er a a₁ a₂ room_a l₁ l₂ s b eb Progress.None no_id 0 no_table o.front _ s e₁' e₂
         (rw h)
 
     pub started-saved : (s₁ s₂ : List ℕ) → b ≡ false
@@ -161,7 +180,7 @@ module _ (n : Note) (r : ℕ) (er : r ≡ coded n.number n.length) (s a a₁ a�
         → record { code = r; state = s₂; answer = a₂ } ≡ leaves (told_by (started_of o (loaded s).walk)) s a
     unfolding told_by loaded
     started-saved s₁ s₂ h e₃ e₄ =
-        left o.says n r en er a a₁ a₂ room_a l₁ l₂ s b eb None no_id 0 no_table o.front _ s₂ e₁' e₂
+        left o.says n r en er a a₁ a₂ room_a l₁ l₂ s b eb Progress.None no_id 0 no_table o.front _ s₂ e₁' e₂
         (rw h (saved-in o.front (renewed o.begins (loaded_walk 87 s)) s s₁ s₂ room_s e₃ e₄))
 
 -- The answer's list.

@@ -1,5 +1,5 @@
 -- How each exported call changes the buffers that a host lends, and the code that it returns.
-use Rattle.std.specs.Prelude.{ℕ, cond, List, ◌++◌, ltb, length, drop}
+use Rattle.std.specs.Prelude.{◌≡◌, ℕ, cond, List, ◌++◌, ltb, length, drop, Option, Some, None, IfSome, IfNone}
 use Rattle.ids.specs.declared.Id.{Id}
 use Rattle.ids.specs.Ids.{no_id}
 use Rattle.walk_table.specs.Rows.{no_table}
@@ -9,12 +9,15 @@ use Rattle.hearing.specs.Heard.{is_long, kind_of, id_in}
 use Rattle.client.specs.declared.Client.{Client}
 use Rattle.client.specs.declared.Outcome.TheVariants as Outcome
 use Rattle.client.specs.declared.Refusal.TheVariants.{LongId}
-use Rattle.client.specs.declared.Progress.TheVariants.{None}
+use Rattle.client.specs.declared.Progress.TheVariants as Progress
 use Rattle.client.specs.declared.Says.{Says}
 use Rattle.client.specs.declared.Says.TheVariants.{Over, Refused}
 use Rattle.client.specs.declared.Started.{Started}
 use Rattle.client.specs.declared.Told.{Told}
 use Rattle.client.specs.declared.Attached.{Attached}
+use Rattle.client.specs.declared.Opening.{Opening}
+use Rattle.client.specs.declared.Verdict.{Verdict}
+use Rattle.client.specs.Verdicts.{started_of, told_of}
 use Rattle.client.specs.Clients.{attached}
 use Rattle.client.specs.Numbers.{changes_no_state}
 use Rattle.client_request.specs.Request.{Asking, request}
@@ -33,8 +36,8 @@ unfoldable pub lent : {A : Type 0} → ℕ → ℕ → (ℕ → A) → A → A
 lent n m short enough = cond (ltb n State.size) (short (coded 16 State.size))
     (cond (ltb m AnswerBytes.size) (short (coded 16 AnswerBytes.size)) enough)
 
-unfoldable pub short_code : ℕ → ℕ → ℕ
-short_code n m = lent n m (λ code. code) 0
+unfoldable pub short_code : ℕ → ℕ → Option ℕ
+short_code n m = lent n m Some None
 
 -- The code, and the state and the answer's buffer after the call.
 pub record Exported : Type 0 where
@@ -51,7 +54,7 @@ pub record Requested : Type 0 where
 
 -- The answer of a start or a request: it has no rest, progress, id or list.
 unfoldable pub told_by : Started → Told
-told_by s = record { says = s.says; client = s.client; rest = 0; progress = None; id = no_id; found = no_table }
+told_by s = record { says = s.says; client = s.client; rest = 0; progress = Progress.None; id = no_id; found = no_table }
 
 -- What a call leaves: its answer is written, and the client is saved. After a refusal that changes no state, the state
 -- is as it was, byte for byte.
@@ -61,6 +64,19 @@ leaves t s a = record {
   state = cond (changes_no_state (note_of t.says).number) s (saved t.client ++ drop State.size s);
   answer = shown t.says t.progress t.id t.found t.rest ++ drop AnswerBytes.size a;
 }
+
+-- A call that has the code and the bytes r leaves: the code of a buffer that is too short, and nothing changed; else
+-- what one of the openings leaves that `gives` allows.
+pub record Starts (gives : Opening → Type 0) (s a : List ℕ) (r : Exported) : Type 0 where
+  pub short : IfSome (short_code (length s) (length a)) (λ code. r ≡ record { code = code; state = s; answer = a })
+  pub decided : IfNone (short_code (length s) (length a))
+      ((o : Opening) × gives o × (r ≡ leaves (told_by (started_of o (loaded s).walk)) s a))
+
+-- The same for verdicts.
+pub record Tells (gives : Verdict → Type 0) (s a : List ℕ) (r : Exported) : Type 0 where
+  pub short : IfSome (short_code (length s) (length a)) (λ code. r ≡ record { code = code; state = s; answer = a })
+  pub decided : IfNone (short_code (length s) (length a))
+      ((v : Verdict) × gives v × (r ≡ leaves (told_of v (loaded s).walk) s a))
 
 unfoldable pub tells : (Client → Told) → List ℕ → List ℕ → Exported
 tells f s a = lent (length s) (length a) (λ code. record { code = code; state = s; answer = a })
@@ -82,7 +98,7 @@ requests image s b a =
 
 -- Only an answer, with an id.
 unfoldable pub shows : Says → Id → List ℕ → Coded
-shows says x a = record { code = code_of says; bytes = shown says None x no_table 0 ++ drop AnswerBytes.size a }
+shows says x a = record { code = code_of says; bytes = shown says Progress.None x no_table 0 ++ drop AnswerBytes.size a }
 
 unfoldable pub shows_attached : Attached → List ℕ → Coded
 shows_attached x a = shows (Over (Outcome.Attached x.any)) x.id a

@@ -3,33 +3,37 @@
 
 pub mod codes;
 
-ghost use Rattle.std.specs.Prelude.{◌≡◌, ◌≤◌, length};
+ghost use Rattle.std.specs.Prelude.{◌≡◌, ◌≤◌, length, IfNone};
 ghost use Rattle.paper.proofs.Words.{Bytes};
-ghost use Rattle.client.specs.Verdicts.{started_of, given, told_of};
+ghost use Rattle.walk.specs.Moves.{place_of};
+ghost use Rattle.client.specs.Verdicts.{front_of, started_of, given, told_of};
 ghost use Rattle.host_state.specs.State as State;
 ghost use Rattle.host_state.specs.State.{loaded};
 ghost use Rattle.host_answer.specs.AnswerBytes as Answer;
 ghost use Rattle.host_answer.specs.AnswerBytes.{listed};
-ghost use Rattle.host_buffers.specs.Hosts.{short_code, leaves, told_by, shows, said_of};
+ghost use Rattle.host_buffers.specs.Hosts.{short_code, leaves, told_by, shows, said_of, Starts, Tells};
 
-use client::{Change, Opening, Outcome, Progress, Refusal, Says, Verdict};
+use client::{Change, Front, Opening, Outcome, Progress, Refusal, Says, Verdict};
 use hearing::Heard;
 use ids::Id;
+use walk::Place;
 
-// The code for a state or an answer's buffer of these lengths that is too short; 0 if both are long enough.
+// The code for a state or an answer's buffer of these lengths that is too short; none if both are long enough.
 #[tactic(auto, unfolding(crate::specs::Hosts::short_code, crate::specs::Hosts::lent))]
-pub fn short_code(state: usize, answer: usize) -> u64
-    ensures { result ≡ short_code state answer }
+pub fn short_code(state: usize, answer: usize) -> Option<u64>
+    ensures code { result ≡ short_code state answer }
+    ensures state_room { IfNone result (State.size ≤ state) }
+    ensures answer_room { IfNone result (Answer.size ≤ answer) }
 {
     let client = host_state::size();
     let whole = host_answer::size();
     if state < client {
-        return crate::codes::coded(16, client as u64);
+        return Some(crate::codes::coded(16, client as u64));
     }
     if answer < whole {
-        return crate::codes::coded(16, whole as u64);
+        return Some(crate::codes::coded(16, whole as u64));
     }
-    0
+    None
 }
 
 // Writes the answer's list: the walk's, if the change gives it; else an empty one.
@@ -66,7 +70,31 @@ pub fn told(v: Verdict, state: &mut [u8], answer: &mut [u8]) -> u64
     code
 }
 
-// The same for a start or a request: its answer has no progress, id or list.
+// A record or a failed link: the call decides on the front, the walk's place and how many ids the list holds. Nothing
+// is decided or written if a buffer is too short.
+pub fn telling<F: FnOnce(Front, Place, usize) -> Verdict>(
+    state: &mut [u8],
+    answer: &mut [u8],
+    decide: F,
+) -> u64
+    requires { F.pre decide (front_of (loaded state.old)) (place_of (loaded state.old).walk)
+        (loaded state.old).walk.found.count }
+    ensures { Tells (λ v. F.post decide (front_of (loaded state.old)) (place_of (loaded state.old).walk)
+        (loaded state.old).walk.found.count v) state.old answer.old
+        (record { code = result; state = state.new; answer = answer.new }) }
+{
+    if let Some(short) = short_code(state.len(), answer.len()) {
+        return short;
+    }
+    let verdict = decide(
+        host_state::load_front(state),
+        host_state::load_place(state),
+        host_state::count(state),
+    );
+    told(verdict, state, answer)
+}
+
+// The same as `told` for a start or a request: its answer has no progress, id or list.
 pub fn started(o: Opening, state: &mut [u8], answer: &mut [u8]) -> u64
     requires state_room { State.size ≤ length state.old }
     requires bytes { Bytes state.old }
@@ -85,6 +113,18 @@ pub fn started(o: Opening, state: &mut [u8], answer: &mut [u8]) -> u64
     host_state::renew(o.begins, state);
     host_state::save_front(o.front, state);
     code
+}
+
+// A start: the call decides on the front. Nothing is decided or written if a buffer is too short.
+pub fn starting<F: FnOnce(Front) -> Opening>(state: &mut [u8], answer: &mut [u8], decide: F) -> u64
+    requires { F.pre decide (front_of (loaded state.old)) }
+    ensures { Starts (λ o. F.post decide (front_of (loaded state.old)) o) state.old answer.old
+        (record { code = result; state = state.new; answer = answer.new }) }
+{
+    if let Some(short) = short_code(state.len(), answer.len()) {
+        return short;
+    }
+    started(decide(host_state::load_front(state)), state, answer)
 }
 
 // Writes only an answer, with an id.

@@ -1,23 +1,10 @@
 -- Answers to the goals of `fahireky::fahireky_request`.
 use Rattle.fahireky.proofs.Ways.{requests-short, requests-is}
-use Rattle.host_buffers.proofs.Ways.{state-room, answer-room}
 use borrow.Author.Rules.{rules}
 use Rattle.fahireky.proofs.fahireky_request.Goals as goal
 
-pub returns-then-short-ne0 : goal.returns-then-short-ne0
-returns-then-short-ne0 c = search (requests-short, rules)
-
-pub load_front-f-requires : goal.load_front-f-requires
-load_front-f-requires c = search (state-room, rules)
-
-pub load_place-p-requires : goal.load_place-p-requires
-load_place-p-requires c = search (state-room, rules)
-
-pub started-requires-clause-state_room : goal.started-requires-clause-state_room
-started-requires-clause-state_room c = search (state-room, rules)
-
-pub started-requires-clause-answer_room : goal.started-requires-clause-answer_room
-started-requires-clause-answer_room c = search (answer-room, rules)
+pub returns-in-Some : goal.returns-in-Some
+returns-in-Some c = search (requests-short, rules)
 
 pub returns : goal.returns
 returns c = search (requests-is, rules)
