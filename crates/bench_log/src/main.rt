@@ -9,41 +9,19 @@ use log_feed::events::Log;
 use std::io;
 use std::io::Read;
 
-#[derive(Clone, Copy)]
-struct Pumped {
-    more: bool,
-    log: Log,
-}
-
-// Reads once and feeds what was read. A failed read counts as the end of the input.
-fn pump(input: &mut impl Read, log: Log, page: &mut [u8], buf: &mut [u8]) -> Pumped
-    ensures { Reached (record { log = log; bytes = buf.old })
-        (record { log = result.log; bytes = buf.new }) }
-{
-    let n = input.read(page).unwrap_or(0);
-    if n == 0 {
-        return Pumped { more: false, log };
-    }
-    let next = log_feed::feed(log, &page[..n], buf);
-    Pumped {
-        more: true,
-        log: next,
-    }
-}
-
-// A proved loop must end, but the input need not. So the reads are counted, up to 2^64 - 1; each brings at least one
-// byte.
-fn pump_all(input: &mut impl Read, page: &mut [u8], buf: &mut [u8]) -> Log
+// Reads all input, and feeds each piece to the log. A failed read counts as the end of the input. A proved loop must
+// end, but the input need not. So the reads are counted, up to 2^64 - 1; each brings at least one byte.
+fn pump(input: &mut impl Read, page: &mut [u8], buf: &mut [u8]) -> Log
     ensures { Reached (record { log = begun; bytes = buf.old })
         (record { log = result; bytes = buf.new }) }
 {
     let mut log = log_feed::begun();
     for _ in 0..u64::MAX {
-        let p = pump(input, log, page, buf);
-        log = p.log;
-        if !p.more {
-            return log;
+        let n = input.read(page).unwrap_or(0);
+        if n == 0 {
+            break;
         }
+        log = log_feed::feed(log, &page[..n], buf);
     }
     log
 }
@@ -57,7 +35,7 @@ fn report(
 ) -> usize
     ensures { Reports out.old result out.new }
 {
-    let log = pump_all(input, page, buf);
+    let log = pump(input, page, buf);
     let answer = log_feed::finish(log, buf);
     log_listing::show(answer, out)
 }

@@ -18,52 +18,39 @@ fn reply(command: u8, payload: &[u8], room: &mut [u8]) -> usize {
     let w = frame::write_frame(head, payload, 0, room);
     match w {
         Written::Done(n) => n,
-        Written::Short(_) => 0,
-        Written::TooLong => 0,
+        Written::Short(_) | Written::TooLong => 0,
     }
 }
 
 // The pod: capacity 6, erase size 4, payloads of at most 4 bytes, compat unset. It verifies with the image's check.
 fn pod(command: u8, room: &mut [u8]) -> usize {
-    if command == wire::INFO {
-        return reply(
+    match command {
+        wire::INFO => reply(
             wire::INFO,
             b"\x06\x00\x00\x00\x04\x00\x01\x00\x02\x00\x00\xff\xff\xff\xff\xff\x04\x00",
             room,
-        );
+        ),
+        wire::VERIFY => {
+            let c = crc::crc16(crc::START, b"abcde");
+            let mut check = [0u8; 2];
+            wire::put(&mut check, 0, c);
+            reply(wire::VERIFY, &check, room)
+        }
+        _ => reply(command, b"", room),
     }
-    if command == wire::VERIFY {
-        let c = crc::crc16(crc::START, b"abcde");
-        let mut check = [0u8; 2];
-        wire::put(&mut check, 0, c);
-        return reply(wire::VERIFY, &check, room);
-    }
-    reply(command, b"", room)
 }
 
 fn print_progress(out: &impl Print, p: Progress) -> io::Result<()> {
     if let Progress::Made(done, total) = p {
-        show::print(out, b"  done ")?;
-        show::print_number(out, done, 1)?;
-        show::print(out, b" of ")?;
-        show::print_number(out, total, 1)?;
-        show::print(out, b"\n")?;
-    }
-    Ok(())
-}
-
-fn print_outcome(out: &impl Print, o: Outcome) -> io::Result<()> {
-    if let Outcome::Knows(info) = o {
-        show::print(out, b"flashed: boot version ")?;
-        show::print_number(out, info.boot_version as u64, 1)?;
-        show::print(out, b"\n")?;
+        print!(out; "  done {done:x} of {total:x}\n")?;
     }
     Ok(())
 }
 
 fn print_says(out: &impl Print, says: Says) -> io::Result<()> {
-    if let Says::Over(o) = says {
-        print_outcome(out, o)?;
+    if let Says::Over(Outcome::Knows(info)) = says {
+        let version = info.boot_version;
+        print!(out; "flashed: boot version {version:x}\n")?;
     }
     Ok(())
 }
@@ -72,14 +59,12 @@ fn print_says(out: &impl Print, says: Says) -> io::Result<()> {
 fn told(out: &impl Print, c: Client, command: u8) -> io::Result<Client> {
     let mut room = [0u8; 64];
     let n = pod(command, &mut room);
-    if room.len() < n {
+    let Some(bytes) = room.get(..n) else {
         return Ok(c);
-    }
-    let t = client_record::record(c, b"abcde", &room[0..n]);
-    let says = t.says;
-    let progress = t.progress;
-    print_progress(out, progress)?;
-    print_says(out, says)?;
+    };
+    let t = client_record::record(c, b"abcde", bytes);
+    print_progress(out, t.progress)?;
+    print_says(out, t.says)?;
     Ok(t.client)
 }
 
@@ -87,19 +72,16 @@ fn told(out: &impl Print, c: Client, command: u8) -> io::Result<Client> {
 fn round(out: &impl Print, c: Client) -> io::Result<Client> {
     let mut room = [0u8; 64];
     let s = client_request::request(c, b"abcde", &mut room);
-    let says = s.says;
-    let next = s.client;
-    if let Says::Granted(n) = says {
+    if let Says::Granted(n) = s.says {
         show::print_front(out, &room, n)?;
-        show::print(out, b"\n")?;
-        return told(out, next, room[1]);
+        print!(out; "\n")?;
+        return told(out, s.client, room[1]);
     }
-    Ok(next)
+    Ok(s.client)
 }
 
 fn main(rt: HostRuntime) -> io::Result<()> {
-    let s = client_start::start_flash(Client::new(), b"abcde");
-    let mut c = s.client;
+    let mut c = client_start::start_flash(Client::new(), b"abcde").client;
     for _ in 0..6 {
         c = round(&rt, c)?;
     }

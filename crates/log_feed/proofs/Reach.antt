@@ -1,20 +1,10 @@
--- A log after some pieces: what a program that reads knows of it at the start, after one piece, and after more.
+-- A log after some pieces: what a program that reads knows of it at the start, and after one more piece.
 use mathlib.Core.List.{List, [], ◌∷◌, ◌++◌}
 use mathlib.Core.Path.{◌≡◌, refl, sym, ◌∙◌, ap}
 use Prim.Native.Nat.{ℕ}
 use Rattle.log_feed.specs.declared.events.Log.{Log}
 use Rattle.log_feed.specs.FeedMachine.{Logged, piece, begun}
 use Rattle.log_feed.specs.Pieces.{Reached, pieces}
-
-pub nothing-fed : (s : Logged) → Reached s s
-unfolding pieces
-nothing-fed s = record { fed = []; same = refl }
-
-pub one-fed : (w v : Log) (buf buf' x : List ℕ)
-    → record { log = v; bytes = buf' } ≡ piece (record { log = w; bytes = buf }) x
-    → Reached (record { log = w; bytes = buf }) (record { log = v; bytes = buf' })
-unfolding pieces
-one-fed w v buf buf' x e = record { fed = x ∷ []; same = e }
 
 pub at-begin : (w : Log) (buf : List ℕ) → w ≡ begun
     → Reached (record { log = begun; bytes = buf }) (record { log = w; bytes = buf })
@@ -26,12 +16,11 @@ unfolding pieces
 pieces-on s [] ys = refl
 pieces-on s (x ∷ xs) ys = pieces-on (piece s x) xs ys
 
-pub pumped : (w v : Log) (buf₀ buf buf' : List ℕ)
-    → Reached (record { log = begun; bytes = buf₀ }) (record { log = w; bytes = buf })
-    → Reached (record { log = w; bytes = buf }) (record { log = v; bytes = buf' })
-    → Reached (record { log = begun; bytes = buf₀ }) (record { log = v; bytes = buf' })
-pumped w v buf₀ buf buf' p q = record {
-  fed = p.fed ++ q.fed;
-  same = q.same ∙ ap (λ (s : Logged). pieces s q.fed) p.same
-      ∙ sym (pieces-on (record { log = begun; bytes = buf₀ }) p.fed q.fed);
+pub one_more : (s : Logged) (w v : Log) (buf buf' x : List ℕ) → Reached s (record { log = w; bytes = buf })
+    → record { log = v; bytes = buf' } ≡ piece (record { log = w; bytes = buf }) x
+    → Reached s (record { log = v; bytes = buf' })
+unfolding pieces
+one_more s w v buf buf' x p e = record {
+  fed = p.fed ++ (x ∷ []);
+  same = e ∙ ap (λ (t : Logged). piece t x) p.same ∙ sym (pieces-on s p.fed (x ∷ []));
 }

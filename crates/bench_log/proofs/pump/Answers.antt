@@ -1,10 +1,10 @@
 -- Answers to the goals of `bench_log::pump`.
-use Rattle.log_feed.proofs.Reach.{nothing-fed, one-fed}
+use Rattle.log_feed.proofs.Reach.{at-begin, one_more}
 use borrow.Author.Rules.{rules}
 use Rattle.bench_log.proofs.pump.Goals as goal
 
-pub returns-then-n-eq0 : goal.returns-then-n-eq0
-returns-then-n-eq0 g c = search (nothing-fed, rules)
+pub loop-init : goal.loop-init
+loop-init g c = search (at-begin, rules)
 
-pub returns : goal.returns
-returns g c = search (one-fed, rules)
+pub loop-preserved : goal.loop-preserved
+loop-preserved g c = search (one_more, rules)

@@ -1,7 +1,7 @@
--- The invariant of `bench_log::pump_all`.
+-- The invariant of `bench_log::pump`.
 use Rattle.log_feed.specs.FeedMachine.{begun}
 use Rattle.log_feed.specs.Pieces.{Reached}
-use Rattle.bench_log.proofs.pump_all.Given as goal
+use Rattle.bench_log.proofs.pump.Given as goal
 
 -- The log is the one after what was read so far.
 abbrev pub invariant-loop : goal.invariant-loop
