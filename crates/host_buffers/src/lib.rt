@@ -3,7 +3,7 @@
 
 pub mod codes;
 
-ghost use Rattle.std.specs.Prelude.{◌≡◌, ◌≤◌, length, IfNone};
+ghost use Rattle.std.specs.Prelude.{◌≡◌, ◌≤◌, length, IfSome, IfNone};
 ghost use Rattle.paper.proofs.Words.{Bytes};
 ghost use Rattle.walk.specs.Moves.{place_of};
 ghost use Rattle.client.specs.Verdicts.{front_of, started_of, given, told_of};
@@ -79,7 +79,8 @@ pub fn telling<F: FnOnce(Front, Place, usize) -> Verdict>(
 ) -> u64
     requires { F.pre decide (front_of (loaded state.old)) (place_of (loaded state.old).walk)
         (loaded state.old).walk.found.count }
-    ensures { Tells (λ v. F.post decide (front_of (loaded state.old)) (place_of (loaded state.old).walk)
+    ensures short { IfSome (short_code (length state.old) (length answer.old)) (λ code. result ≡ code) }
+    ensures left { Tells (λ v. F.post decide (front_of (loaded state.old)) (place_of (loaded state.old).walk)
         (loaded state.old).walk.found.count v) state.old answer.old
         (record { code = result; state = state.new; answer = answer.new }) }
 {
@@ -118,7 +119,8 @@ pub fn started(o: Opening, state: &mut [u8], answer: &mut [u8]) -> u64
 // A start: the call decides on the front. Nothing is decided or written if a buffer is too short.
 pub fn starting<F: FnOnce(Front) -> Opening>(state: &mut [u8], answer: &mut [u8], decide: F) -> u64
     requires { F.pre decide (front_of (loaded state.old)) }
-    ensures { Starts (λ o. F.post decide (front_of (loaded state.old)) o) state.old answer.old
+    ensures short { IfSome (short_code (length state.old) (length answer.old)) (λ code. result ≡ code) }
+    ensures left { Starts (λ o. F.post decide (front_of (loaded state.old)) o) state.old answer.old
         (record { code = result; state = state.new; answer = answer.new }) }
 {
     if let Some(short) = short_code(state.len(), answer.len()) {
