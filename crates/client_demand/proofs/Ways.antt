@@ -18,7 +18,8 @@ use Rattle.paper.specs.Flash.{reset_flags}
 use Rattle.paper.specs.Client.{payload_of, demand_frame}
 use Rattle.paper.proofs.Chunks.{chunk-most, write-size}
 use Rattle.paper.proofs.Words.{le-cut}
-use Rattle.wire.specs.declared.Placed.{Placed}
+use Rattle.std.specs.Prelude.{Result}
+use Rattle.wire.specs.declared.Short.{Short}
 use Rattle.frame.specs.declared.Head.{Head}
 use Rattle.frame.specs.Writing.{frame_of, Placing, placed}
 use Rattle.image.specs.declared.Info as Code
@@ -84,7 +85,7 @@ write-fits info o image k held bytes ek eheld eb =
       chunk-most info.max_payload,
     ))
 
-module _ (r : Placed) (h : Head) (buf after : List ℕ) where
+module _ (r : Result ℕ Short) (h : Head) (buf after : List ℕ) where
   pub sent : (command flags address : ℕ) → h ≡ head_for command flags address
       → record { answer = r; bytes = after } ≡ placed (frame_bytes (frame_of h [])) buf
       → record { answer = r; bytes = after } ≡ placed (frame_bytes (demand_frame (plain command flags address []) [])) buf
@@ -97,12 +98,13 @@ module _ (r : Placed) (h : Head) (buf after : List ℕ) where
   unfolding payload_of
   sent-verify n eh e = (rw eh at e) ∙ placed-cut (head_for 3 0 (n % 2 ^ 32)) n [] buf refl
 
-  pub sent-erase : (info : Code.Info) (address e : ℕ) → e ≡ info.erase_size → h ≡ head_for 1 0 address
-      → record { answer = r; bytes = after } ≡ placed (frame_bytes (frame_of h (e % 256 ∷ e / 256 % 256 ∷ []))) buf
+  pub sent-erase : (info : Code.Info) (address : ℕ) (size : List ℕ) → size ≡ le 2 info.erase_size
+      → h ≡ head_for 1 0 address
+      → record { answer = r; bytes = after } ≡ placed (frame_bytes (frame_of h size)) buf
       → record { answer = r; bytes = after }
       ≡ placed (frame_bytes (demand_frame (erase_request (paper_info info) address) [])) buf
-  unfolding payload_of le
-  sent-erase info address e ee eh q = rw (eh, ee) at q
+  unfolding payload_of
+  sent-erase info address size es eh q = rw (eh, es) at q
 
   module _ (info : Info) (o : ℕ) (image : List ℕ) where
     abbrev n : ℕ
@@ -152,7 +154,7 @@ module _ (reset : Reset) (into baud : ℕ) (ei : into ≡ cond reset.bootloader 
       go true = refl
       go false = refl
 
-pub sent-reset : (r : Placed) (h : Head) (buf after : List ℕ) (reset : Reset) (flags address : ℕ)
+pub sent-reset : (r : Result ℕ Short) (h : Head) (buf after : List ℕ) (reset : Reset) (flags address : ℕ)
     → flags ≡ flags_of reset → address ≡ cond reset.given reset.baud 0
     → h ≡ head_for 4 flags address → record { answer = r; bytes = after } ≡ placed (frame_bytes (frame_of h [])) buf
     → record { answer = r; bytes = after } ≡ placed (frame_bytes (demand_frame (reset_of reset) [])) buf

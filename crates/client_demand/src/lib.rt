@@ -12,7 +12,7 @@ ghost use Rattle.client_demand.specs.Demands.{head_for, flags_of, reset_of, dema
 use client::{Job, Reset};
 use frame::Head;
 use image::Info;
-use wire::Placed;
+use wire::{Short, Word};
 
 // The head of a request's frame.
 fn head(command: u8, flags: u8, address: u32) -> Head
@@ -26,26 +26,24 @@ fn head(command: u8, flags: u8, address: u32) -> Head
     }
 }
 
-pub fn write_info(buf: &mut [u8]) -> Placed
+pub fn write_info(buf: &mut [u8]) -> Result<usize, Short>
     ensures { record { answer = result; bytes = buf.new }
         ≡ placed (frame_bytes (demand_frame info_request [])) buf.old }
 {
-    let none = [0u8; 1];
-    frame::place_frame(head(wire::INFO, 0, 0), &none[..0], 0, buf)
+    frame::place_frame(head(wire::INFO, 0, 0), &[], 0, buf)
 }
 
 // The payload is the erase size.
-pub fn write_erase(info: Info, address: u32, buf: &mut [u8]) -> Placed
+pub fn write_erase(info: Info, address: u32, buf: &mut [u8]) -> Result<usize, Short>
     ensures { record { answer = result; bytes = buf.new }
         ≡ placed (frame_bytes (demand_frame (erase_request (paper_info info) address) [])) buf.old }
 {
-    let e = info.erase_size;
-    let size = [(e % 0x100) as u8, (e / 0x100 % 0x100) as u8];
+    let size = info.erase_size.to_bytes();
     frame::place_frame(head(wire::ERASE, 0, address), &size, 0, buf)
 }
 
 // The payload is the image from the offset to the chunk's end, then FF. FLUSH is on the last Write.
-pub fn write_write(info: Info, offset: u64, image: &[u8], buf: &mut [u8]) -> Placed
+pub fn write_write(info: Info, offset: u64, image: &[u8], buf: &mut [u8]) -> Result<usize, Short>
     ensures { record { answer = result; bytes = buf.new }
         ≡ placed (frame_bytes (demand_frame (write_request (paper_info info) (length image.now) offset)
         image.now)) buf.old }
@@ -64,17 +62,11 @@ pub fn write_write(info: Info, offset: u64, image: &[u8], buf: &mut [u8]) -> Pla
 }
 
 // The address is the image's length.
-pub fn write_verify(n: usize, buf: &mut [u8]) -> Placed
+pub fn write_verify(n: usize, buf: &mut [u8]) -> Result<usize, Short>
     ensures { record { answer = result; bytes = buf.new }
         ≡ placed (frame_bytes (demand_frame (verify_request n) [])) buf.old }
 {
-    let none = [0u8; 1];
-    frame::place_frame(
-        head(wire::VERIFY, 0, (n % 0x1_0000_0000) as u32),
-        &none[..0],
-        0,
-        buf,
-    )
+    frame::place_frame(head(wire::VERIFY, 0, (n % 0x1_0000_0000) as u32), &[], 0, buf)
 }
 
 // BOOTLOADER for a reset into the bootloader, BAUD if a baud is given.
@@ -94,22 +86,16 @@ fn address_of(reset: Reset) -> u32
     0
 }
 
-pub fn write_reset(reset: Reset, buf: &mut [u8]) -> Placed
+pub fn write_reset(reset: Reset, buf: &mut [u8]) -> Result<usize, Short>
     ensures { record { answer = result; bytes = buf.new }
         ≡ placed (frame_bytes (demand_frame (reset_of reset) [])) buf.old }
 {
-    let none = [0u8; 1];
     let flags = reset_flags(reset);
-    frame::place_frame(
-        head(wire::RESET, flags, address_of(reset)),
-        &none[..0],
-        0,
-        buf,
-    )
+    frame::place_frame(head(wire::RESET, flags, address_of(reset)), &[], 0, buf)
 }
 
 // Writes the request of a job, with the image lent.
-pub fn write_demand(job: Job, image: &[u8], buf: &mut [u8]) -> Placed
+pub fn write_demand(job: Job, image: &[u8], buf: &mut [u8]) -> Result<usize, Short>
     ensures { record { answer = result; bytes = buf.new }
         ≡ placed (frame_bytes (demand_frame (demand_of job (length image.now)) image.now))
         buf.old }

@@ -4,7 +4,8 @@ use Rattle.std.proofs.Common.{◌≡◌, ℕ, Bool, true, false, cond, ltb, List
 use Rattle.ids.specs.declared.Id.{Id}
 use Rattle.ids.specs.Ids.{no_id}
 use Rattle.walk_table.specs.declared.Table.{Table}
-use Rattle.wire.specs.declared.Placed.{Placed}
+use Rattle.std.specs.Prelude.{Result, Ok, Err}
+use Rattle.wire.specs.declared.Short.{Short}
 use Rattle.frame.specs.Writing.{Placing, placed}
 use Rattle.paper.specs.Frame.{frame_bytes}
 use Rattle.walk.specs.declared.Walk.{Walk}
@@ -66,10 +67,10 @@ unfolding placed granting granted
 placing c p bytes buffer = go (ltb (length buffer) (length bytes))
   where
     done : Placing
-    done = record { answer = Placed.Done (length bytes); bytes = bytes ++ drop (length bytes) buffer }
+    done = record { answer = Ok (length bytes); bytes = bytes ++ drop (length bytes) buffer }
 
     short : Placing
-    short = record { answer = Placed.Short (length bytes); bytes = buffer }
+    short = record { answer = Err (record { needed = length bytes }); bytes = buffer }
 
     go : (b : Bool)
         → ◌≡◌ {A = Asking} (record {
@@ -85,7 +86,7 @@ placing c p bytes buffer = go (ltb (length buffer) (length bytes))
     go false = refl
 
 -- The first premise is only there for the search: it names the writer's result.
-pub asked-made : (f : Front) (p : Place) (r : Opening) (ph : Phase) (v : Placed) (image buffer after : List ℕ)
+pub asked-made : (f : Front) (p : Place) (r : Opening) (ph : Phase) (v : Result ℕ Short) (image buffer after : List ℕ)
     → started_of r no_walk ≡ granted (client_of f no_walk) ph v
     → ((t : Table) → record { answer = v; bytes = after } ≡ placed (frame_bytes (frame_of (here f p t) ph image)) buffer)
     → ((w : Walk) → started_of r w ≡ granted (client_of f w) ph v) → (t : Table)

@@ -1,7 +1,7 @@
 -- Asking for a request: the answer, the client after it, and the bytes written.
-use Rattle.std.specs.Prelude.{ℕ, ◌+◌, ◌*◌, ◌%◌, cond, List, [], ◌++◌, length, drop, nat_lt}
+use Rattle.std.specs.Prelude.{ℕ, ◌+◌, ◌*◌, ◌%◌, Result, cond, List, [], ◌++◌, length, drop, nat_lt}
 use Rattle.ids.specs.Ids.{id_of}
-use Rattle.wire.specs.declared.Placed.{Placed}
+use Rattle.wire.specs.declared.Short.{Short}
 use Rattle.frame.specs.Writing.{on_placed}
 use Rattle.client_demand.specs.Demands.{reset_of, demand_of}
 use Rattle.paper.specs.Client.{demand_frame}
@@ -74,7 +74,7 @@ handed c p =
     (λ reset. idle c)
 
 -- The request is handed out if it was written. If the buffer was too short, it is refused.
-unfoldable pub granted : Client → Phase → Placed → Started
+unfoldable pub granted : Client → Phase → Result ℕ Short → Started
 granted c p w = on_placed w (λ n. record { says = handing p n; client = handed c p }) (λ n. refuse c (ShortBuffer n))
 
 -- The answer, and the buffer after it.

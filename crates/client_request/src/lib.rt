@@ -15,7 +15,7 @@ ghost use Rattle.client_request.specs.Request.{asked_for, request};
 use client::{Client, Front, Opening, Phase, Refusal, Says, Search, Started, Turn};
 use ids::Id;
 use walk::{Ask, Place};
-use wire::Placed;
+use wire::Short;
 
 fn next_seed(seed: u8) -> u8
     ensures { result ≡ next_seed seed }
@@ -78,18 +78,18 @@ fn handed(f: Front, phase: Phase, n: usize) -> Opening
 
 // The request is handed out if it was written. If the buffer was too short, it is refused.
 #[tactic(auto, unfolding(crate::specs::Request::granted))]
-fn granted(f: Front, phase: Phase, placed: Placed) -> Opening
+fn granted(f: Front, phase: Phase, placed: Result<usize, Short>) -> Opening
     ensures { (w : Walk) → started_of result w ≡ granted (client_of f w) phase placed }
 {
     match placed {
-        Placed::Done(n) => handed(f, phase, n),
-        Placed::Short(n) => f.refuse(Refusal::ShortBuffer(n)),
+        Ok(n) => handed(f, phase, n),
+        Err(short) => f.refuse(Refusal::ShortBuffer(short.needed)),
     }
 }
 
 // Writes the Select of a search, with the next seed.
 #[tactic(auto, unfolding(crate::specs::Request::search_frame))]
-fn write_search(f: Front, p: Place, search: Search, buffer: &mut [u8]) -> Placed
+fn write_search(f: Front, p: Place, search: Search, buffer: &mut [u8]) -> Result<usize, Short>
     ensures { (t : Table) → record { answer = result; bytes = buffer.new }
         ≡ placed (frame_bytes (search_frame (client_of f (walk_of p t)) search)) buffer.old }
 {
@@ -99,7 +99,7 @@ fn write_search(f: Front, p: Place, search: Search, buffer: &mut [u8]) -> Placed
 
 // Writes the request of a phase.
 #[tactic(auto, unfolding(crate::specs::Request::frame_of))]
-fn write_request(f: Front, p: Place, phase: Phase, image: &[u8], buffer: &mut [u8]) -> Placed
+fn write_request(f: Front, p: Place, phase: Phase, image: &[u8], buffer: &mut [u8]) -> Result<usize, Short>
     ensures { (t : Table) → record { answer = result; bytes = buffer.new }
         ≡ placed (frame_bytes (frame_of (client_of f (walk_of p t)) phase image.now)) buffer.old }
 {

@@ -5,7 +5,6 @@
 use frame::Head;
 use hearing::Hearing;
 use std::io;
-use wire::Written;
 
 // Prints a frame with address 0, written with its padding, and what its bytes are heard as.
 fn print_frame(
@@ -25,7 +24,7 @@ fn print_frame(
     };
     let w = frame::write_frame(head, payload, pad, &mut room);
     print!(out; "{name}")?;
-    if let Written::Done(n) = w {
+    if let Ok(n) = w {
         show::print_front(out, &room, n)?;
         print!(out; "\n")?;
         print_heard(out, &room, n)?;

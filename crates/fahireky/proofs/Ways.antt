@@ -5,7 +5,7 @@ use mathlib.Core.Path.{◌≡◌, refl, sym, ◌∙◌, ap, subst}
 use lib.ListN.{length}
 use Rattle.std.specs.Prelude.{Option, Result}
 use Rattle.ids.specs.declared.Id.{Id}
-use Rattle.wire.specs.declared.Written.{Written}
+use Rattle.wire.specs.declared.Unwritten.{Unwritten}
 use Rattle.text.specs.declared.BadText.{BadText}
 use Rattle.text.specs.Texts as Texts
 use Rattle.hearing.specs.declared.Hearing.{Hearing}
@@ -101,7 +101,7 @@ module _ (X : Hearing) (a : List ℕ) (n : ℕ) (o : Option ℕ) (en : n ≡ Sta
       (shows (said_of (kind_of X)) (id_in X) a) (unlent ∙ z)
 
 -- Ids, texts and keys.
-pub writes-is : (o : Texts.Outcome) (w : Written) (b : List ℕ) (r : ℕ) → record { answer = w; bytes = b } ≡ o
+pub writes-is : (o : Texts.Outcome) (w : Result ℕ Unwritten) (b : List ℕ) (r : ℕ) → record { answer = w; bytes = b } ≡ o
     → r ≡ written_code w → record { code = r; bytes = b } ≡ writes o
 unfolding writes
 writes-is o w b r eo er = rw er (ap writes eo)

@@ -5,7 +5,6 @@
 use client::{Client, Outcome, Progress, Says};
 use frame::Head;
 use std::io;
-use wire::Written;
 
 // A reply of status Ok.
 fn reply(command: u8, payload: &[u8], room: &mut [u8]) -> usize {
@@ -15,11 +14,7 @@ fn reply(command: u8, payload: &[u8], room: &mut [u8]) -> usize {
         flags: 0,
         address: 0,
     };
-    let w = frame::write_frame(head, payload, 0, room);
-    match w {
-        Written::Done(n) => n,
-        Written::Short(_) | Written::TooLong => 0,
-    }
+    frame::write_frame(head, payload, 0, room).unwrap_or(0)
 }
 
 // The pod: capacity 6, erase size 4, payloads of at most 4 bytes, compat unset. It verifies with the image's check.

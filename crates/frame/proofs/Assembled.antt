@@ -11,7 +11,7 @@ use borrow.Rule.Slice.PartMut.{put_mid}
 use Rattle.paper.specs.Frame.{le, Frame, frame_head, frame_body, frame_check, frame_bytes}
 use Rattle.lore.proofs.Parts.{part-all, mid-all}
 use Rattle.paper.proofs.Frames.{head-length, body-length, frame-length}
-use Rattle.wire.specs.declared.Placed.TheVariants.{Done, Short}
+use Rattle.std.specs.Prelude.{Ok, Err}
 use Rattle.frame.specs.declared.Head.{Head}
 use Rattle.frame.specs.Writing.{frame_of, tag_of, head_of, placed, sealed}
 
@@ -32,7 +32,7 @@ module _ (h : Head) (load buf : List ℕ) (n : ℕ) (en : length load ≡ n) whe
   frame_is : length (frame_bytes f) ≡ n + 12
   frame_is = frame-length f ∙ ap (λ (k : ℕ). 12 + k) en ∙ add_comm 12 n
 
-  pub too_short : length buf < n + 12 → record { answer = Short (n + 12); bytes = buf } ≡ placed (frame_bytes f) buf
+  pub too_short : length buf < n + 12 → record { answer = Err (record { needed = n + 12 }); bytes = buf } ≡ placed (frame_bytes f) buf
   unfolding placed
   too_short k = rw (frame_is, lt-ltb (length buf) (n + 12) k)
 
@@ -67,9 +67,9 @@ module _ (h : Head) (load buf : List ℕ) (n : ℕ) (en : length load ≡ n) whe
 
     pub assembled : n + 12 ≤ length buf
         → d₃ ≡ sealed (n + 10) filled
-        → record { answer = Done (n + 12); bytes = d₃ } ≡ placed (frame_bytes f) buf
+        → record { answer = Ok (n + 12); bytes = d₃ } ≡ placed (frame_bytes f) buf
     unfolding placed sealed frame_bytes
     assembled room e₃ =
         rw (frame_is, le-ltb (length buf) (n + 12) room)
-        (ap (λ (l : List ℕ). record { answer = Done (n + 12); bytes = l })
+        (ap (λ (l : List ℕ). record { answer = Ok (n + 12); bytes = l })
         (e₃ ∙ ap₂ (λ (x y : List ℕ). x ++ le 2 (frame_check x) ++ y) front back))

@@ -1,8 +1,8 @@
 -- A frame from its head and payload, and what a frame's writer answers and leaves in the buffer.
-use Rattle.std.specs.Prelude.{ℕ, ◌+◌, cond, List, [], ◌∷◌, ◌++◌, ltb, length, take, drop}
+use Rattle.std.specs.Prelude.{ℕ, ◌+◌, Result, Ok, Err, cond, List, [], ◌∷◌, ◌++◌, ltb, length, take, drop}
 use Rattle.paper.specs.Frame.{le, Frame, most, frame_check, frame_bytes}
-use Rattle.wire.specs.declared.Placed.{Placed}
-use Rattle.wire.specs.declared.Written.{Written}
+use Rattle.wire.specs.declared.Short.{Short}
+use Rattle.wire.specs.declared.Unwritten.{Unwritten}
 use Rattle.frame.specs.declared.Head.{Head}
 
 abbrev pub frame_of : Head → List ℕ → Frame
@@ -24,28 +24,29 @@ head_of h n = tag_of h ++ le 4 h.address ++ le 2 n
 
 -- The answer of the writer of a request, and the buffer after it.
 pub record Placing : Type 0 where
-  pub answer : Placed
+  pub answer : Result ℕ Short
   pub bytes : List ℕ
 
 -- "fills its own length of the buffer and changes no byte after it"; if the buffer is too short, nothing is written.
 unfoldable pub placed : List ℕ → List ℕ → Placing
 placed bytes buffer =
     cond (ltb (length buffer) (length bytes))
-    (record { answer = Placed.Short (length bytes); bytes = buffer })
-    (record { answer = Placed.Done (length bytes); bytes = bytes ++ drop (length bytes) buffer })
+    (record { answer = Err (record { needed = length bytes }); bytes = buffer })
+    (record { answer = Ok (length bytes); bytes = bytes ++ drop (length bytes) buffer })
 
 -- The answer of the writer of any frame, and the buffer after it.
 pub record Outcome : Type 0 where
-  pub answer : Written
+  pub answer : Result ℕ Unwritten
   pub bytes : List ℕ
 
 -- A result for each answer.
-abbrev pub on_placed {ℓ} : {A : Type ℓ} → Placed → (ℕ → A) → (ℕ → A) → A
-on_placed (Placed.Done n) d s = d n
-on_placed (Placed.Short n) d s = s n
+abbrev pub on_placed {ℓ} : {A : Type ℓ} → Result ℕ Short → (ℕ → A) → (ℕ → A) → A
+on_placed (Ok n) d s = d n
+on_placed (Err short) d s = s short.needed
 
-unfoldable pub answer_of : Placed → Written
-answer_of p = on_placed p Written.Done Written.Short
+-- The same answer of a writer that may refuse its input too.
+unfoldable pub answer_of : Result ℕ Short → Result ℕ Unwritten
+answer_of p = on_placed p Ok (λ n. Err (Unwritten.Short n))
 
 abbrev pub outcome : Placing → Outcome
 outcome p = record { answer = answer_of p.answer; bytes = p.bytes }
@@ -56,5 +57,5 @@ sealed n buffer = take n buffer ++ le 2 (frame_check (take n buffer)) ++ drop (n
 
 -- A payload of over 1,024 bytes is too long for any buffer.
 unfoldable pub written : Frame → List ℕ → Outcome
-written f buffer = cond (ltb most (length f.payload)) (record { answer = Written.TooLong; bytes = buffer })
+written f buffer = cond (ltb most (length f.payload)) (record { answer = Err Unwritten.TooLong; bytes = buffer })
     (outcome (placed (frame_bytes f) buffer))

@@ -3,9 +3,9 @@
 
 ghost use Rattle.std.specs.Prelude.{◌≡◌, ◌++◌, ◌+◌, ◌≤◌, length, drop, replicate};
 ghost use Rattle.paper.specs.Frame.{frame_bytes};
-ghost use Rattle.frame.specs.Writing.{frame_of, tag_of, head_of, placed, sealed, answer_of, written};
+ghost use Rattle.frame.specs.Writing.{frame_of, tag_of, head_of, placed, sealed, written};
 
-use wire::{Placed, Written};
+use wire::{Short, Unwritten};
 
 // A frame's fields without its payload.
 #[derive(Clone, Copy)]
@@ -44,8 +44,8 @@ pub fn put_padded(dst: &mut [u8], bytes: &[u8], pad: usize)
         ≡ (bytes.now ++ replicate pad 0xFF) ++ drop (length bytes.now + pad) dst.old }
 {
     let n = bytes.len();
-    wire::copy(dst, bytes);
-    wire::fill(&mut dst[n..], pad, 0xFF);
+    dst[..n].copy_from_slice(bytes);
+    dst[n..n + pad].fill(0xFF);
 }
 
 // Writes the check of a frame after its first n bytes, which end with its payload.
@@ -59,42 +59,32 @@ pub fn seal(buf: &mut [u8], n: usize)
 }
 
 // Writes a frame whose payload is the bytes given, then pad bytes FF: at most 1,024 bytes.
-pub fn place_frame(head: Head, bytes: &[u8], pad: usize, buf: &mut [u8]) -> Placed
+pub fn place_frame(head: Head, bytes: &[u8], pad: usize, buf: &mut [u8]) -> Result<usize, Short>
     requires { length bytes.now + pad ≤ 1024 }
     ensures { record { answer = result; bytes = buf.new }
         ≡ placed (frame_bytes (frame_of head (bytes.now ++ replicate pad 0xFF))) buf.old }
 {
     let n = bytes.len() + pad;
     if buf.len() < n + 12 {
-        return Placed::Short(n + 12);
+        return Err(Short { needed: n + 12 });
     }
     put_head(buf, head, n as u16);
     put_padded(&mut buf[10..], bytes, pad);
     seal(buf, n + 10);
-    Placed::Done(n + 12)
-}
-
-// The same answer as a Written.
-fn answer_of(p: Placed) -> Written
-    ensures { result ≡ answer_of p }
-{
-    match p {
-        Placed::Done(n) => Written::Done(n),
-        Placed::Short(n) => Written::Short(n),
-    }
+    Ok(n + 12)
 }
 
 // The same for any lengths: TooLong if the payload is over 1,024 bytes.
-pub fn write_frame(head: Head, bytes: &[u8], pad: usize, buf: &mut [u8]) -> Written
+pub fn write_frame(head: Head, bytes: &[u8], pad: usize, buf: &mut [u8]) -> Result<usize, Unwritten>
     ensures { record { answer = result; bytes = buf.new }
         ≡ written (frame_of head (bytes.now ++ replicate pad 0xFF)) buf.old }
 {
     let m = bytes.len();
     if wire::MAX_PAYLOAD < m {
-        return Written::TooLong;
+        return Err(Unwritten::TooLong);
     }
     if wire::MAX_PAYLOAD - m < pad {
-        return Written::TooLong;
+        return Err(Unwritten::TooLong);
     }
-    answer_of(place_frame(head, bytes, pad, buf))
+    Ok(place_frame(head, bytes, pad, buf)?)
 }

@@ -9,7 +9,7 @@ use borrow.Rule.Slice.PartMut.{put_mid}
 use lib.Seq.{length-take-le, take-add, drop-drop}
 use Rattle.paper.specs.Frame.{le}
 use Rattle.paper.proofs.Fields.{Put, num, behind, before, found, after, put-length}
-use Rattle.lore.proofs.Parts.{part-all}
+use Rattle.lore.proofs.Parts.{part-all, mid-is, part-filled}
 use Rattle.paper.proofs.Words.{le-length}
 use Rattle.ids.specs.declared.Id.{Id}
 use Rattle.walk_table.specs.declared.Table.{Table}
@@ -88,18 +88,21 @@ module _ (n : Note) (g : Gain) (rest : ℕ) (b d₁ d₂ d₃ d₄ : List ℕ) (
 
 -- The answer's list.
 module _ (a : List ℕ) (room : size ≤ length a) where
-  pub list-none : (d : List ℕ) → d ≡ replicate 1096 0 ++ drop 1096 (take (length a - 83) (drop 83 a))
-      → put_mid 83 (length a - 83) a d ≡ listed no_table a
+  pub list-none : (d : List ℕ) → d ≡ replicate (length (take 1096 (drop 83 a))) 0
+      → put_mid 83 1096 a d ≡ listed no_table a
   unfolding listed
-  list-none d e = (part-put 83 1096 (replicate 1096 0) a d (length-replicate {A = ℕ} 1096 0) e).holds ∙ rw (← table-zero)
+  list-none d e = mid-is 83 1096 a d ∙ rw (part-filled 83 1096 0 a d (omega arith) e, table-zero)
 
   module _ (s : List ℕ) (n : ℕ) (en : n ≡ (loaded s).walk.found.count) where
     pub list_over : (d : List ℕ) → 64 < n → d ≡ listed no_table a → d ≡ listed (giving (loaded_table 239 s)) a
     unfolding giving loaded loaded_walk loaded_table
     list_over d h e = e ∙ rw (← en, lt-leb n 64 h)
 
-    module _ (hs : State.size ≤ length s) (h : n ≤ 64) (d₁ d₂ : List ℕ)
-        (e₁ : d₁ ≡ take 83 a ++ take 1088 (drop 239 s) ++ drop (83 + length (take 1088 (drop 239 s))) a) where
+    module _ (hs : State.size ≤ length s) (h : n ≤ 64) (rows-in d₂ : List ℕ)
+        (e₁ : rows-in ≡ take 1088 (drop 239 s)) where
+      abbrev d₁ : List ℕ
+      d₁ = put_mid 83 1088 a rows-in
+
       abbrev list : Table
       list = loaded_table 239 s
 
@@ -123,13 +126,10 @@ module _ (a : List ℕ) (room : size ≤ length a) where
       }
 
       pasted : Put 83 1088 (take 1088 (drop 239 s)) a d₁
-      pasted =
-          let sized : length (take 1088 (drop 239 s)) ≡ 1088 =
-          length-take-le 1088 (drop 239 s) (omega (arith, length-drop 239 s)) in
-          record {
-            sized = sized;
-            holds = e₁ ∙ ap (λ (k : ℕ). take 83 a ++ take 1088 (drop 239 s) ++ drop (83 + k) a) sized;
-          }
+      pasted = record {
+        sized = length-take-le 1088 (drop 239 s) (omega (arith, length-drop 239 s));
+        holds = mid-is 83 1088 a rows-in ∙ ap (λ (l : List ℕ). take 83 a ++ l ++ drop 1171 a) e₁;
+      }
 
       list-in : table_in part n ≡ list
       unfolding loaded loaded_walk loaded_table

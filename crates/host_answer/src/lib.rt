@@ -79,7 +79,7 @@ pub fn no_list(out: &mut [u8])
     requires { size ≤ length out.old }
     ensures { out.new ≡ listed no_table out.old }
 {
-    wire::fill(&mut out[83..], 1096, 0);
+    out[83..1179].fill(0);
 }
 
 // Writes the list of a client's bytes, sorted; an empty one if its count is over 64.
@@ -93,7 +93,7 @@ pub fn write_list(bytes: &[u8], out: &mut [u8])
         no_list(out);
         return;
     }
-    wire::paste(out, 83, &bytes[239..1327]);
+    out[83..1171].copy_from_slice(&bytes[239..1327]);
     walk_table::sort(&mut out[83..], n);
     wire::put(out, 1171, n as u64);
 }

@@ -2,8 +2,7 @@
 use Rattle.std.specs.Prelude.{ℕ, Option, Some, None, Result, Ok, Err, ◌+◌, ◌*◌, ◌%◌, cond, List, ◌++◌, ltb, length, drop}
 use Rattle.ids.specs.declared.Id.{Id}
 use Rattle.ids.specs.Ids.{id_of}
-use Rattle.wire.specs.declared.Written.{Written}
-use Rattle.wire.specs.declared.Written.TheVariants.{Done, Short, TooLong}
+use Rattle.wire.specs.declared.Unwritten.{Unwritten}
 use Rattle.text.specs.declared.BadText.{BadText}
 use Rattle.text.specs.Texts as Texts
 
@@ -17,10 +16,10 @@ pub record Coded : Type 0 where
   pub bytes : List ℕ
 
 -- Ids as text, and texts as ids.
-unfoldable pub written_code : Written → ℕ
-written_code (Done n) = coded 0 n
-written_code (Short n) = coded 16 n
-written_code TooLong = coded 13 0
+unfoldable pub written_code : Result ℕ Unwritten → ℕ
+written_code (Ok n) = coded 0 n
+written_code (Err (Unwritten.Short n)) = coded 16 n
+written_code (Err Unwritten.TooLong) = coded 13 0
 
 unfoldable pub writes : Texts.Outcome → Coded
 writes o = record { code = written_code o.answer; bytes = o.bytes }

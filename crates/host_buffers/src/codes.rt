@@ -4,7 +4,7 @@ ghost use Rattle.host_buffers.specs.Codes.{coded, written_code, put_uid, read_ui
 
 use ids::Id;
 use text::BadText;
-use wire::Written;
+use wire::Unwritten;
 
 // A code: the number in the low byte, the length above it.
 pub fn coded(number: u8, length: u64) -> u64
@@ -14,13 +14,13 @@ pub fn coded(number: u8, length: u64) -> u64
 }
 
 // The code of a writer's answer.
-pub fn written_code(w: Written) -> u64
+pub fn written_code(w: Result<usize, Unwritten>) -> u64
     ensures { result ≡ written_code w }
 {
     match w {
-        Written::Done(n) => coded(0, n as u64),
-        Written::Short(n) => coded(16, n as u64),
-        Written::TooLong => coded(13, 0),
+        Ok(n) => coded(0, n as u64),
+        Err(Unwritten::Short(n)) => coded(16, n as u64),
+        Err(Unwritten::TooLong) => coded(13, 0),
     }
 }
 
@@ -32,7 +32,7 @@ fn put_uid(x: Id, out: &mut [u8]) -> u64
     if out.len() < n {
         return coded(16, n as u64);
     }
-    wire::copy(out, x.as_slice());
+    out[..n].copy_from_slice(x.as_slice());
     coded(0, n as u64)
 }
 

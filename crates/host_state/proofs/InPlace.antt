@@ -12,7 +12,7 @@ use lib.Seq.{drop-drop, length-take-le}
 use borrow.Rule.Slice.PartMut.{put_mid}
 use Rattle.paper.specs.Frame.{le}
 use Rattle.paper.proofs.Fields.{Put, num, behind, own}
-use Rattle.lore.proofs.Parts.{part-all, put-part}
+use Rattle.lore.proofs.Parts.{part-all, put-part, mid-is, part-filled}
 use Rattle.paper.proofs.Words.{Bytes, le-length}
 use Rattle.ids.specs.declared.Id.{Id}
 use Rattle.ids.specs.Ids.{no_id}
@@ -42,10 +42,10 @@ part-put at n x b d h e = record {
 }
 
 module _ (s : List ℕ) where
-  pub cleared : (d : List ℕ) → d ≡ replicate 1096 0 ++ drop 1096 (take (length s - 239) (drop 239 s))
-      → put_mid 239 (length s - 239) s d ≡ with_table no_table s
+  pub cleared : (d : List ℕ) → size ≤ length s → d ≡ replicate (length (take 1096 (drop 239 s))) 0
+      → put_mid 239 1096 s d ≡ with_table no_table s
   unfolding with_table
-  cleared d e = (part-put 239 1096 (replicate 1096 0) s d (length-replicate {A = ℕ} 1096 0) e).holds ∙ rw (← table-zero)
+  cleared d room e = mid-is 239 1096 s d ∙ rw (part-filled 239 1096 0 s d (omega arith) e, table-zero)
 
   module _ (room : size ≤ length s) where
     abbrev list : Table

@@ -144,7 +144,7 @@ fn clear(bytes: &mut [u8])
     requires { size ≤ length bytes.old }
     ensures { bytes.new ≡ with_table no_table bytes.old }
 {
-    wire::fill(&mut bytes[239..], 1096, 0);
+    bytes[239..1335].fill(0);
 }
 
 // The walk after a start or a request: a new one under the prefix given, or as it was.

@@ -12,7 +12,8 @@ use Rattle.paper.proofs.Hex.{hex_text-length}
 use Rattle.paper.specs.Hearing as Paper
 use Rattle.paper.specs.Text.{hex_text}
 use Rattle.paper.specs.Log.{id_lines, last_line}
-use Rattle.wire.specs.declared.Written.{Written}
+use Rattle.std.specs.Prelude.{Result}
+use Rattle.wire.specs.declared.Unwritten.{Unwritten}
 use Rattle.text.specs.Texts.{Outcome, written}
 use Rattle.text.proofs.Writing.{writes}
 use Rattle.ids.specs.Ids.{id_of}
@@ -26,7 +27,7 @@ pub line-length : (bytes : List ℕ) → length (line bytes) ≡ 2 * length byte
 line-length bytes = omega (arith, length-append (hex_text bytes) (10 ∷ []), hex_text-length bytes)
 
 -- A line: the digits, and LF after them.
-module _ (bytes out out' : List ℕ) (w : Written) (fits : length bytes ≤ 16) (room : 2 * length bytes < length out)
+module _ (bytes out out' : List ℕ) (w : Result ℕ Unwritten) (fits : length bytes ≤ 16) (room : 2 * length bytes < length out)
     (e : record { answer = w; bytes = out' } ≡ written bytes out) where
   abbrev n : ℕ
   n = 2 * length bytes

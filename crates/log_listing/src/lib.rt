@@ -26,7 +26,7 @@ fn put_line(bytes: &[u8], out: &mut [u8]) -> usize
     ensures value { result ≡ 2 * length bytes.now + 1 }
 {
     let n = 2 * bytes.len();
-    text::uid_hex(bytes, out);
+    let _ = text::uid_hex(bytes, out);
     out[n] = b'\n';
     n + 1
 }

@@ -11,7 +11,7 @@ use lib.Bits.{bit_or}
 use lib.Dec.{eqb}
 use lib.ListN.{length, take, drop, get_or, set, replicate, length-take, length-append, length-replicate, get_or-replicate}
 use lib.ListN.{get_or-append}
-use lib.Seq.{take_all, take-suc, length-take-le, drop_at, drop-drop, get_or-take, get_or-append-add, set-append_left}
+use lib.Seq.{take_all, take-suc, length-take-le, drop-drop, get_or-take, get_or-append-add, set-append_left}
 use borrow.Author.Tests.{eq-eqb, ne_eqb}
 use borrow.Rule.Slice.PartMut.{put_mid}
 use Rattle.paper.specs.Frame.{frame_bytes}
@@ -26,7 +26,7 @@ use Rattle.ids.proofs.Pack.{pack_one}
 use Rattle.frame.specs.declared.Head.{Head}
 use Rattle.frame.specs.Writing.{head_of, placed, sealed}
 use Rattle.frame.proofs.Assembled.{too_short, assembled}
-use Rattle.wire.specs.declared.Placed.TheVariants.{Done, Short}
+use Rattle.std.specs.Prelude.{Ok, Err}
 use Rattle.select.specs.Selects.{asked, bytes_for}
 
 -- `dst[k / 8] |= 1 << (k % 8)` if the bit is 1, and nothing if it is 0.
@@ -113,49 +113,67 @@ module _ (bits : List ℕ) (count : ℕ) (long : length bits ≡ 16) (small : co
           ∙ sym (take-suc q m false h))
       go m e (no h) = ap (packed n) (take_all m q (omega arith) ∙ sym (take_all (suc m) q (omega arith)))
 
-  module _ (m : ℕ) (dst d₀ : List ℕ) (em : m ≡ n) (e₀ : d₀ ≡ replicate m 0 ++ drop m dst) where
-    behind : drop n d₀ ≡ drop n dst
-    behind = ap (drop n) (rw em at e₀) ∙ drop_at (replicate n 0) (drop n dst) n (length-replicate n 0)
+  pub bits_none : (dst f : List ℕ) (m : ℕ) → m ≡ n → n ≤ length dst → f ≡ replicate (length (take m dst)) 0
+      → f ++ drop m dst ≡ packed n (take 0 q) ++ drop n dst
+  bits_none dst f m em room e =
+      ap₂ (λ (x : List ℕ) (k : ℕ). x ++ drop k dst)
+      (e ∙ ap (λ (k : ℕ). replicate k 0) (ap (λ (k : ℕ). length (take k dst)) em ∙ length-take-le n dst room)
+      ∙ sym (packed_none n)) em
 
-    pub bits_none : d₀ ≡ packed n (take 0 q) ++ drop n d₀
-    bits_none = (rw em at e₀) ∙ ap₂ (λ (x y : List ℕ). x ++ y) (sym (packed_none n)) (sym behind)
+  -- What is put is the first k bits; rest are the bytes after those of the bits.
+  module _ (k : ℕ) (d rest : List ℕ) (e : d ≡ packed n (take k q) ++ rest) where
+    pub bits-done : count ≤ k → d ≡ packed n q ++ rest
+    bits-done g = e ∙ ap (λ (x : List Bool). packed n x ++ rest)
+        (take_all k q (omega (arith, asked-length bits count long small)))
 
-    module _ (k : ℕ) (d : List ℕ) (e : d ≡ packed n (take k q) ++ drop n d₀) where
-      pub bits-done : count ≤ k → d ≡ packed n q ++ drop n dst
-      bits-done g = e ∙ ap₂ (λ (x : List Bool) (y : List ℕ). packed n x ++ y)
-          (take_all k q (omega (arith, asked-length bits count long small))) behind
+    bits-after : 128 ≤ k → d ≡ packed n q ++ rest
+    bits-after g =
+        let all : take (k + count) q ≡ q =
+        take_all (k + count) q (omega (arith, asked-length bits count long small)) in
+        e ∙ ap (λ (x : List ℕ). x ++ rest)
+        (passed k (k + count) (omega arith) (λ i l u m. asked-after i (omega arith) m) ∙ ap (packed n) all)
 
-      pub bits-over : 128 ≤ k → d ≡ packed n q ++ drop n dst
-      bits-over g =
-          let all : take (k + count) q ≡ q =
-          take_all (k + count) q (omega (arith, asked-length bits count long small)) in
-          e ∙ ap₂ (λ (x y : List ℕ). x ++ y)
-          (passed k (k + count) (omega arith) (λ i l u m. asked-after i (omega arith) m) ∙ ap (packed n) all) behind
+  module _ (i : ℕ) (d rest : List ℕ) where
+    pub bits-over : 16 ≤ i → d ≡ packed n (take (8 * i) q) ++ rest → d ≡ packed n q ++ rest
+    bits-over g e = bits-after (8 * i) d rest e (omega arith)
 
-  module _ (k : ℕ) (d₀ d : List ℕ) (l : k < 128) (e : d ≡ packed n (take k q) ++ drop n d₀) where
-    pub bits-passed : get_or bits (k / 8) 0 ≡ 0 → d ≡ packed n (take (8 * (k / 8) + 8) q) ++ drop n d₀
-    bits-passed z = e ∙ ap (λ (x : List ℕ). x ++ drop n d₀) (passed k (8 * (k / 8) + 8) (omega arith) none)
+    pub bits-passed : i < 16 → get_or bits i 0 ≡ 0 → d ≡ packed n (take (8 * i) q) ++ rest
+        → d ≡ packed n (take (8 * (i + 1)) q) ++ rest
+    bits-passed h z e = e ∙ ap (λ (x : List ℕ). x ++ rest) (passed (8 * i) (8 * (i + 1)) (omega arith) none)
       where
-        none : (i : ℕ) → k ≤ i → i < 8 * (k / 8) + 8 → i < count → get_or q i false ≡ false
-        none i g h m =
-            let byte : i / 8 ≡ k / 8 = omega arith in
-            asked-bit i m (omega arith) ∙ ap (λ (x : ℕ). eqb (bit_of x (i % 8)) 1)
-            (ap (λ (j : ℕ). get_or bits j 0) byte ∙ z) ∙ rw zero-div
+        none : (j : ℕ) → 8 * i ≤ j → j < 8 * (i + 1) → j < count → get_or q j false ≡ false
+        none j g l m =
+            let byte : j / 8 ≡ i = omega arith in
+            asked-bit j m (omega arith) ∙ ap (λ (x : ℕ). eqb (bit_of x (j % 8)) 1)
+            (ap (λ (a : ℕ). get_or bits a 0) byte ∙ z) ∙ rw zero-div
 
-    pub bits-more : (d' : List ℕ) → k < count → d' ≡ cond (eqb (bit_of (get_or bits (k / 8) 0) (k % 8)) 1) (set_bit d k) d
-        → d' ≡ packed n (take (k + 1) q) ++ drop n d₀
-    bits-more d' h e' =
-        e'
-        ∙ ap₂ (λ (b : Bool) (x : List ℕ). cond b (set_bit x k) x) (sym (asked-bit k h l)) e
-        ∙ go (get_or q k false)
-        ∙ ap (λ (x : List ℕ). x ++ drop n d₀)
-        (bit-more n q k (omega (arith, asked-length bits count long small))
-        (omega (arith, asked-length bits count long small)))
-      where
-        go : (b : Bool) → cond b (set_bit (packed n (take k q) ++ drop n d₀) k) (packed n (take k q) ++ drop n d₀)
-            ≡ cond b (set_bit (packed n (take k q)) k) (packed n (take k q)) ++ drop n d₀
-        go true = set_front (packed n (take k q)) (drop n d₀) k (rw (packed-length n (take k q)) (omega arith))
-        go false = refl
+    module _ (k : ℕ) where
+      pub byte-done : k ≤ 8 * i + 8 → 8 * i + 8 ≤ k → d ≡ packed n (take k q) ++ rest
+          → d ≡ packed n (take (8 * (i + 1)) q) ++ rest
+      byte-done h g e =
+          let same : k ≡ 8 * (i + 1) = omega arith in
+          e ∙ ap (λ (j : ℕ). packed n (take j q) ++ rest) same
+
+      pub bits-more : (d' : List ℕ) → i < 16 → 8 * i ≤ k → k < 8 * i + 8 → k < count
+          → d ≡ packed n (take k q) ++ rest
+          → d' ≡ cond (eqb (bit_of (get_or bits i 0) (k % 8)) 1) (set_bit d k) d
+          → d' ≡ packed n (take (k + 1) q) ++ rest
+      bits-more d' l f g h e e' =
+          e'
+          ∙ ap₂ (λ (b : Bool) (x : List ℕ). cond b (set_bit x k) x)
+          (ap (λ (a : ℕ). eqb (bit_of (get_or bits a 0) (k % 8)) 1) byte ∙ sym (asked-bit k h (omega arith))) e
+          ∙ go (get_or q k false)
+          ∙ ap (λ (x : List ℕ). x ++ rest)
+          (bit-more n q k (omega (arith, asked-length bits count long small))
+          (omega (arith, asked-length bits count long small)))
+        where
+          byte : i ≡ k / 8
+          byte = omega arith
+
+          go : (b : Bool) → cond b (set_bit (packed n (take k q) ++ rest) k) (packed n (take k q) ++ rest)
+              ≡ cond b (set_bit (packed n (take k q)) k) (packed n (take k q)) ++ rest
+          go true = set_front (packed n (take k q)) rest k (rw (packed-length n (take k q)) (omega arith))
+          go false = refl
 
 module _ (seed : ℕ) (bits : List ℕ) (count : ℕ) (long : length bits ≡ 16) (small : count < 256) where
   payload-is : select_payload seed (asked bits count) ≡ seed ∷ count ∷ packed (bytes_for count) (asked bits count)
@@ -184,14 +202,14 @@ module _ (seed : ℕ) (bits : List ℕ) (count : ℕ) (long : length bits ≡ 16
     sized = payload-length ∙ ap (λ (k : ℕ). 2 + k) (sym en)
 
     pub select_short : length buf < 2 + n + 12
-        → record { answer = Short (2 + n + 12); bytes = buf }
+        → record { answer = Err (record { needed = 2 + n + 12 }); bytes = buf }
         ≡ placed (frame_bytes (select_frame seed (asked bits count))) buf
     select_short k = too_short head (select_payload seed (asked bits count)) buf (2 + n) sized k
 
     pub select-wrote : (d₁ d₂ d₃ : List ℕ) → 2 + n + 12 ≤ length buf → d₁ ≡ head_of head (2 + n) ++ drop 10 buf
         → d₂ ≡ select_payload seed (asked bits count) ++ drop (2 + bytes_for count) (take (length d₁ - 10) (drop 10 d₁))
         → d₃ ≡ sealed (2 + n + 10) (put_mid 10 (length d₁ - 10) d₁ d₂)
-        → record { answer = Done (2 + n + 12); bytes = d₃ }
+        → record { answer = Ok (2 + n + 12); bytes = d₃ }
         ≡ placed (frame_bytes (select_frame seed (asked bits count))) buf
     select-wrote d₁ d₂ d₃ room e₁ e₂ e₃ =
         assembled head (select_payload seed (asked bits count)) buf (2 + n) sized d₁ d₂ d₃ e₁

@@ -9,7 +9,7 @@ ghost use Rattle.frame.specs.Writing.{placed};
 ghost use Rattle.select.specs.Selects.{asked, bytes_for};
 
 use frame::Head;
-use wire::Placed;
+use wire::Short;
 
 // How many bytes hold count bits.
 fn bytes_for(count: u8) -> usize
@@ -37,18 +37,17 @@ fn put_bits(dst: &mut [u8], bits: [u8; ids::MAX_BYTES], count: u8)
     ensures { dst.new
         ≡ packed (bytes_for count) (asked bits count) ++ drop (bytes_for count) dst.old }
 {
-    wire::fill(dst, bytes_for(count), 0);
-    let mut k = 0;
-    while k < count as usize {
-        if ids::MAX_BITS <= k {
-            return;
+    dst[..bytes_for(count)].fill(0);
+    let n = count as usize;
+    for (i, x) in bits.iter().enumerate() {
+        if *x == 0 {
+            continue;
         }
-        let x = bits[k / 8];
-        if x == 0 {
-            k = 8 * (k / 8) + 8;
-        } else {
-            put_bit(dst, x, k);
-            k += 1;
+        for k in 8 * i..8 * i + 8 {
+            if n <= k {
+                return;
+            }
+            put_bit(dst, *x, k);
         }
     }
 }
@@ -72,13 +71,13 @@ fn put_select(dst: &mut [u8], seed: u8, bits: [u8; ids::MAX_BYTES], count: u8)
 }
 
 // Writes a Select of the first count bits; bits after the sixteenth byte are zero.
-pub fn write_select(seed: u8, bits: [u8; ids::MAX_BYTES], count: u8, buf: &mut [u8]) -> Placed
+pub fn write_select(seed: u8, bits: [u8; ids::MAX_BYTES], count: u8, buf: &mut [u8]) -> Result<usize, Short>
     ensures { record { answer = result; bytes = buf.new }
         ≡ placed (frame_bytes (select_frame seed (asked bits count))) buf.old }
 {
     let n = 2 + bytes_for(count);
     if buf.len() < n + 12 {
-        return Placed::Short(n + 12);
+        return Err(Short { needed: n + 12 });
     }
     let head = Head {
         command: wire::SELECT,
@@ -89,5 +88,5 @@ pub fn write_select(seed: u8, bits: [u8; ids::MAX_BYTES], count: u8, buf: &mut [
     frame::put_head(buf, head, n as u16);
     put_select(&mut buf[10..], seed, bits, count);
     frame::seal(buf, n + 10);
-    Placed::Done(n + 12)
+    Ok(n + 12)
 }

@@ -11,7 +11,8 @@ use mir.Val.{Fits}
 use borrow.Author.Tests.{lt-ltb, le-ltb}
 use Rattle.paper.specs.Text.{hex_digit, hex_text, uid_hex}
 use Rattle.paper.proofs.Hex.{hex_text-length, hex_text-append}
-use Rattle.wire.specs.declared.Written.TheVariants.{Done, Short, TooLong}
+use Rattle.std.specs.Prelude.{Ok, Err}
+use Rattle.wire.specs.declared.Unwritten.TheVariants.{Short, TooLong}
 use Rattle.text.specs.Texts.{Outcome, written}
 
 pub high_digit : (bytes : List ℕ) (i : ℕ) → ((k : ℕ) → Fits w8 (get_or bytes k 0)) → get_or bytes i 0 / 16 < 16
@@ -56,18 +57,18 @@ wrote-all bytes buffer text i e h g = let s : i ≡ length bytes = omega arith i
 -- What writing an id answers: the two refusals, and the text.
 module _ (id buffer : List ℕ) where
   pub refuses-long : 16 < length id
-      → ◌≡◌ {A = Outcome} (record { answer = TooLong; bytes = buffer }) (written id buffer)
+      → ◌≡◌ {A = Outcome} (record { answer = Err TooLong; bytes = buffer }) (written id buffer)
   unfolding written uid_hex
   refuses-long h = rw (lt-ltb 16 (length id) h)
 
   pub refuses-short : length id ≤ 16 → length buffer < 2 * length id
-      → ◌≡◌ {A = Outcome} (record { answer = Short (2 * length id); bytes = buffer }) (written id buffer)
+      → ◌≡◌ {A = Outcome} (record { answer = Err (Short (2 * length id)); bytes = buffer }) (written id buffer)
   unfolding written uid_hex
   refuses-short h g = rw (le-ltb 16 (length id) h, hex_text-length id, lt-ltb (length buffer) (2 * length id) g)
 
   pub writes : (text : List ℕ) → length id ≤ 16 → 2 * length id ≤ length buffer
       → text ≡ hex_text id ++ drop (2 * length id) buffer
-      → ◌≡◌ {A = Outcome} (record { answer = Done (2 * length id); bytes = text }) (written id buffer)
+      → ◌≡◌ {A = Outcome} (record { answer = Ok (2 * length id); bytes = text }) (written id buffer)
   unfolding written uid_hex
   writes text h g e = rw (
     le-ltb 16 (length id) h,

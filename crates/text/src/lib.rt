@@ -6,7 +6,7 @@ ghost use Rattle.paper.specs.Text.{hex_digit, digit, hex_text, parse_uid};
 ghost use Rattle.text.specs.Texts.{written, parsed};
 
 use ids::Id;
-use wire::Written;
+use wire::Unwritten;
 
 // A text that is no id: refusal 22.
 #[derive(Clone, Copy, PartialEq, Eq)]
@@ -49,18 +49,18 @@ fn put_hex(text: &mut [u8], bytes: &[u8])
 
 // Writes an id in lower case hexadecimal. TooLong is refusal 13 (over 16 bytes), Short is 16 (the text buffer is too
 // short); 13 goes before 16.
-pub fn uid_hex(id: &[u8], text: &mut [u8]) -> Written
+pub fn uid_hex(id: &[u8], text: &mut [u8]) -> Result<usize, Unwritten>
     ensures { record { answer = result; bytes = text.new } ≡ written id.now text.old }
 {
     let n = id.len();
     if ids::MAX_BYTES < n {
-        return Written::TooLong;
+        return Err(Unwritten::TooLong);
     }
     if text.len() < 2 * n {
-        return Written::Short(2 * n);
+        return Err(Unwritten::Short(2 * n));
     }
     put_hex(text, id);
-    Written::Done(2 * n)
+    Ok(2 * n)
 }
 
 // Reads an id from a text. BadText for an odd length, for over 32 digits and for a bad digit.

@@ -1,11 +1,12 @@
-// Document 01's numbers, little-endian numbers in slices, bytes copied and filled, and what a writer answers.
+// Document 01's numbers, little-endian numbers in slices, and why a writer writes nothing.
 #![tactic(auto)]
 
 pub mod arrays;
 
-ghost use Rattle.std.specs.Prelude.{ℕ, List, ◌≡◌, refl, cond, [], ◌∷◌, ◌++◌, ◌+◌, ◌^◌, ◌≤◌, ◌<◌, length, take, drop, replicate};
+ghost use Rattle.std.specs.Prelude.{ℕ, List, ◌≡◌, refl, cond, [], ◌∷◌, ◌++◌, ◌+◌, ◌^◌, ◌≤◌, ◌<◌, length, take, drop};
 ghost use Rattle.paper.specs.Frame.{le, number, field};
 ghost use Rattle.wire.specs.Words.{one_byte};
+ghost use Rattle.wire.specs.declared.Unwritten.{Unwritten};
 
 // The longest payload of a frame, in bytes.
 pub const MAX_PAYLOAD: usize = 1024;
@@ -39,20 +40,26 @@ pub const BOOTLOADER: u8 = 1;
 
 pub const BAUD: u8 = 2;
 
-// What a writer answers. Done: how many bytes it wrote at the front of the buffer. Short: the buffer is too short, with
-// the length needed. TooLong: the input is too long for any buffer.
-#[derive(Clone, Copy)]
-pub enum Written {
-    Done(usize),
+// The buffer is too short for what is to be written: how many bytes it needs.
+#[derive(Clone, Copy, Debug, PartialEq, Eq)]
+pub struct Short {
+    pub needed: usize,
+}
+
+// Why a writer wrote nothing: the buffer is too short, with how many bytes it needs, or the input is too long for any
+// buffer.
+#[derive(Clone, Copy, Debug, PartialEq, Eq)]
+pub enum Unwritten {
     Short(usize),
     TooLong,
 }
 
-// What the writer of a request answers: the same without TooLong.
-#[derive(Clone, Copy)]
-pub enum Placed {
-    Done(usize),
-    Short(usize),
+impl From<Short> for Unwritten {
+    ghost from_gives = { λ short why. why ≡ Unwritten.Short short.needed };
+
+    fn from(short: Short) -> Unwritten {
+        Unwritten::Short(short.needed)
+    }
 }
 
 // The value of a flag if it is set, else 0.
@@ -159,37 +166,4 @@ pub fn put<const N: usize, W: Word<N>>(buf: &mut [u8], at: usize, x: W)
     ensures { buf.new ≡ take at buf.old ++ W.bytes x ++ drop (at + N) buf.old }
 {
     arrays::put_bytes(buf, at, x.to_bytes());
-}
-
-// Writes src to dst from a place on.
-pub fn paste(dst: &mut [u8], at: usize, src: &[u8])
-    requires { at + length src.now ≤ length dst.old }
-    ensures { dst.new
-        ≡ take at dst.old ++ src.now ++ drop (at + length src.now) dst.old }
-{
-    copy(&mut dst[at..], src);
-}
-
-// Writes src to the front of dst.
-pub fn copy(dst: &mut [u8], src: &[u8])
-    requires { length src.now ≤ length dst.old }
-    ensures { dst.new ≡ src.now ++ drop (length src.now) dst.old }
-{
-    let mut i = 0;
-    while i < src.len() {
-        dst[i] = src[i];
-        i += 1;
-    }
-}
-
-// Fills the first n bytes of dst with v.
-pub fn fill(dst: &mut [u8], n: usize, v: u8)
-    requires { n ≤ length dst.old }
-    ensures { dst.new ≡ replicate n v ++ drop n dst.old }
-{
-    let mut i = 0;
-    while i < n {
-        dst[i] = v;
-        i += 1;
-    }
 }

@@ -15,7 +15,10 @@ module _ (x : Id) (n r : ℕ) (out : List ℕ) (en : n ≡ length (id_of x)) whe
   unfolding put_uid
   uid-short h e = rw (e, en, lt-ltb (length out) (length (id_of x)) (rw en at h))
 
-  pub uid-put : (id out' : List ℕ) → id ≡ id_of x → n ≤ length out → r ≡ coded 0 n
-      → out' ≡ id ++ drop (length id) out → record { code = r; bytes = out' } ≡ put_uid x out
+  pub uid-room : (id : List ℕ) → id ≡ id_of x → n ≤ length out → length id ≤ length out
+  uid-room id same h = rw same (rw en at h)
+
+  pub uid-put : (id front : List ℕ) → id ≡ id_of x → n ≤ length out → r ≡ coded 0 n → front ≡ id
+      → record { code = r; bytes = front ++ drop n out } ≡ put_uid x out
   unfolding put_uid
-  uid-put id out' same h e q = rw (e, q, same, en, le-ltb (length out) (length (id_of x)) (rw en at h))
+  uid-put id front same h e q = rw (e, q, same, en, le-ltb (length out) (length (id_of x)) (rw en at h))

@@ -4,14 +4,14 @@ use Rattle.lore.proofs.Choice.{at_value}
 use borrow.Author.Rules.{rules}
 use Rattle.host_buffers.proofs.codes.written_code.Goals as goal
 
-pub returns-in-Done : goal.returns-in-Done
+pub returns-in-Ok : goal.returns-in-Ok
 unfolding written_code
-returns-in-Done c = search (at_value written_code, rules)
+returns-in-Ok c = search (at_value written_code, rules)
 
-pub returns-in-Short : goal.returns-in-Short
+pub returns-in-Err-Short : goal.returns-in-Err-Short
 unfolding written_code
-returns-in-Short c = search (at_value written_code, rules)
+returns-in-Err-Short c = search (at_value written_code, rules)
 
-pub returns-in-TooLong : goal.returns-in-TooLong
+pub returns-in-Err-TooLong : goal.returns-in-Err-TooLong
 unfolding written_code
-returns-in-TooLong c = search (at_value written_code, rules)
+returns-in-Err-TooLong c = search (at_value written_code, rules)
