@@ -3,6 +3,7 @@
 use Prim.Native.Nat.{ℕ}
 use mathlib.Core.Bool.{false}
 use mathlib.Core.Path.{◌≡◌, ◌∙◌}
+use Rattle.std.specs.Prelude as Std
 use Rattle.ids.specs.declared.Id.{Id}
 use Rattle.ids.specs.Ids.{no_id}
 use Rattle.walk_table.specs.declared.Table.{Table}
@@ -13,7 +14,6 @@ use Rattle.walk.specs.Moves.{walk_of, no_walk}
 use Rattle.client.specs.declared.Phase.{Phase}
 use Rattle.client.specs.declared.Turn.{Turn}
 use Rattle.client.specs.declared.Turn.TheVariants.{Idle, Ready, Waiting}
-use Rattle.client.specs.declared.Progress.TheVariants.{None}
 use Rattle.client.specs.declared.Says.TheVariants.{Onward}
 use Rattle.client.specs.declared.Front.{Front}
 use Rattle.client.specs.declared.Change.{Change}
@@ -50,7 +50,7 @@ module _ (f g : Front) where
 
   pub onward-is : (p : Phase) (x : Id) (change : Change) (at : ℕ) → x ≡ no_id
       → ((w : Walk) → client_of g w ≡ turned (client_of f w) (Ready p)) → (w : Walk) → given change w ≡ no_table
-      → told_of (record { says = Onward; front = g; change = change; rest = at; progress = None; id = x }) w
+      → told_of (record { says = Onward; front = g; change = change; rest = at; progress = Std.None; id = x }) w
       ≡ onward (client_of f w) p (changed change w) at
   unfolding onward
   onward-is p x change at k h w e = rw (k, e, h (changed change w))

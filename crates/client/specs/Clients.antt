@@ -1,5 +1,6 @@
 -- The client's record after each step, and the answers, for every record: also one that no calls lead to.
-use Rattle.std.specs.Prelude.{ℕ, Bool, true, false, not, eqb}
+use Rattle.std.specs.Prelude as Std
+use Rattle.std.specs.Prelude.{ℕ, Bool, cond, true, false, not, eqb}
 use Rattle.ids.specs.declared.Id.{Id}
 use Rattle.ids.specs.Ids.{no_id}
 use Rattle.walk_table.specs.declared.Table.{Table}
@@ -24,10 +25,8 @@ use Rattle.client.specs.declared.Refusal.{Refusal}
 use Rattle.client.specs.declared.Says.{Says}
 use Rattle.client.specs.declared.Says.TheVariants.{Onward, Refused}
 use Rattle.client.specs.declared.Progress.{Progress}
-use Rattle.client.specs.declared.Progress.TheVariants.{None}
 use Rattle.client.specs.declared.Started.{Started}
 use Rattle.client.specs.declared.Told.{Told}
-use Rattle.client.specs.declared.Attached.{Attached}
 
 -- A value for each case.
 abbrev pub on_turn {ℓ} : {A : Type ℓ} → Turn → A → (Phase → A) → (Phase → A) → A
@@ -118,11 +117,16 @@ holding c any x = record {
 unfoldable pub cleared : Client → Client
 cleared c = holding c false no_id
 
-unfoldable pub attached : Client → Attached
-attached c = record { any = c.front.attached; id = c.front.id }
+-- The attached id, if there is one.
+unfoldable pub attached : Client → Std.Option Id
+attached c = cond c.front.attached (Std.Some c.front.id) Std.None
 
 unfoldable pub running : Turn → Bool
 running t = on_turn t false (λ p. true) (λ p. true)
+
+-- Progress: so much of the total is done.
+abbrev pub some_progress : ℕ → ℕ → Std.Option Progress
+some_progress done total = Std.Some (record { done = done; total = total })
 
 -- A start or a request is refused, and no state changes.
 abbrev pub refuse : Client → Refusal → Started
@@ -130,11 +134,11 @@ refuse c r = record { says = Refused r; client = c }
 
 -- A record is refused, and no state changes. The unread rest is the whole record.
 abbrev pub refuses : Client → Refusal → Told
-refuses c r = record { says = Refused r; client = c; rest = 0; progress = None; id = no_id; found = no_table }
+refuses c r = record { says = Refused r; client = c; rest = 0; progress = Std.None; id = no_id; found = no_table }
 
 -- The operation has ended, with an id and a list in the answer. The unread rest begins at the place given.
 unfoldable pub over : Client → Says → Id → Table → ℕ → Told
-over c says x t at = record { says = says; client = idle c; rest = at; progress = None; id = x; found = t }
+over c says x t at = record { says = says; client = idle c; rest = at; progress = Std.None; id = x; found = t }
 
 -- The operation has ended, with no id and no list in the answer.
 abbrev pub stops : Client → Says → ℕ → Told
@@ -146,13 +150,13 @@ onward c p w at = record {
   says = Onward;
   client = begun c (Ready p) c.front.prefix c.front.bits w;
   rest = at;
-  progress = None;
+  progress = Std.None;
   id = no_id;
   found = no_table;
 }
 
 -- The same answer with this progress.
-abbrev pub making : Told → Progress → Told
+abbrev pub making : Told → Std.Option Progress → Told
 making t progress = record {
   says = t.says;
   client = t.client;

@@ -23,7 +23,6 @@ use Rattle.client.specs.declared.Refusal.TheVariants.{AmbiguousUid, NotAddressab
 use Rattle.client.specs.declared.Refusal.TheVariants.{LongId, TableFull, ShortBuffer, RetriesSpent, ShortVerify}
 use Rattle.client.specs.declared.Refusal.TheVariants.{SpansTooFar, OtherImage, OutOfTurn}
 use Rattle.client.specs.declared.Progress.{Progress}
-use Rattle.client.specs.declared.Progress.TheVariants.{None, Made}
 use Rattle.client.specs.declared.Says.{Says}
 use Rattle.client.specs.declared.Says.TheVariants.{Granted, Closing, Onward, Over, Refused}
 
@@ -91,12 +90,12 @@ ids_of t = map (λ e. id_of e.id) (rows t 0 t.count)
 unfoldable pub heard_from : Heard → Id → PaperHearing.Heard
 heard_from h x = on_heard h nothing (one (id_of x)) (one (replicate 17 0)) unaddressed garble
 
-unfoldable pub progress_of : Progress → Option (ℕ × ℕ)
-progress_of None = none
-progress_of (Made done total) = some (done, total)
+unfoldable pub progress_of : Std.Option Progress → Option (ℕ × ℕ)
+progress_of Std.None = none
+progress_of (Std.Some p) = some (p.done, p.total)
 
 -- An outcome, with the answer's progress, id and ids. "outcome 23" is a number in document 01, an outcome in the code.
-unfoldable pub end_of : Outcome → Progress → Id → Table → PaperClient.Says
+unfoldable pub end_of : Outcome → Std.Option Progress → Id → Table → PaperClient.Says
 end_of Code.Quiet p x t = over (progress_of p) quiet
 end_of (Code.Heard h) p x t = over (progress_of p) (heard (heard_from h x))
 end_of (Code.Attached any) p x t = over (progress_of p) (attached (cond any (some (id_of x)) none))
@@ -105,7 +104,7 @@ end_of (Code.Knows info) p x t = over (progress_of p) (knows (paper_info info))
 end_of Code.Unaddressed p x t = refused 23 []
 
 -- What a call says, with the answer's progress, id and ids.
-unfoldable pub says_of : Says → Progress → Id → Table → PaperClient.Says
+unfoldable pub says_of : Says → Std.Option Progress → Id → Table → PaperClient.Says
 says_of (Granted n) p x t = granted n
 says_of (Closing n) p x t = closing n
 says_of Onward p x t = onward (progress_of p)

@@ -37,7 +37,8 @@ pub enum Purpose {
     Load(usize),
 }
 
-// A reset into the bootloader or the app, with the baud to store if one is given.
+// A reset into the bootloader or the app, with the baud to store if one is given. Kept as a flag beside a byte: `loaded`
+// and `saved` give each its place in a state's bytes, and keep the byte of a reset that gives no baud.
 #[derive(Clone, Copy)]
 pub struct Reset {
     pub bootloader: bool,
@@ -72,8 +73,9 @@ pub enum Turn {
     Waiting(Phase),
 }
 
-// The client without its walk. The prefix and the bit count are those of a plain select or an attach. A contract on a
-// front holds for the client with any walk.
+// The client without its walk. The id and its flag stand apart: `loaded` and `saved` give each its place in a state's
+// bytes, and keep the id of a state without the flag. The prefix and the bit count are those of a plain select or an
+// attach. A contract on a front holds for the client with any walk.
 #[derive(Clone, Copy)]
 pub struct Front {
     pub seed: u8,
@@ -117,6 +119,38 @@ pub enum Refusal {
     OutOfTurn,
 }
 
+impl Refusal {
+    // A refusal's number in document 01.
+    #[tactic(auto, unfolding(crate::specs::Numbers::number_of))]
+    pub fn number(self) -> u8
+        ensures { result ≡ number_of self }
+    {
+        match self {
+            Refusal::Io => 1,
+            Refusal::Device(_) => 2,
+            Refusal::FirmwareTooLarge(_, _) => 3,
+            Refusal::CrcMismatch(_, _) => 4,
+            Refusal::BadInfo => 5,
+            Refusal::Incompatible(_, _) => 6,
+            Refusal::NoDevice => 7,
+            Refusal::SeveralDevices => 8,
+            Refusal::NoSuchUid => 9,
+            Refusal::AmbiguousUid => 10,
+            Refusal::NotAddressable => 11,
+            Refusal::DuplicateUid => 12,
+            Refusal::BadPrefix => 13,
+            Refusal::LongId => 14,
+            Refusal::TableFull => 15,
+            Refusal::ShortBuffer(_) => 16,
+            Refusal::RetriesSpent => 17,
+            Refusal::ShortVerify => 18,
+            Refusal::SpansTooFar => 19,
+            Refusal::OtherImage => 20,
+            Refusal::OutOfTurn => 21,
+        }
+    }
+}
+
 impl From<BadInfo> for Refusal {
     ghost from_gives = { λ _ r. r ≡ Refusal.BadInfo };
 
@@ -139,9 +173,9 @@ pub enum Outcome {
 
 // The progress that a reply made: how much is done, and of how much.
 #[derive(Clone, Copy)]
-pub enum Progress {
-    None,
-    Made(u64, u64),
+pub struct Progress {
+    pub done: u64,
+    pub total: u64,
 }
 
 // What a call says. Granted: a request of n bytes is in the buffer, and its reply is awaited. Closing: a request is in
@@ -169,7 +203,7 @@ pub struct Told {
     pub says: Says,
     pub client: Client,
     pub rest: usize,
-    pub progress: Progress,
+    pub progress: Option<Progress>,
     pub id: Id,
     pub found: Table,
 }
@@ -201,48 +235,12 @@ pub struct Verdict {
     pub front: Front,
     pub change: Change,
     pub rest: usize,
-    pub progress: Progress,
+    pub progress: Option<Progress>,
     pub id: Id,
 }
 
-// The attached id, if there is one.
-#[derive(Clone, Copy)]
-pub struct Attached {
-    pub any: bool,
-    pub id: Id,
-}
-
-// A refusal's number in document 01.
-#[tactic(auto, unfolding(crate::specs::Numbers::number_of))]
-pub fn number(r: Refusal) -> u8
-    ensures { result ≡ number_of r }
-{
-    match r {
-        Refusal::Io => 1,
-        Refusal::Device(_) => 2,
-        Refusal::FirmwareTooLarge(_, _) => 3,
-        Refusal::CrcMismatch(_, _) => 4,
-        Refusal::BadInfo => 5,
-        Refusal::Incompatible(_, _) => 6,
-        Refusal::NoDevice => 7,
-        Refusal::SeveralDevices => 8,
-        Refusal::NoSuchUid => 9,
-        Refusal::AmbiguousUid => 10,
-        Refusal::NotAddressable => 11,
-        Refusal::DuplicateUid => 12,
-        Refusal::BadPrefix => 13,
-        Refusal::LongId => 14,
-        Refusal::TableFull => 15,
-        Refusal::ShortBuffer(_) => 16,
-        Refusal::RetriesSpent => 17,
-        Refusal::ShortVerify => 18,
-        Refusal::SpansTooFar => 19,
-        Refusal::OtherImage => 20,
-        Refusal::OutOfTurn => 21,
-    }
-}
-
-// Whether the refusal of this number leaves the state unchanged.
+// Whether the refusal of this number leaves the state unchanged. Kept as a question on the number: the theorem
+// `refused-untouched` of acceptance asks it of an exported call's code, and a host sees the number alone.
 pub fn changes_no_state(number: u8) -> bool
     ensures { result ≡ changes_no_state number }
 {
@@ -317,14 +315,12 @@ impl Client {
         }
     }
 
+    // The attached id, if there is one.
     #[tactic(auto, unfolding(crate::specs::Clients::attached))]
-    pub fn attached(self) -> Attached
+    pub fn attached(self) -> Option<Id>
         ensures { result ≡ attached self }
     {
-        Attached {
-            any: self.front.attached,
-            id: self.front.id,
-        }
+        self.front.attached.then_some(self.front.id)
     }
 
     // The client without its walk.
@@ -400,7 +396,7 @@ impl Front {
             front: self,
             change: Change::Same,
             rest: 0,
-            progress: Progress::None,
+            progress: None,
             id: Id::none(),
         }
     }
@@ -417,7 +413,7 @@ impl Front {
             front,
             change,
             rest: at,
-            progress: Progress::None,
+            progress: None,
             id,
         }
     }
@@ -450,7 +446,7 @@ impl Front {
             front: self.turned(Turn::Ready(phase)),
             change,
             rest: at,
-            progress: Progress::None,
+            progress: None,
             id: Id::none(),
         }
     }
@@ -465,7 +461,7 @@ impl Front {
 
 impl Verdict {
     // The same verdict with this progress.
-    pub fn making(self, progress: Progress) -> Verdict
+    pub fn making(self, progress: Option<Progress>) -> Verdict
         ensures { (w : Walk) → told_of result w ≡ making (told_of self w) progress }
     {
         Verdict { progress, ..self }

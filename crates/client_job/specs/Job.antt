@@ -12,7 +12,6 @@ use Rattle.client.specs.declared.Job.{Job}
 use Rattle.client.specs.declared.Job.TheVariants.{Erasing, Writing, Verifying}
 use Rattle.client.specs.declared.Outcome.{Outcome}
 use Rattle.client.specs.declared.Outcome.TheVariants.{Quiet, Knows}
-use Rattle.client.specs.declared.Progress.TheVariants.{None, Made}
 use Rattle.client.specs.declared.Purpose.{Purpose}
 use Rattle.client.specs.declared.Purpose.TheVariants.{Clear, Load}
 use Rattle.client.specs.declared.Refusal.{Refusal}
@@ -20,6 +19,7 @@ use Rattle.client.specs.Clients.{on_purpose, on_job}
 use Rattle.client_job.specs.declared.Then.{Then}
 use Rattle.client_job.specs.declared.Then.TheVariants.{On, Over}
 use Rattle.client_job.specs.declared.Next.{Next}
+use Rattle.client.specs.Clients.{some_progress}
 
 -- A value for each case.
 abbrev pub on_informed {ℓ} : {A : Type ℓ} → Result Info BadInfo → (Info → A) → A → A
@@ -37,7 +37,7 @@ on_then (Err r) f g h = h r
 
 -- No progress was made.
 abbrev pub quietly : Result Then Refusal → Next
-quietly t = record { progress = None; then = t }
+quietly t = record { progress = Std.None; then = t }
 
 abbrev pub refusing : Refusal → Next
 refusing r = quietly (Err r)
@@ -75,15 +75,15 @@ unfoldable pub erased : Purpose → Info → ℕ → Next
 erased why info address =
     on_erase (erase_after (paper_info info) address)
     (λ next. record {
-      progress = Made (erase_progress (paper_info info) address) info.capacity;
+      progress = some_progress (erase_progress (paper_info info) address) info.capacity;
       then = Ok (On (Erasing why info next));
     })
-    (record { progress = Made (erase_progress (paper_info info) address) info.capacity; then = Ok (cleared why info) })
+    (record { progress = some_progress (erase_progress (paper_info info) address) info.capacity; then = Ok (cleared why info) })
 
 -- The reply to a Write: the next Write, or Verify after the last one.
 unfoldable pub wrote : Info → ℕ → List ℕ → Next
 wrote info offset image = record {
-  progress = Made (chunks_to (paper_info info) offset) (chunks (paper_info info) (length image));
+  progress = some_progress (chunks_to (paper_info info) offset) (chunks (paper_info info) (length image));
   then =
       cond (is_last (paper_info info) (length image) offset) (Ok (On (Verifying (length image) info)))
       (Ok (On (Writing (length image) info (offset + chunk info.max_payload) 0)));

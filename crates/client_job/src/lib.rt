@@ -18,7 +18,7 @@ pub enum Then {
 // The progress made, and what is next, or why the operation is refused.
 #[derive(Clone, Copy)]
 pub struct Next {
-    pub progress: Progress,
+    pub progress: Option<Progress>,
     pub then: Result<Then, Refusal>,
 }
 
@@ -27,7 +27,7 @@ fn quietly(then: Result<Then, Refusal>) -> Next
     ensures { result ≡ quietly then }
 {
     Next {
-        progress: Progress::None,
+        progress: None,
         then,
     }
 }
@@ -117,10 +117,10 @@ fn erased(why: Purpose, info: Info, address: u32) -> Next
         None => cleared(why, info),
     };
     Next {
-        progress: Progress::Made(
-            u64::from(address) + u64::from(info.erase_size),
-            u64::from(info.capacity),
-        ),
+        progress: Some(Progress {
+            done: u64::from(address) + u64::from(info.erase_size),
+            total: u64::from(info.capacity),
+        }),
         then: Ok(then),
     }
 }
@@ -137,10 +137,10 @@ fn wrote(info: Info, offset: u64, image: &[u8]) -> Next
         Job::Writing(n, info, offset + info.chunk() as u64, 0)
     };
     Next {
-        progress: Progress::Made(
-            image::writes::chunks_to(info, offset),
-            image::writes::chunks(info, n),
-        ),
+        progress: Some(Progress {
+            done: image::writes::chunks_to(info, offset),
+            total: image::writes::chunks(info, n),
+        }),
         then: Ok(Then::On(job)),
     }
 }

@@ -35,8 +35,8 @@ fn pod(command: u8, room: &mut [u8]) -> usize {
     }
 }
 
-fn print_progress(out: &impl Print, p: Progress) -> io::Result<()> {
-    if let Progress::Made(done, total) = p {
+fn print_progress(out: &impl Print, p: Option<Progress>) -> io::Result<()> {
+    if let Some(Progress { done, total }) = p {
         print!(out; "  done {done:x} of {total:x}\n")?;
     }
     Ok(())

@@ -7,6 +7,7 @@ use lib.ListN.{length, take, drop, replicate, length-append, length-drop, length
 use borrow.Author.Tests.{le-leb, lt-leb}
 use borrow.Rule.Slice.PartMut.{put_mid}
 use lib.Seq.{length-take-le, take-add, drop-drop}
+use Rattle.std.specs.Prelude as Std
 use Rattle.paper.specs.Frame.{le}
 use Rattle.paper.proofs.Fields.{Put, num, behind, before, found, after, put-length}
 use Rattle.lore.proofs.Parts.{part-all, mid-is, part-filled}
@@ -78,7 +79,7 @@ module _ (n : Note) (g : Gain) (rest : ℕ) (b d₁ d₂ d₃ d₄ : List ℕ) (
       let fourth : Put 48 18 (saved_info n.info) d₃ d₄ = record { sized = info-length n.info; holds = e₄ } in
       (behind (omega arith) (behind (omega arith) (behind (omega arith) first second) third) fourth).holds
 
-  pub put_front : (progress : Progress) (x : Id) → g ≡ gain_of progress → length d₂ ≡ length d₁
+  pub put_front : (progress : Std.Option Progress) (x : Id) → g ≡ gain_of progress → length d₂ ≡ length d₁
       → d₁ ≡ numbered n g rest ++ drop 66 b → d₂ ≡ take 66 d₁ ++ saved_id x ++ drop 83 d₁
       → length d₁ ≡ length b → d₂ ≡ fronted n progress x rest ++ drop 83 b
   unfolding fronted

@@ -1,5 +1,6 @@
 -- An answer as 1,179 bytes: its numbers in order, each in its width, lowest byte first; then the id and the list of
 -- ids.
+use Rattle.std.specs.Prelude as Std
 use Rattle.std.specs.Prelude.{ℕ, List, [], ◌∷◌, ◌++◌, take, drop}
 use Rattle.paper.specs.Frame.{le}
 use Rattle.ids.specs.declared.Id.{Id}
@@ -34,11 +35,11 @@ unfoldable pub numbered : Note → Gain → ℕ → List ℕ
 numbered n g rest = tagged n g ++ sizes n g rest ++ pair n ++ saved_info n.info
 
 -- From 66: the id; from 83: the list of ids.
-unfoldable pub shown : Says → Progress → Id → Table → ℕ → List ℕ
+unfoldable pub shown : Says → Std.Option Progress → Id → Table → ℕ → List ℕ
 shown says progress x t rest = numbered (note_of says) (gain_of progress) rest ++ saved_id x ++ saved_table t
 
 -- The first 83 bytes of an answer; and an answer's bytes with another list, all other bytes unchanged.
-unfoldable pub fronted : Note → Progress → Id → ℕ → List ℕ
+unfoldable pub fronted : Note → Std.Option Progress → Id → ℕ → List ℕ
 fronted n progress x rest = numbered n (gain_of progress) rest ++ saved_id x
 
 unfoldable pub listed : Table → List ℕ → List ℕ

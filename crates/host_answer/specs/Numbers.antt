@@ -13,13 +13,13 @@ use Rattle.client.specs.declared.Refusal.TheVariants.{NotAddressable, DuplicateU
 use Rattle.client.specs.declared.Refusal.TheVariants.{ShortBuffer, RetriesSpent, ShortVerify, SpansTooFar, OtherImage}
 use Rattle.client.specs.declared.Refusal.TheVariants.{OutOfTurn}
 use Rattle.client.specs.declared.Progress.{Progress}
-use Rattle.client.specs.declared.Progress.TheVariants.{None, Made}
 use Rattle.client.specs.declared.Says.{Says}
 use Rattle.client.specs.declared.Says.TheVariants.{Granted, Closing, Onward, Over, Refused}
 use Rattle.client.specs.Numbers.{number_of}
 use Rattle.image.specs.InfoBytes.{no_info}
 use Rattle.host_answer.specs.declared.numbers.Note.{Note}
 use Rattle.host_answer.specs.declared.numbers.Gain.{Gain}
+use Rattle.client.specs.Clients.{some_progress}
 
 -- The numbers of a call that goes on or hands out a request, of an operation that has ended, and of a refusal.
 unfoldable pub going : ℕ → ℕ → Note
@@ -106,9 +106,9 @@ note_of Onward = going 0 0
 note_of (Over o) = outcome_note o
 note_of (Refused r) = refusal_note (number_of r) r
 
-unfoldable pub gain_of : Progress → Gain
-gain_of None = record { made = false; done = 0; total = 0 }
-gain_of (Made done total) = record { made = true; done = done; total = total }
+unfoldable pub gain_of : Std.Option Progress → Gain
+gain_of Std.None = record { made = false; done = 0; total = 0 }
+gain_of (Std.Some p) = record { made = true; done = p.done; total = p.total }
 
 -- Numbers as an answer. A number that names no case is read as the last case listed.
 unfoldable pub heard_in : ℕ → Heard
@@ -155,5 +155,5 @@ says_in n =
     (cond (eqb n.says 2) (Over (outcome_in n))
     (cond (eqb n.says 4) (Closing n.length) (Refused (refusal_in n)))))
 
-unfoldable pub progress_in : Gain → Progress
-progress_in g = cond g.made (Made g.done g.total) None
+unfoldable pub progress_in : Gain → Std.Option Progress
+progress_in g = cond g.made (some_progress g.done g.total) Std.None

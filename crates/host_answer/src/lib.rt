@@ -65,7 +65,7 @@ fn write_numbers(n: Note, g: Gain, rest: usize, out: &mut [u8])
 }
 
 // Bytes 0 to 82: the answer without its list.
-pub fn write_front(n: Note, progress: Progress, id: Id, rest: usize, out: &mut [u8])
+pub fn write_front(n: Note, progress: Option<Progress>, id: Id, rest: usize, out: &mut [u8])
     requires { size ≤ length out.old }
     ensures { out.new ≡ fronted n progress id rest ++ drop 83 out.old }
 {

@@ -23,7 +23,7 @@ pub struct Note {
     pub info: Info,
 }
 
-// The progress made, if any.
+// The progress made, if any. Kept as a flag beside two numbers: `numbered` gives each its place in an answer's bytes.
 #[derive(Clone, Copy)]
 pub struct Gain {
     pub made: bool,
@@ -168,21 +168,22 @@ pub fn note_of(says: Says) -> Note
         Says::Closing(n) => going(4, n as u64),
         Says::Onward => going(0, 0),
         Says::Over(o) => outcome_note(o),
-        Says::Refused(r) => refusal_note(r, client::number(r)),
+        Says::Refused(r) => refusal_note(r, r.number()),
     }
 }
 
 // The numbers of the progress made.
-pub fn gain_of(p: Progress) -> Gain
+#[tactic(auto, unfolding(crate::specs::Numbers::gain_of))]
+pub fn gain_of(p: Option<Progress>) -> Gain
     ensures { result ≡ gain_of p }
 {
     match p {
-        Progress::None => Gain {
+        None => Gain {
             made: false,
             done: 0,
             total: 0,
         },
-        Progress::Made(done, total) => Gain {
+        Some(Progress { done, total }) => Gain {
             made: true,
             done,
             total,

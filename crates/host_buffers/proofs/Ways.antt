@@ -109,24 +109,24 @@ module _ (says : Says) (n : Note) (r : ℕ) (en : n ≡ note_of says) (er : r �
   unfolding code_of
   code_is = rw en at er
 
-  answered : (progress : Progress) (x : Id) (rest : ℕ) (t : Table) → a₁ ≡ fronted n progress x rest ++ drop 83 a
+  answered : (progress : Option Progress) (x : Id) (rest : ℕ) (t : Table) → a₁ ≡ fronted n progress x rest ++ drop 83 a
       → a₂ ≡ listed t a₁ → a₂ ≡ shown says progress x t rest ++ drop AnswerBytes.size a
   unfolding listed shown fronted
   answered progress x rest t e₁ e₂ =
       (behind (omega arith) (put_of 0 83 (fronted n progress x rest) a a₁ (omega arith) l₁ e₁)
       (put_of 83 1096 (saved_table t) a₁ a₂ (omega arith) l₂ e₂)).holds ∙ rw en
 
-  pub shows-is : (x : Id) → a₁ ≡ fronted n Progress.None x 0 ++ drop 83 a → a₂ ≡ listed no_table a₁
+  pub shows-is : (x : Id) → a₁ ≡ fronted n None x 0 ++ drop 83 a → a₂ ≡ listed no_table a₁
       → record { code = r; bytes = a₂ } ≡ shows says x a
   unfolding shows
-  shows-is x e₁ e₂ = rw (code_is, answered Progress.None x 0 no_table e₁ e₂)
+  shows-is x e₁ e₂ = rw (code_is, answered None x 0 no_table e₁ e₂)
 
   -- What a call leaves, from the front and the walk of the client after it.
   module _ (s : List ℕ) (b : Bool) (eb : b ≡ changes_no_state n.number) where
     changes : b ≡ changes_no_state (note_of says).number
     changes = eb ∙ ap (λ (m : Note). changes_no_state m.number) en
 
-    left : (progress : Progress) (x : Id) (rest : ℕ) (t : Table) (f : Front) (w : Walk) (s₂ : List ℕ)
+    left : (progress : Option Progress) (x : Id) (rest : ℕ) (t : Table) (f : Front) (w : Walk) (s₂ : List ℕ)
         → a₁ ≡ fronted n progress x rest ++ drop 83 a → a₂ ≡ listed t a₁
         → s₂ ≡ cond b s (saved (client_of f w) ++ drop State.size s)
         → record { code = r; state = s₂; answer = a₂ }
@@ -165,14 +165,14 @@ module _ (n : Note) (r : ℕ) (er : r ≡ coded n.number n.length) (s a a₁ a�
         (rw h (saved-in v.front (changed v.change (loaded_walk 87 s)) s s₁ s₂ room_s e₃ e₄))
 
   module _ (o : Opening) (x : Id) (ex : x ≡ no_id) (en : n ≡ note_of o.says)
-      (e₁ : a₁ ≡ fronted n Progress.None x 0 ++ drop 83 a) (e₂ : a₂ ≡ listed no_table a₁) where
-    e₁' : a₁ ≡ fronted n Progress.None no_id 0 ++ drop 83 a
+      (e₁ : a₁ ≡ fronted n None x 0 ++ drop 83 a) (e₂ : a₂ ≡ listed no_table a₁) where
+    e₁' : a₁ ≡ fronted n None no_id 0 ++ drop 83 a
     e₁' = rw ex at e₁
 
     pub started-kept : b ≡ true → record { code = r; state = s; answer = a₂ }
         ≡ leaves (told_by (started_of o (loaded s).walk)) s a
     unfolding told_by
-    started-kept h = left o.says n r en er a a₁ a₂ room_a l₁ l₂ s b eb Progress.None no_id 0 no_table o.front _ s e₁' e₂
+    started-kept h = left o.says n r en er a a₁ a₂ room_a l₁ l₂ s b eb None no_id 0 no_table o.front _ s e₁' e₂
         (rw h)
 
     pub started-saved : (s₁ s₂ : List ℕ) → b ≡ false
@@ -180,7 +180,7 @@ module _ (n : Note) (r : ℕ) (er : r ≡ coded n.number n.length) (s a a₁ a�
         → record { code = r; state = s₂; answer = a₂ } ≡ leaves (told_by (started_of o (loaded s).walk)) s a
     unfolding told_by loaded
     started-saved s₁ s₂ h e₃ e₄ =
-        left o.says n r en er a a₁ a₂ room_a l₁ l₂ s b eb Progress.None no_id 0 no_table o.front _ s₂ e₁' e₂
+        left o.says n r en er a a₁ a₂ room_a l₁ l₂ s b eb None no_id 0 no_table o.front _ s₂ e₁' e₂
         (rw h (saved-in o.front (renewed o.begins (loaded_walk 87 s)) s s₁ s₂ room_s e₃ e₄))
 
 -- The answer's list.

@@ -9,16 +9,13 @@ use Rattle.hearing.specs.Heard.{is_long, kind_of, id_in}
 use Rattle.client.specs.declared.Client.{Client}
 use Rattle.client.specs.declared.Outcome.TheVariants as Outcome
 use Rattle.client.specs.declared.Refusal.TheVariants.{LongId}
-use Rattle.client.specs.declared.Progress.TheVariants as Progress
 use Rattle.client.specs.declared.Says.{Says}
 use Rattle.client.specs.declared.Says.TheVariants.{Over, Refused}
 use Rattle.client.specs.declared.Started.{Started}
 use Rattle.client.specs.declared.Told.{Told}
-use Rattle.client.specs.declared.Attached.{Attached}
 use Rattle.client.specs.declared.Opening.{Opening}
 use Rattle.client.specs.declared.Verdict.{Verdict}
 use Rattle.client.specs.Verdicts.{started_of, told_of}
-use Rattle.client.specs.Clients.{attached}
 use Rattle.client.specs.Numbers.{changes_no_state}
 use Rattle.client_request.specs.Request.{Asking, request}
 use Rattle.host_answer.specs.Numbers.{note_of}
@@ -54,7 +51,7 @@ pub record Requested : Type 0 where
 
 -- The answer of a start or a request: it has no rest, progress, id or list.
 unfoldable pub told_by : Started → Told
-told_by s = record { says = s.says; client = s.client; rest = 0; progress = Progress.None; id = no_id; found = no_table }
+told_by s = record { says = s.says; client = s.client; rest = 0; progress = None; id = no_id; found = no_table }
 
 -- What a call leaves: its answer is written, and the client is saved. After a refusal that changes no state, the state
 -- is as it was, byte for byte.
@@ -98,14 +95,14 @@ requests image s b a =
 
 -- Only an answer, with an id.
 unfoldable pub shows : Says → Id → List ℕ → Coded
-shows says x a = record { code = code_of says; bytes = shown says Progress.None x no_table 0 ++ drop AnswerBytes.size a }
+shows says x a = record { code = code_of says; bytes = shown says None x no_table 0 ++ drop AnswerBytes.size a }
 
-unfoldable pub shows_attached : Attached → List ℕ → Coded
-shows_attached x a = shows (Over (Outcome.Attached x.any)) x.id a
+unfoldable pub shows_attached : Client → List ℕ → Coded
+shows_attached c a = shows (Over (Outcome.Attached c.front.attached)) c.front.id a
 
 unfoldable pub views : List ℕ → List ℕ → Coded
 views s a = lent (length s) (length a) (λ code. record { code = code; bytes = a })
-    (shows_attached (attached (loaded s)) a)
+    (shows_attached (loaded s) a)
 
 -- The answer of a plain select that heard h.
 unfoldable pub said_of : Heard → Says

@@ -13,7 +13,7 @@ ghost use Rattle.host_answer.specs.AnswerBytes as Answer;
 ghost use Rattle.host_answer.specs.AnswerBytes.{listed};
 ghost use Rattle.host_buffers.specs.Hosts.{short_code, leaves, told_by, shows, said_of, Starts, Tells};
 
-use client::{Change, Front, Opening, Outcome, Progress, Refusal, Says, Verdict};
+use client::{Change, Front, Opening, Outcome, Refusal, Says, Verdict};
 use hearing::Heard;
 use ids::Id;
 use walk::Place;
@@ -105,7 +105,7 @@ pub fn started(o: Opening, state: &mut [u8], answer: &mut [u8]) -> u64
         answer.old }
 {
     let n = host_answer::numbers::note_of(o.says);
-    host_answer::write_front(n, Progress::None, Id::none(), 0, answer);
+    host_answer::write_front(n, None, Id::none(), 0, answer);
     host_answer::no_list(answer);
     let code = crate::codes::coded(n.number, n.length);
     if client::changes_no_state(n.number) {
@@ -135,7 +135,7 @@ pub fn shows(says: Says, id: Id, answer: &mut [u8]) -> u64
     ensures { record { code = result; bytes = answer.new } ≡ shows says id answer.old }
 {
     let n = host_answer::numbers::note_of(says);
-    host_answer::write_front(n, Progress::None, id, 0, answer);
+    host_answer::write_front(n, None, id, 0, answer);
     host_answer::no_list(answer);
     crate::codes::coded(n.number, n.length)
 }

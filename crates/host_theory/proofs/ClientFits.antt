@@ -7,6 +7,7 @@ use native.Mathlib.Omega.{arith}
 use lib.Dec.{ltb, eqb}
 use lib.ListN.{length, drop, replicate, length-take}
 use borrow.Author.Tests.{ltb-false}
+use Rattle.std.specs.Prelude as Std
 use Rattle.paper.specs.Answers.{Answer, lost, answered, ok, device, answer}
 use Rattle.paper.specs.Client.{payload_of}
 use Rattle.paper.specs.Frame.{le, Frame, frame_bytes}
@@ -318,7 +319,7 @@ module _ (c : Client) (h : Fits c) where
     found = no-table-fits;
   }
 
-making-fits : (t : Told) (p : Progress) → ToldFits t → ProgressFits p → ToldFits (making t p)
+making-fits : (t : Told) (p : Std.Option Progress) → ToldFits t → ProgressFits p → ToldFits (making t p)
 making-fits t p h k = record {
   client = h.client;
   says = h.says;

@@ -29,7 +29,6 @@ use Rattle.paper.proofs.Chunks.{chunk-multiple, chunk-most}
 use Rattle.client.specs.declared.Job.{Job}
 use Rattle.client.specs.declared.Job.TheVariants.{Informing, Erasing, Writing, Verifying, Resetting}
 use Rattle.client.specs.declared.Outcome.TheVariants.{Knows}
-use Rattle.client.specs.declared.Progress.TheVariants.{Made}
 use Rattle.client.specs.declared.Purpose.{Purpose}
 use Rattle.client.specs.declared.Purpose.TheVariants.{Tell, Clear, Load}
 use Rattle.client.specs.declared.Refusal.{Refusal}
@@ -48,6 +47,7 @@ use Rattle.host_theory.proofs.ByteArrays.{chosen}
 use Rattle.host_theory.proofs.NumbersFit.{SaysFits, ProgressFits, no-progress, made-fits, ending-fits}
 use Rattle.host_theory.proofs.NumbersFit.{refusing-fits, bare-fits}
 use Rattle.host_theory.proofs.TurnFits.{PurposeFits, JobFits}
+use Rattle.client.specs.Clients.{some_progress}
 
 abbrev pub ThenFits : Result Then Refusal → Type 0
 ThenFits (Ok (On job)) = JobFits job
@@ -181,7 +181,7 @@ module _ (info : Info) (hi : InfoFits info) where
       (λ next small. record { progress = made; then = (h, (hi, omega (arith, small, hi.capacity))) })
       (record { progress = made; then = cleared-fits why h })
     where
-      made : ProgressFits (Made (erase_progress (paper_info info) address) info.capacity)
+      made : ProgressFits (some_progress (erase_progress (paper_info info) address) info.capacity)
       made = made-fits (erase_progress (paper_info info) address) info.capacity (omega (arith, hi.erase))
           (omega (arith, hi.capacity))
 

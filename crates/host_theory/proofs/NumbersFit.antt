@@ -2,15 +2,16 @@
 use Prim.Native.Nat.{ℕ, ◌<◌, ◌^◌}
 use mathlib.Core.Bool.{Bool, false}
 use native.Mathlib.Omega.{arith}
+use Rattle.std.specs.Prelude as Std
 use Rattle.image.specs.declared.Info.{Info}
 use Rattle.client.specs.declared.Progress.{Progress}
-use Rattle.client.specs.declared.Progress.TheVariants.{None, Made}
 use Rattle.client.specs.declared.Says.{Says}
 use Rattle.image.specs.InfoBytes.{no_info, InfoFits}
 use Rattle.host_turn.proofs.Laws.{no-info-fits}
 use Rattle.host_answer.specs.declared.numbers.Note.{Note}
 use Rattle.host_answer.specs.declared.numbers.Gain.{Gain}
 use Rattle.host_answer.specs.Numbers.{going, ending, refusing, note_of, gain_of}
+use Rattle.client.specs.Clients.{some_progress}
 
 pub record NoteFits (n : Note) : Type 0 where
   pub length : n.length < 2 ^ 64
@@ -25,7 +26,7 @@ pub record GainFits (g : Gain) : Type 0 where
 abbrev pub SaysFits : Says → Type 0
 SaysFits says = NoteFits (note_of says)
 
-abbrev pub ProgressFits : Progress → Type 0
+abbrev pub ProgressFits : Std.Option Progress → Type 0
 ProgressFits p = GainFits (gain_of p)
 
 pub going-on-fits : (says length : ℕ) → length < 2 ^ 64 → NoteFits (going says length)
@@ -54,10 +55,10 @@ bare-fits number = refusing-fits number false 0 0 0 (omega arith) (omega arith) 
 pub end_fits : (number outcome heard : ℕ) (any : Bool) → NoteFits (ending number outcome heard any no_info)
 end_fits number outcome heard any = ending-fits number outcome heard any no_info no-info-fits
 
-pub no-progress : ProgressFits None
+pub no-progress : ProgressFits Std.None
 unfolding gain_of
 no-progress = record { done = omega arith; total = omega arith }
 
-pub made-fits : (done total : ℕ) → done < 2 ^ 64 → total < 2 ^ 64 → ProgressFits (Made done total)
+pub made-fits : (done total : ℕ) → done < 2 ^ 64 → total < 2 ^ 64 → ProgressFits (some_progress done total)
 unfolding gain_of
 made-fits done total h k = record { done = h; total = k }

@@ -43,7 +43,7 @@ pub fn code(says: Says) -> u8
     match says {
         Says::Granted(_) | Says::Closing(_) | Says::Onward => 0,
         Says::Over(o) => outcome(o),
-        Says::Refused(r) => client::number(r),
+        Says::Refused(r) => r.number(),
     }
 }
 

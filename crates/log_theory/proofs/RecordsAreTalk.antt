@@ -6,6 +6,7 @@ use mathlib.Core.Path.{◌≡◌, refl, ◌∙◌, ap, subst}
 use native.Mathlib.Omega.{arith}
 use lib.ListN.{length, length-replicate}
 use borrow.Author.Tests.{le-ltb}
+use Rattle.std.specs.Prelude as Std
 use Rattle.paper.specs.Client as Paper
 use Rattle.paper.specs.Client.{refused, over, bytes_of, seed_after, cleared}
 use Rattle.paper.specs.Hearing.{Id, Prefix, hear}
@@ -126,7 +127,7 @@ module _ (seed : ℕ) (id : Option Id) (s : State)
       (counted j k e))
 
 -- A refusal ends the run with its number.
-number-ends : (says : Says) (p : Progress) (x : Code.Id) (t : Table) (n : ℕ) → says_of says p x t ≡ refused n []
+number-ends : (says : Says) (p : Std.Option Progress) (x : Code.Id) (t : Table) (n : ℕ) → says_of says p x t ≡ refused n []
     → (c : Client) (k : ℕ) → goes says c k t ≡ Run.ended c k t n
 unfolding says_of goes end_of
 number-ends (Granted m) p x t n e c k = absurd (let z : ◌≡◌ {A = ℕ} 0 1 = cc in omega arith)

@@ -88,18 +88,18 @@ fn print_end(out: &impl Print, c: Client) -> io::Result<()> {
 }
 
 fn print_refusal(out: &impl Print, r: Refusal) -> io::Result<()> {
-    print_number(out, client::number(r) as u64)
+    print_number(out, r.number() as u64)
 }
 
-fn print_progress(out: &impl Print, p: Progress) -> io::Result<()> {
-    if let Progress::Made(done, total) = p {
+fn print_progress(out: &impl Print, p: Option<Progress>) -> io::Result<()> {
+    if let Some(Progress { done, total }) = p {
         print!(out; "% {done:08x} {total:08x}\n")?;
     }
     Ok(())
 }
 
 // The place where the unread rest of a record begins, and the progress made.
-fn print_read(out: &impl Print, rest: usize, p: Progress) -> io::Result<()> {
+fn print_read(out: &impl Print, rest: usize, p: Option<Progress>) -> io::Result<()> {
     print!(out; "@ {rest:08x}\n")?;
     print_progress(out, p)
 }

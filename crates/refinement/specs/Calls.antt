@@ -1,4 +1,5 @@
 -- Any calls in any order: the code's answers, and document 01's.
+use Rattle.std.specs.Prelude as Std
 use Rattle.std.specs.Prelude.{ℕ, ◌<◌, Bool, cond, List, [], ◌∷◌, ◌≡◌}
 use Rattle.std.proofs.Math.Option.{Option, none, some}
 use Rattle.paper.specs.Client as Paper
@@ -8,7 +9,6 @@ use Rattle.theory.specs.ClientMachine.{OfAny, Brief}
 use Rattle.ids.specs.Ids.{id_of, no_id}
 use Rattle.walk_table.specs.Rows.{no_table}
 use Rattle.client.specs.declared.Client.{Client}
-use Rattle.client.specs.declared.Progress.TheVariants.{None}
 use Rattle.client.specs.declared.Started.{Started}
 use Rattle.client.specs.declared.Told.{Told}
 use Rattle.client.specs.Numbers.{says_of}
@@ -77,11 +77,11 @@ paper_call c link_failed = said_by (Paper.link_failed c)
 
 -- The code's answer to a call, read as document 01's, and its client after it.
 abbrev pub started_by : Started → Reply × Client
-started_by s = (record { says = says_of s.says None no_id no_table; rest = 0; buffer = [] }, s.client)
+started_by s = (record { says = says_of s.says Std.None no_id no_table; rest = 0; buffer = [] }, s.client)
 
 abbrev pub asked_by : CodeRequest.Asking → Reply × Client
 asked_by a = (
-  record { says = says_of a.answer.says None no_id no_table; rest = 0; buffer = a.bytes },
+  record { says = says_of a.answer.says Std.None no_id no_table; rest = 0; buffer = a.bytes },
   a.answer.client,
 )
 

@@ -1,4 +1,5 @@
 -- A client driven over a wire of bytes: each request goes to the wire, and the wire's record is handed in.
+use Rattle.std.specs.Prelude as Std
 use Rattle.std.specs.Prelude.{ℕ, zero, suc, ◌+◌, ◌%◌, ◌≤◌, ◌<◌, Bool, true, false, cond, List, [], ◌∷◌, ◌≡◌, length, take, drop}
 use Rattle.std.proofs.Math.Option.{Option, none}
 use Rattle.paper.specs.Client as PaperClient
@@ -15,7 +16,6 @@ use Rattle.walk_table.specs.Rows.{no_table}
 use Rattle.walk.specs.Moves.{no_walk}
 use Rattle.client.specs.declared.Client.{Client}
 use Rattle.client.specs.declared.Outcome.TheVariants.{Found}
-use Rattle.client.specs.declared.Progress.TheVariants.{None}
 use Rattle.client.specs.declared.Says.{Says}
 use Rattle.client.specs.declared.Says.TheVariants.{Granted, Closing, Onward, Over, Refused}
 use Rattle.client.specs.declared.Started.{Started}
@@ -59,7 +59,7 @@ served (suc n) buffer wire k t =
 
 -- A start's answer, in the form of the answer to a record.
 abbrev pub opening : Started → Told
-opening s = record { says = s.says; client = s.client; rest = 0; progress = None; id = no_id; found = no_table }
+opening s = record { says = s.says; client = s.client; rest = 0; progress = Std.None; id = no_id; found = no_table }
 
 -- A discovery under a prefix of whole bytes, for as many rounds as its limit allows.
 unfoldable pub discovered : List ℕ → Wire → Client → Id → Told × ℕ

@@ -30,7 +30,6 @@ use Rattle.client.specs.declared.Job.TheVariants.{Informing, Erasing, Writing, V
 use Rattle.client.specs.declared.Phase as CodePhase
 use Rattle.client.specs.declared.Phase.TheVariants.{Select, Demand, Leave}
 use Rattle.client.specs.declared.Progress.{Progress}
-use Rattle.client.specs.declared.Progress.TheVariants.{None, Made}
 use Rattle.client.specs.declared.Turn as CodeTurn
 use Rattle.client.specs.declared.Turn.TheVariants.{Idle, Ready, Waiting}
 use Rattle.client.specs.declared.Client.{Client}
@@ -46,6 +45,7 @@ use Rattle.client.specs.declared.Started.{Started}
 use Rattle.client.specs.declared.Told.{Told}
 use Rattle.client_request.specs.Request.{Asking}
 use Rattle.refinement.specs.CodeWalk.{table_of, phase_of, walk_of}
+use Rattle.client.specs.Clients.{some_progress}
 
 -- An id that may be missing: whether it is there, and its value.
 abbrev pub is_there : Option PaperHearing.Id → Bool
@@ -138,16 +138,16 @@ client_of c = record_of c.seed c.id c.turn
 -- The code's answer, with the progress, the id or prefix, and the ids that belong to it.
 pub record Shown : Type 0 where
   pub says : Says
-  pub progress : Progress
+  pub progress : Std.Option Progress
   pub id : Id
   pub found : Table
 
-abbrev pub progress_in : Option (ℕ × ℕ) → Progress
-progress_in none = None
-progress_in (some p) = Made p.0 p.1
+abbrev pub progress_in : Option (ℕ × ℕ) → Std.Option Progress
+progress_in none = Std.None
+progress_in (some p) = some_progress p.0 p.1
 
 abbrev pub beside : Says → Id → Shown
-beside s x = record { says = s; progress = None; id = x; found = no_table }
+beside s x = record { says = s; progress = Std.None; id = x; found = no_table }
 
 abbrev pub plainly : Says → Shown
 plainly s = beside s no_id
@@ -194,7 +194,7 @@ abbrev pub ended_as : Option (ℕ × ℕ) → PaperTalk.Outcome → Shown
 ended_as p quiet = making (Over Outcome.Quiet) p
 ended_as p (heard h) = beside (Over (Outcome.Heard (kind_of (shown_heard h)))) (id_in (shown_heard h))
 ended_as p (attached id) = beside (Over (Outcome.Attached (is_there id))) (value_of id)
-ended_as p (found ids) = record { says = Over Outcome.Found; progress = None; id = no_id; found = table_of ids }
+ended_as p (found ids) = record { says = Over Outcome.Found; progress = Std.None; id = no_id; found = table_of ids }
 ended_as p (knows info) = making (Over (Outcome.Knows (code_info info))) p
 
 abbrev pub shown_says : PaperClient.Says → Shown

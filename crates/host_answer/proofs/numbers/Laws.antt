@@ -12,7 +12,6 @@ use Rattle.client.specs.declared.Refusal.TheVariants.{NotAddressable, DuplicateU
 use Rattle.client.specs.declared.Refusal.TheVariants.{ShortBuffer, RetriesSpent, ShortVerify, SpansTooFar, OtherImage}
 use Rattle.client.specs.declared.Refusal.TheVariants.{OutOfTurn}
 use Rattle.client.specs.declared.Progress.{Progress}
-use Rattle.client.specs.declared.Progress.TheVariants.{None, Made}
 use Rattle.client.specs.declared.Says.{Says}
 use Rattle.client.specs.declared.Says.TheVariants.{Granted, Closing, Onward, Over, Refused}
 use Rattle.client.specs.Numbers.{number_of}
@@ -73,7 +72,7 @@ note-says Onward = refl
 note-says (Over o) = note-outcome o
 note-says (Refused r) = note-refusal r
 
-pub gain-progress : (p : Progress) → progress_in (gain_of p) ≡ p
+pub gain-progress : (p : Std.Option Progress) → progress_in (gain_of p) ≡ p
 unfolding progress_in gain_of
-gain-progress None = refl
-gain-progress (Made done total) = refl
+gain-progress Std.None = refl
+gain-progress (Std.Some p) = refl

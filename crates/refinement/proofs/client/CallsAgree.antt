@@ -7,6 +7,8 @@ use mathlib.Core.Path.{◌≡◌, refl, sym, ◌∙◌, ap, ap₂}
 use native.Mathlib.Omega.{arith}
 use lib.Dec.{leb, ltb}
 use lib.ListN.{length, drop}
+use Rattle.std.specs.Prelude as Std
+use Rattle.std.proofs.lemmas.Option.{none-some, same_Some}
 use Rattle.lore.proofs.Choice.{either}
 use Rattle.paper.specs.Client as Paper
 use Rattle.paper.specs.Client.{Says, within_longest, other_length, bytes_of, handing, seed_after, reading, place, cleared}
@@ -33,18 +35,17 @@ use Rattle.theory.proofs.client.MachineIsClient.{paper_of, fresh-sim, start_sele
 use Rattle.theory.proofs.client.MachineIsClient.{start_attach-sim, start_discover-sim, start_info-sim, start_erase-sim}
 use Rattle.theory.proofs.client.MachineIsClient.{start_flash-sim, start_reset-sim, start_set_baud-sim, request-sim}
 use Rattle.theory.proofs.client.MachineIsClient.{record-sim, link_failed-sim}
-use Rattle.ids.specs.Ids.{no_id}
+use Rattle.ids.specs.Ids.{no_id, id_from}
 use Rattle.walk_table.specs.Rows.{no_table}
 use Rattle.ids.proofs.Laws.{id-of-from}
 use Rattle.walk.specs.Moves.{no_walk}
 use Rattle.client.specs.declared.Client.{Client}
-use Rattle.client.specs.declared.Progress.TheVariants.{None}
 use Rattle.client.specs.declared.Turn.TheVariants.{Idle}
 use Rattle.client.specs.Clients as CodeClients
 use Rattle.client_request.specs.Request as CodeRequest
 use Rattle.client_record.specs.Record as CodeRecord
 use Rattle.client.specs.Numbers.{number_of, carried_by, progress_of, says_of}
-use Rattle.refinement.specs.CodeClient.{client_of, refused_as, shown_says, started_as, told_as, asked_as}
+use Rattle.refinement.specs.CodeClient.{client_of, record_of, refused_as, shown_says, started_as, told_as, asked_as}
 use Rattle.refinement.specs.Calls.{Call, start_select, start_deselect, start_attach, start_discover, start_info}
 use Rattle.refinement.specs.Calls.{start_erase, start_flash, start_reset, start_set_baud, request, record', link_failed}
 use Rattle.refinement.specs.Calls.{Good, Reply, said_by, asked_of, paper_call, started_by, asked_by, told_by, code_call}
@@ -114,7 +115,7 @@ started-read c good ph = go c.turn good
     go (waiting p) b = refl
 
 -- A request's answer, read as document 01's.
-handing-read : (q : Ask) (n : ℕ) → says_of (shown_says (handing q n)).says None no_id no_table ≡ handing q n
+handing-read : (q : Ask) (n : ℕ) → says_of (shown_says (handing q n)).says Std.None no_id no_table ≡ handing q n
 unfolding says_of
 handing-read (select p) n = refl
 handing-read (demand d) n = refl
@@ -338,17 +339,18 @@ idle-rests calls g e = rw r.client (idle-is r.machine r.fits r.bytes (rw r.clien
     r : Reached (reached CodeClients.fresh calls)
     r = rw new-client (reaches Machine.fresh fresh-fits (fresh_holds Bytes) calls g)
 
-rests-idle : (d : Client) → Rests d → d ≡ CodeClients.idle d
-unfolding CodeClients.idle
-rests-idle d r = rw r.client
-
-same-idle : (c d : Client) → c.front.seed ≡ d.front.seed → CodeClients.attached c ≡ CodeClients.attached d
-    → CodeClients.idle c ≡ CodeClients.idle d
-unfolding CodeClients.idle CodeClients.attached
-same-idle c d s a = λ i. record {
-  front = record { seed = s i; attached = (a i).any; id = (a i).id; turn = Idle; prefix = no_id; bits = 0 };
-  walk = no_walk;
-}
+same-rests : (s t : ℕ) (x y : Option Id) → s ≡ t
+    → CodeClients.attached (record_of s x idle) ≡ CodeClients.attached (record_of t y idle)
+    → record_of s x idle ≡ record_of t y idle
+unfolding CodeClients.attached
+same-rests s t none none e a = ap (λ (n : ℕ). record_of n none idle) e
+same-rests s t none (some y) e a = absurd (none-some _ a)
+same-rests s t (some x) none e a = absurd (none-some _ (sym a))
+same-rests s t (some x) (some y) e a =
+    let same : id_from x ≡ id_from y = same_Some _ _ a in λ i. record {
+      front = record { seed = e i; attached = true; id = same i; turn = Idle; prefix = no_id; bits = 0 };
+      walk = no_walk;
+    }
 
 -- So two such clients with the same seed and attached id are equal.
 pub idle-canonical : (xs ys : List Call) → All Good xs → All Good ys → (reached CodeClients.fresh xs).front.turn ≡ Idle
@@ -357,6 +359,13 @@ pub idle-canonical : (xs ys : List Call) → All Good xs → All Good ys → (re
     → CodeClients.attached (reached CodeClients.fresh xs) ≡ CodeClients.attached (reached CodeClients.fresh ys)
     → reached CodeClients.fresh xs ≡ reached CodeClients.fresh ys
 idle-canonical xs ys g h e f s a =
-    rests-idle (reached CodeClients.fresh xs) (idle-rests xs g e)
-    ∙ same-idle (reached CodeClients.fresh xs) (reached CodeClients.fresh ys) s a
-    ∙ sym (rests-idle (reached CodeClients.fresh ys) (idle-rests ys h f))
+    p.client
+    ∙ same-rests p.seed q.seed p.id q.id (sym (ap (λ (c : Client). c.front.seed) p.client) ∙ s ∙ ap (λ (c : Client). c.front.seed) q.client)
+    (sym (ap CodeClients.attached p.client) ∙ a ∙ ap CodeClients.attached q.client)
+    ∙ sym q.client
+  where
+    p : Rests (reached CodeClients.fresh xs)
+    p = idle-rests xs g e
+
+    q : Rests (reached CodeClients.fresh ys)
+    q = idle-rests ys h f

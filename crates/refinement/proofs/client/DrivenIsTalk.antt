@@ -6,6 +6,7 @@ use mathlib.Core.List.{List, [], ◌∷◌}
 use mathlib.Core.Option.{Option, none, some}
 use mathlib.Core.Path.{◌≡◌, refl, sym, ◌∙◌, ap, ap₂, subst}
 use native.Mathlib.Omega.{arith}
+use Rattle.std.specs.Prelude as Std
 use Rattle.paper.specs.Client as Paper
 use Rattle.paper.specs.Client.{on_left}
 use Rattle.paper.specs.Hearing.{Id}
@@ -25,7 +26,6 @@ use Rattle.walk_table.specs.Rows.{no_table}
 use Rattle.client.specs.declared.Client.{Client}
 use Rattle.client.specs.declared.Outcome.TheVariants as Code
 use Rattle.client.specs.declared.Progress.{Progress}
-use Rattle.client.specs.declared.Progress.TheVariants.{None}
 use Rattle.client.specs.declared.Says.{Says}
 use Rattle.client.specs.declared.Says.TheVariants.{Granted, Closing, Onward, Over, Refused}
 use Rattle.client.specs.declared.Started.{Started}
@@ -112,7 +112,7 @@ module _ (code : Client) (paper : Paper.Client) (a : Alike code paper) where
       (ap (λ (c : Paper.Client). said_by (Paper.link_failed c)) a.is-paper ∙ ap said_by (link_failed-sim m)))
 
 -- Whether the operation goes on, and what is handed out, depends only on the answer as document 01 has it.
-onward-same : (s : Says) (p : Progress) (x : Ids.Id) (t : Table) → is_onward s ≡ goes_on (says_of s p x t)
+onward-same : (s : Says) (p : Std.Option Progress) (x : Ids.Id) (t : Table) → is_onward s ≡ goes_on (says_of s p x t)
 unfolding is_onward goes_on says_of end_of
 onward-same (Granted n) p x t = refl
 onward-same (Closing n) p x t = refl
@@ -127,7 +127,7 @@ onward-same (Refused r) p x t = refl
 
 module _ {A B : Type 0} (R : A → B → Type 0) (g c : ℕ → A) (o : A) (g' c' : ℕ → B) (o' : B)
     (hg : (k : ℕ) → R (g k) (g' k)) (hc : (k : ℕ) → R (c k) (c' k)) (ho : R o o') where
-  asked-alike : (s : Says) (p : Progress) (x : Ids.Id) (t : Table)
+  asked-alike : (s : Says) (p : Std.Option Progress) (x : Ids.Id) (t : Table)
       → R (on_says s g c o o) (on_asked (says_of s p x t) g' c' o')
   unfolding says_of end_of
   asked-alike (Granted n) p x t = hg n
@@ -141,10 +141,10 @@ module _ {A B : Type 0} (R : A → B → Type 0) (g c : ℕ → A) (o : A) (g' c
   asked-alike (Over Code.Unaddressed) p x t = ho
   asked-alike (Refused r) p x t = ho
 
-  asked-said : (s : Says) (ps : Paper.Says) → says_of s None no_id no_table ≡ ps
+  asked-said : (s : Says) (ps : Paper.Says) → says_of s Std.None no_id no_table ≡ ps
       → R (on_says s g c o o) (on_asked ps g' c' o')
   asked-said s ps e = subst (λ (u : Paper.Says). R (on_says s g c o o) (on_asked u g' c' o')) e
-      (asked-alike s None no_id no_table)
+      (asked-alike s Std.None no_id no_table)
 
 module _ (buffer : List ℕ) where
   pub record Drives (rs : List Round) (code : Told) (paper : Paper.Told) : Type 0 where
@@ -160,7 +160,7 @@ module _ (buffer : List ℕ) where
     goes : is_onward code.says ≡ goes_on paper.says
     goes = onward-same code.says code.progress code.id code.found ∙ ap goes_on s.says
 
-    said : says_of (asking buffer r code).answer.says None no_id no_table ≡ (ClientDriven.asking buffer r paper).says
+    said : says_of (asking buffer r code).answer.says Std.None no_id no_table ≡ (ClientDriven.asking buffer r paper).says
     said = ap (λ (x : Reply). x.says) asks.reply
 
     filled : (asking buffer r code).bytes ≡ (ClientDriven.asking buffer r paper).buffer

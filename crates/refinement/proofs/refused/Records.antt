@@ -5,6 +5,7 @@ use mathlib.Core.List.{List}
 use mathlib.Core.Path.{◌≡◌, refl, sym, ◌∙◌, ap}
 use lib.Dec.{ltb, eqb}
 use lib.ListN.{length}
+use Rattle.std.specs.Prelude as Std
 use Rattle.std.specs.Prelude.{Option, Some, None, Result, Ok, Err}
 use Rattle.paper.specs.Answers as Paper
 use Rattle.paper.specs.Answers.{Answer, lost, answered, ok, device, answer, too_large, incompatible, spans_too_far}
@@ -227,7 +228,7 @@ module _ (c : Client) (n : ℕ) where
     hears-tells (Backing given) h x = backed-tells given
     hears-tells (Walking q) h x = walked-tells _ _
 
-    goes-tells : (progress : Progress) (t : Result Then Refusal) → Sober t
+    goes-tells : (progress : Std.Option Progress) (t : Result Then Refusal) → Sober t
         → Tells c n (goes c (record { progress = progress; then = t }) at)
     unfolding goes over onward idle
     goes-tells progress (Ok (Then.On job)) h = unrefused-tells _ refl refl

@@ -9,6 +9,7 @@ use native.Mathlib.Nat.{mod-eq_of_lt, add-zero}
 use native.Mathlib.Omega.{arith}
 use lib.ListN.{length}
 use borrow.Author.Tests.{le-leb}
+use Rattle.std.specs.Prelude as Std
 use Rattle.paper.specs.Client.{id_after, refused}
 use Rattle.paper.specs.Count.{matching, honest, All, Pods, count, selects, limit}
 use Rattle.paper.specs.Hearing as PaperHearing
@@ -73,7 +74,7 @@ sort_sorted (x ∷ xs) h = ap (insert x) (sort_sorted xs h.1) ∙ first xs h.0
 all_short : (L : ℕ) {ids : List Id} → Pods L ids → All Short ids
 all_short L {ids} p = all-weaken (λ x. length x ≡ L) Short ids (λ x e. omega (arith, p.within16)) p.sized
 
-not_found : (p : Progress) (x : Code.Id) (t : Table) (n : ℕ) → says_of (Over Found) p x t ≡ refused n [] → ⊥
+not_found : (p : Std.Option Progress) (x : Code.Id) (t : Table) (n : ℕ) → says_of (Over Found) p x t ≡ refused n [] → ⊥
 unfolding says_of end_of
 not_found p x t n e = let z : ◌≡◌ {A = ℕ} 0 1 = cc in omega arith
 
