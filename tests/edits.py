@@ -111,6 +111,9 @@ class Wrong:
         errors = [e for e in error.findall(log) if not follows.search(e[2])]
         if self.place is None:
             own = errors[:1]
+            if not own:
+                self.fact = first_open(log, self.crate)
+                return
         elif self.file.startswith("proofs/"):
             own = [e for e in errors if e[0] == self.file and self.is_of_it(e)]
         else:
@@ -144,6 +147,12 @@ def open_goals(log, function):
         at -= 1
         goals[:0] = re.findall(r"^note: src/\S+: it is not proved that .*?\((`[^`]*`)\)", lines[at])
     return goals
+
+
+def first_open(log, crate):
+    """The first goal of any function that `search` alone was to prove, and did not; None if there is none."""
+    functions = re.findall(rf"(?m)^fn ({crate}::\S+): (?:not proved|no proof)", log)
+    return next((f"{goal} of `{function}`" for function in functions for goal in open_goals(log, function)), None)
 
 
 def enclosing(text, at, crate, file):
