@@ -66,7 +66,12 @@ pub fn write_verify(n: usize, buf: &mut [u8]) -> Result<usize, Short>
     ensures { record { answer = result; bytes = buf.new }
         ≡ placed (frame_bytes (demand_frame (verify_request n) [])) buf.old }
 {
-    frame::place_frame(head(wire::VERIFY, 0, (n % 0x1_0000_0000) as u32), &[], 0, buf)
+    frame::place_frame(
+        head(wire::VERIFY, 0, (n % 0x1_0000_0000) as u32),
+        &[],
+        0,
+        buf,
+    )
 }
 
 // BOOTLOADER for a reset into the bootloader, BAUD if a baud is given.

@@ -99,7 +99,13 @@ fn write_search(f: Front, p: Place, search: Search, buffer: &mut [u8]) -> Result
 
 // Writes the request of a phase.
 #[tactic(auto, unfolding(crate::specs::Request::frame_of))]
-fn write_request(f: Front, p: Place, phase: Phase, image: &[u8], buffer: &mut [u8]) -> Result<usize, Short>
+fn write_request(
+    f: Front,
+    p: Place,
+    phase: Phase,
+    image: &[u8],
+    buffer: &mut [u8],
+) -> Result<usize, Short>
     ensures { (t : Table) → record { answer = result; bytes = buffer.new }
         ≡ placed (frame_bytes (frame_of (client_of f (walk_of p t)) phase image.now)) buffer.old }
 {

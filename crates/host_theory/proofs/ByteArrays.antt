@@ -19,7 +19,7 @@ use Rattle.theory.proofs.frames.FramesReadBack.{bytes-append}
 use Rattle.ids.specs.Ids.{with_one, set_bit, id_from}
 use Rattle.ids.proofs.Shift.{or-shl}
 use Rattle.ids.specs.Paths.{cut}
-use Rattle.hearing.specs.Heard.{id_in, kind_of, one_heard, shown_heard}
+use Rattle.hearing.specs.Heard.{id_in, one_heard, shown_heard}
 use Rattle.hearing.specs.declared.Hearing.{Hearing}
 use Rattle.host_state.specs.State.{Array, IdFits}
 use Rattle.host_state.proofs.Laws.{zero-bytes, no-id-fits}

@@ -3,7 +3,7 @@ use Prim.Native.Nat.{ℕ, ◌+◌, ◌-◌, ◌*◌, ◌/◌, ◌%◌, ◌<◌, 
 use mathlib.Core.Bool.{false, ◌&&◌}
 use mathlib.Core.List.{List}
 use mathlib.Core.Option.{Option}
-use mathlib.Core.Path.{◌≡◌, refl, subst}
+use mathlib.Core.Path.{◌≡◌, refl}
 use native.Mathlib.Decide.{dec_lt}
 use native.Mathlib.Nat.{div-zero, div-mul-le_self, mul-le-mul_left}
 use native.Mathlib.Omega.{arith}
@@ -32,7 +32,6 @@ use Rattle.client.specs.declared.Outcome.TheVariants.{Knows}
 use Rattle.client.specs.declared.Purpose.{Purpose}
 use Rattle.client.specs.declared.Purpose.TheVariants.{Tell, Clear, Load}
 use Rattle.client.specs.declared.Refusal.{Refusal}
-use Rattle.client.specs.declared.Refusal.TheVariants as Refusal
 use Rattle.client.specs.declared.Says.TheVariants as Says
 use Rattle.client_job.specs.declared.Next.{Next}
 use Rattle.client_job.specs.declared.Then.{Then}

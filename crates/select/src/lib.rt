@@ -71,7 +71,12 @@ fn put_select(dst: &mut [u8], seed: u8, bits: [u8; ids::MAX_BYTES], count: u8)
 }
 
 // Writes a Select of the first count bits; bits after the sixteenth byte are zero.
-pub fn write_select(seed: u8, bits: [u8; ids::MAX_BYTES], count: u8, buf: &mut [u8]) -> Result<usize, Short>
+pub fn write_select(
+    seed: u8,
+    bits: [u8; ids::MAX_BYTES],
+    count: u8,
+    buf: &mut [u8],
+) -> Result<usize, Short>
     ensures { record { answer = result; bytes = buf.new }
         ≡ placed (frame_bytes (select_frame seed (asked bits count))) buf.old }
 {

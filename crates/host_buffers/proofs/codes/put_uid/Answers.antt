@@ -1,5 +1,5 @@
 -- Answers to the goals of `host_buffers::codes::put_uid`.
-use Rattle.host_buffers.proofs.codes.Ways.{uid-short, uid-put}
+use Rattle.host_buffers.proofs.codes.Ways.{uid-short, uid-put, uid-room}
 use borrow.Author.Rules.{rules}
 use Rattle.host_buffers.proofs.codes.put_uid.Goals as goal
 
