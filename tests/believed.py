@@ -51,6 +51,9 @@ class Definition:
         return f"{project.name_of(self.file.path)}: {self.name}"
 
 
+LIBRARY = ("Option", "Result")  # types that every module has from std
+
+
 class Declared:
     """A record, an enum or a constant of the code, by its path from the crate on, and those that it names."""
 
@@ -59,19 +62,20 @@ class Declared:
         crate, module = path[0], path[1:-1]
         for self.path in project.code_files(crate):
             text = self.path.read_text()
-            m = re.search(rf"(?ms)^(?:pub )?(?:(?:struct|enum) {self.name}\b.*?^\}}|const {self.name}: .*?;$)", text)
+            m = re.search(rf"(?ms)^(?:pub )?(?:struct {self.name};|(?:struct|enum) {self.name}\b.*?^\}}|const {self.name}: .*?;$)", text)
             if m and project.place_of(self.path) == (crate, module):
                 break
         else:
             raise Faults(f"crates/{crate} declares no {'::'.join(path)}")
         first = text.count("\n", 0, m.start()) + 1
         self.lines = set(range(first, first + m[0].count("\n") + 1))
-        for line in m[0].split("\n")[1:-1] or [m[0].split(": ", 1)[1]]:
+        for line in m[0].split("\n")[1:-1] or m[0].split(": ", 1)[1:]:
             of = re.match(r"\s*(?:(?:pub )?\w+: (.*)|\w+\((.*)\)|\w+,$|//)|(.*;)$", line)
             if not of:
                 wrong(self.path, first, f"a field or a variant expected: {line}")
             for kind in re.findall(r"(?<![\w:])(?:\w+::)*[A-Z]\w*", of[1] or of[2] or of[3] or ""):
-                self.needs.add(project.resolved(kind.split("::"), crate, module, text))
+                if kind not in LIBRARY:
+                    self.needs.add(project.resolved(kind.split("::"), crate, module, text))
 
     def __str__(self):
         return f"{project.name_of(self.path)}: {self.name}"
@@ -127,7 +131,8 @@ class File:
         if not made and (colon is None or equals is not None and equals < colon):
             return self.clause(words, equals, lines)
         name = words[made].text
-        theorem = "proofs" in self.path.relative_to(root / "crates").parts and flags <= {"pub"}
+        proof = "proofs" in self.path.relative_to(root / "crates").parts
+        theorem = flags == {"pub"} or proof and not flags  # a definition of specs/ is abbrev or unfoldable
         kind = words[0].text if made else "theorem" if theorem else "function"
         d = Definition(self, name, kind, "pub" in flags, outer)
         self.known[name] = d
@@ -405,7 +410,7 @@ def needed(of, clauses=False):
     why, left = {}, list(of)
     while left:
         d = left.pop()
-        for n in named(d, clauses if d in of else getattr(d, "kind", "") != "theorem"):
+        for n in named(d, (clauses or d not in of) and getattr(d, "kind", "") != "theorem"):
             if n not in why and n not in of:
                 why[n] = d
                 left.append(n)

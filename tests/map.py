@@ -675,7 +675,7 @@ def discovery():
         upright(read, hear, "a frame, or why none was read", shown("reader", "Unread")),
         upright(hear, decide, shown("hearing", "Hearing"), shown("hearing", "Heard")),
         level(client, decide, taken("client_record::decide", "f", "p", "count")),
-        upright(decide, step, taken("walk_step::step", "p", "count", "phase", "h", "id")),
+        upright(decide, step, taken("walk_step::step", "p", "count", "phase", "h")),
         upright(step, walked, shown("walk_step", "Move"), shown("walk_step", "End")),
         level(walked, verdict, "what decide returns"),
         upright(verdict, apply, taken("host_state::apply", "change")),

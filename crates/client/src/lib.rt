@@ -37,8 +37,8 @@ pub enum Purpose {
     Load(usize),
 }
 
-// A reset into the bootloader or the app, with the baud to store if one is given. Kept as a flag beside a byte: `loaded`
-// and `saved` give each its place in a state's bytes, and keep the byte of a reset that gives no baud.
+// A reset into the bootloader or the app, with the baud to store if one is given. Kept as a flag beside a byte:
+// `loaded` and `saved` give each its place in a state's bytes, and keep the byte of a reset that gives no baud.
 #[derive(Clone, Copy)]
 pub struct Reset {
     pub bootloader: bool,
@@ -320,7 +320,8 @@ impl Client {
     pub fn attached(self) -> Option<Id>
         ensures { result ≡ attached self }
     {
-        self.front.attached.then_some(self.front.id)
+        let f = self.front;
+        f.attached.then_some(f.id)
     }
 
     // The client without its walk.

@@ -1,5 +1,6 @@
 // Every call of the client over numbers and byte slices, as the crate `fahireky_c` exports it.
-// The client is kept in a buffer that the host lends, and each answer is written to another.
+// The client is kept in a buffer that the host lends, and each answer is written to another. Kept as a call for each,
+// some with like bodies: hosts call them by these names, and the two buffers are C's.
 #![tactic(auto)]
 
 ghost use Rattle.std.specs.Prelude.{◌≡◌};
@@ -112,7 +113,8 @@ pub fn fahireky_start_set_baud(
     )
 }
 
-// Writes the next request to the front of the buffer.
+// Writes the next request to the front of the buffer. Kept in steps: it writes to a third lent buffer, and a closure's
+// promise says nothing of what it changes there.
 pub fn fahireky_request(state: &mut [u8], image: &[u8], buffer: &mut [u8], answer: &mut [u8]) -> u64
     ensures { record {
       code = result;
@@ -150,7 +152,7 @@ pub fn fahireky_link_failed(state: &mut [u8], answer: &mut [u8]) -> u64
     host_buffers::telling(state, answer, |f, _, _| client_record::fails(f))
 }
 
-// The attached id, if there is one.
+// The attached id, if there is one. Kept in steps: it changes no state, and no other call has its frame.
 pub fn fahireky_attached(state: &[u8], answer: &mut [u8]) -> u64
     ensures { record { code = result; bytes = answer.new }
         ≡ Export.attached state.now answer.old }
@@ -162,7 +164,7 @@ pub fn fahireky_attached(state: &[u8], answer: &mut [u8]) -> u64
     host_buffers::shows(Says::Over(Outcome::Attached(f.attached)), f.id, answer)
 }
 
-// What the record of a Select holds: nothing, one id, an unaddressed pod, or garble.
+// What the record of a Select holds: nothing, one id, an unaddressed pod, or garble. Kept in steps, as it has no state.
 pub fn fahireky_hear(bytes: &[u8], answer: &mut [u8]) -> u64
     ensures { record { code = result; bytes = answer.new }
         ≡ Export.hear bytes.now answer.old }

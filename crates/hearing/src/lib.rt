@@ -4,8 +4,8 @@
 ghost use Rattle.std.specs.Prelude.{◌≡◌, ◌+◌, ◌≤◌, length, take, drop};
 ghost use Rattle.paper.specs.Hearing.{hear};
 ghost use Rattle.paper.specs.Answers.{answer, rest};
-ghost use Rattle.hearing.specs.Heard.{is_long, Within, kind_of, id_in, noted, one_heard, concluded, shown_heard, replied_by};
-ghost use Rattle.hearing.specs.Heard.{shown_answer};
+ghost use Rattle.hearing.specs.Heard.{is_long, Within, kind_of, id_in, noted, one_heard, concluded, shown_heard};
+ghost use Rattle.hearing.specs.Heard.{replied_by, shown_answer};
 
 use ids::Id;
 use reader::{Frame, Unread};

@@ -1,4 +1,6 @@
 // The bytes of an answer: its numbers, the place of the unread rest, the progress made, the id and the list of ids.
+// Kept as slices with `size ≤ length`: docs/CONTRACTS.md names `write_front`, `no_list` and `write_list`, which take
+// longer buffers too, and say that the bytes past the answer stay.
 #![tactic(auto)]
 
 pub mod numbers;

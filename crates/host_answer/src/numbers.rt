@@ -8,7 +8,8 @@ use hearing::Heard;
 use image::Info;
 
 // `number` is 0, or document 01's number. `says`, `outcome` and `heard` say which answer it is. The rest is what it
-// carries.
+// carries. Kept as numbers and flags, as `heard_tag` below: `numbered` gives each its place in an answer's bytes, which
+// bindings/fahireky.h has for C.
 #[derive(Clone, Copy)]
 pub struct Note {
     pub number: u8,

@@ -12,6 +12,8 @@ use image::Info;
 
 // The fields of any turn. A field that a turn does not have is zero. A Select has `search` and `given`, a Select of a
 // walk also `step` and `other`. A request with one answer has the fields from `job` to `retries`. A Reset has `reset`.
+// Kept as numbers and flags, with the functions below that give and read them: `saved_flat` and `loaded_flat` give each
+// its place in a host's bytes, which may hold any number.
 #[derive(Clone, Copy)]
 pub struct Flat {
     pub turn: u8,

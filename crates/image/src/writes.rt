@@ -7,7 +7,8 @@ ghost use Rattle.image.specs.Pieces.{left, is_last, image_bytes, part, chunks_to
 
 use crate::Info;
 
-// How many bytes are left from an offset on. The image has n bytes, and is padded.
+// How many bytes are left from an offset on. The image has n bytes, and is padded. Kept as two numbers with
+// `n < 2 ^ 63`, as in the calls below: docs/CONTRACTS.md names them, so a type with the bound would ask more of a caller.
 #[tactic(auto, unfolding(paper::specs::Answers::padding))]
 pub fn left(n: usize, offset: u64) -> usize
     requires { n < 2 ^ 63 }

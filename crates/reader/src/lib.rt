@@ -33,7 +33,8 @@ fn skipped(s: &[u8]) -> usize
     s.iter().position(|b| *b == 0xA5).unwrap_or(s.len())
 }
 
-// The fields of a frame with n bytes of payload. s begins with its A5; base is where s begins in the record.
+// The fields of a frame with n bytes of payload. s begins with its A5; base is where s begins in the record. Kept as a
+// slice with its place beside, here and in the two readers below: a type of both is no plainer for three functions.
 fn fields(s: &[u8], base: usize, n: usize) -> Frame
     requires n_in_bounds { 12 + n ≤ length s.now }
     requires s_bound { base + length s.now < 2 ^ 64 }

@@ -11,9 +11,10 @@ ghost use Rattle.walk.specs.Moves.{nobody, child, asks};
 use ids::Id;
 use walk_table::Table;
 
-// A walk's place: the bits of the current prefix and their number, a mark for each level (0 for none, 1 for a zero child,
-// 2 for a one child), and the id that is being confirmed. A contract on a place holds for the walk there with any list.
-// Kept as numbers, not an enum: a host's bytes may hold any mark (`loaded_walk` of host_state), and such a walk goes on.
+// A walk's place: the bits of the current prefix and their number, a mark for each level (0 for none, 1 for a zero
+// child, 2 for a one child), and the id that is being confirmed. A contract on a place holds for the walk there with any
+// list. Marks are kept as numbers, not an enum: a host's bytes may hold any (`loaded_walk` of host_state), and such a
+// walk goes on. Kept as arrays with a number of levels: there is no heap.
 #[derive(Clone, Copy)]
 pub struct Place {
     pub path: [u8; ids::MAX_BYTES],
@@ -39,7 +40,8 @@ pub enum Phase {
     Leaving,
 }
 
-// The bits of a Select, and how many. Bits after the first 128 are zero.
+// The bits of a Select, and how many. Bits after the first 128 are zero. Kept as an array with a count beside: there is
+// no heap, and a deselect has 129 bits.
 #[derive(Clone, Copy)]
 pub struct Ask {
     pub bits: [u8; ids::MAX_BYTES],

@@ -30,7 +30,8 @@ pub struct Going {
     pub place: Place,
 }
 
-// What a step does, unless the walk ends early. On: the walk goes on. Keeps: it keeps an id and goes on. Done: it is done.
+// What a step does, unless the walk ends early. On: the walk goes on. Keeps: it keeps an id and goes on. Done: it is
+// done.
 #[derive(Clone, Copy)]
 pub enum Move {
     On(Going),
