@@ -16,6 +16,7 @@ agree = CallsAgree.calls-agree
 -- Two clients with no operation running are equal if their seeds and attached ids are, whatever calls came before.
 pub idle-canonical : (xs ys : List Call) → All Good xs → All Good ys → (reached fresh xs).front.turn ≡ Idle
     → (reached fresh ys).front.turn ≡ Idle
-    → (reached fresh xs).front.seed ≡ (reached fresh ys).front.seed → attached (reached fresh xs) ≡ attached (reached fresh ys)
+    → (reached fresh xs).front.seed ≡ (reached fresh ys).front.seed
+    → attached (reached fresh xs) ≡ attached (reached fresh ys)
     → reached fresh xs ≡ reached fresh ys
 idle-canonical = CallsAgree.idle-canonical

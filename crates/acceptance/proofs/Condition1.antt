@@ -146,5 +146,6 @@ module _ (c : Client) where
     pub leaves-seed : (leaves r c).front.seed ≡ c.front.seed
     leaves-seed = Refusals.leaves-seed r c
 
-    pub leaves-attached : parts r ≡ false → ((leaves r c).front.attached ≡ c.front.attached) × ((leaves r c).front.id ≡ c.front.id)
+    pub leaves-attached : parts r ≡ false
+        → ((leaves r c).front.attached ≡ c.front.attached) × ((leaves r c).front.id ≡ c.front.id)
     leaves-attached = Refusals.leaves-attached r c

@@ -24,7 +24,8 @@ use Rattle.refinement.proofs.wire.EndsAndFinds as EndsAndFinds
 
 -- A client with no operation running is fixed by its seed and its attached id, if any, whatever calls came before. So
 -- the theorems below, which begin with `resting seed id`, cover every such client.
-pub idle-rests : (calls : List Call) → All Good calls → (reached fresh calls).front.turn ≡ Idle → Rests (reached fresh calls)
+pub idle-rests : (calls : List Call) → All Good calls → (reached fresh calls).front.turn ≡ Idle
+    → Rests (reached fresh calls)
 idle-rests = CallsAgree.idle-rests
 
 -- For any buffer that holds every Select, any seed, an attached id or none, and any prefix of at most 16 bytes.
