@@ -4,7 +4,7 @@ use mathlib.Core.Path.{◌≡◌}
 use Rattle.paper.specs.Client as Paper
 use Rattle.paper.specs.Count.{All}
 use Rattle.client.specs.declared.Turn.TheVariants.{Idle}
-use Rattle.client.specs.Clients.{fresh, attached}
+use Rattle.client.specs.Clients.{fresh, attached, known}
 use Rattle.refinement.specs.Calls.{Call, Good, paper_answers, code_answers, reached}
 use Rattle.refinement.proofs.client.CallsAgree as CallsAgree
 
@@ -17,6 +17,6 @@ agree = CallsAgree.calls-agree
 pub idle-canonical : (xs ys : List Call) → All Good xs → All Good ys → (reached fresh xs).front.turn ≡ Idle
     → (reached fresh ys).front.turn ≡ Idle
     → (reached fresh xs).front.seed ≡ (reached fresh ys).front.seed
-    → attached (reached fresh xs) ≡ attached (reached fresh ys)
+    → known (attached (reached fresh xs)) ≡ known (attached (reached fresh ys))
     → reached fresh xs ≡ reached fresh ys
 idle-canonical = CallsAgree.idle-canonical

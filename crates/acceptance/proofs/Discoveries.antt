@@ -184,7 +184,8 @@ idle-canonical-met =
     Calls.idle-canonical selected unattached selected-good unattached-good (ap (λ c. c.front.turn) selected-rests)
     (ap (λ c. c.front.turn) unattached-rests)
     (ap (λ c. c.front.seed) selected-rests ∙ sym (ap (λ c. c.front.seed) unattached-rests))
-    (ap Code.attached selected-rests ∙ sym (ap Code.attached unattached-rests))
+    (ap (λ c. Code.known (Code.attached c)) selected-rests
+    ∙ sym (ap (λ c. Code.known (Code.attached c)) unattached-rests))
 
 pub idle-rests-met : Rests (reached fresh unattached)
 idle-rests-met = Condition3.idle-rests unattached unattached-good (ap (λ c. c.front.turn) unattached-rests)

@@ -27,6 +27,7 @@ use Rattle.client.specs.declared.Says.TheVariants.{Onward, Refused}
 use Rattle.client.specs.declared.Progress.{Progress}
 use Rattle.client.specs.declared.Started.{Started}
 use Rattle.client.specs.declared.Told.{Told}
+use Rattle.client.specs.declared.Attached.{Attached}
 
 -- A value for each case.
 abbrev pub on_turn {ℓ} : {A : Type ℓ} → Turn → A → (Phase → A) → (Phase → A) → A
@@ -117,9 +118,13 @@ holding c any x = record {
 unfoldable pub cleared : Client → Client
 cleared c = holding c false no_id
 
+-- Whether an id is attached, and the id that the client has, with the flag or without it.
+unfoldable pub attached : Client → Attached
+attached c = record { any = c.front.attached; id = c.front.id }
+
 -- The attached id, if there is one.
-unfoldable pub attached : Client → Std.Option Id
-attached c = cond c.front.attached (Std.Some c.front.id) Std.None
+unfoldable pub known : Attached → Std.Option Id
+known a = cond a.any (Std.Some a.id) Std.None
 
 unfoldable pub running : Turn → Bool
 running t = on_turn t false (λ p. true) (λ p. true)

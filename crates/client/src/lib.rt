@@ -10,6 +10,7 @@ ghost use Rattle.client.specs.declared.Refusal.TheVariants as Refusal;
 ghost use Rattle.client.specs.Numbers.{number_of, changes_no_state};
 ghost use Rattle.client.specs.Clients.{fresh, running, differs, other_for, other_image, idle, turned, begun};
 ghost use Rattle.client.specs.Clients.{refuse, refuses, over, stops, onward, making, cleared, holding, attached};
+ghost use Rattle.client.specs.Clients.{known};
 ghost use Rattle.client.specs.Verdicts.{front_of, client_of, renewed, started_of, changed, given, told_of};
 
 use hearing::Heard;
@@ -239,6 +240,24 @@ pub struct Verdict {
     pub id: Id,
 }
 
+// Whether an id is attached, and the client's id. Kept as a flag beside an id: the contract of `Client::attached` tells
+// the id of a client without the flag too, and `views-saved` and `views-held` say that a host gets both.
+#[derive(Clone, Copy)]
+pub struct Attached {
+    pub any: bool,
+    pub id: Id,
+}
+
+impl Attached {
+    // The attached id, if there is one.
+    #[tactic(auto, unfolding(crate::specs::Clients::known))]
+    pub fn known(self) -> Option<Id>
+        ensures { result ≡ known self }
+    {
+        self.any.then_some(self.id)
+    }
+}
+
 // Whether the refusal of this number leaves the state unchanged. Kept as a question on the number: the theorem
 // `refused-untouched` of acceptance asks it of an exported call's code, and a host sees the number alone.
 pub fn changes_no_state(number: u8) -> bool
@@ -315,13 +334,16 @@ impl Client {
         }
     }
 
-    // The attached id, if there is one.
+    // Whether an id is attached, and the client's id.
     #[tactic(auto, unfolding(crate::specs::Clients::attached))]
-    pub fn attached(self) -> Option<Id>
+    pub fn attached(self) -> Attached
         ensures { result ≡ attached self }
     {
         let f = self.front;
-        f.attached.then_some(f.id)
+        Attached {
+            any: f.attached,
+            id: f.id,
+        }
     }
 
     // The client without its walk.

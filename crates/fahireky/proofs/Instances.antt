@@ -4,6 +4,7 @@ use mathlib.Core.List.{List, [], ◌∷◌, ◌++◌}
 use mathlib.Core.Path.{◌≡◌}
 use native.Mathlib.Omega.{arith}
 use lib.ListN.{length, replicate, length-replicate}
+use Rattle.client.specs.Clients.{attached}
 use Rattle.client_start.specs.Start.{start_info}
 use Rattle.client_request.specs.Request.{request}
 use Rattle.client_record.specs.Record.{record'}
@@ -38,5 +39,5 @@ pub requests-saved-met :
     ≡ asks (request seeking [] (replicate 31 0)) state answer
 requests-saved-met = requests-saved seeking seeking-fits (0x99 ∷ []) answer room [] (replicate 31 0)
 
-pub views-saved-met : views state answer ≡ shows_attached seeking answer
+pub views-saved-met : views state answer ≡ shows_attached (attached seeking) answer
 views-saved-met = views-saved seeking seeking-fits (0x99 ∷ []) answer room

@@ -11,6 +11,7 @@ use Rattle.paper.specs.Answers.{rest}
 use Rattle.client.specs.declared.Client.{Client}
 use Rattle.client.specs.declared.Started.{Started}
 use Rattle.client.specs.declared.Told.{Told}
+use Rattle.client.specs.Clients.{attached}
 use Rattle.client_request.specs.Request.{request}
 use Rattle.host_state.specs.State as State
 use Rattle.host_state.specs.State.{saved, loaded, Fits}
@@ -49,12 +50,12 @@ module _ (c : Client) (h : Fits c) (more a : List ℕ) (room : AnswerBytes.size 
       ∙ ap (λ (d : Client). asks (request d image b) (saved c ++ more) a) (loaded-saved c h more)
 
   -- The attached id.
-  pub views-saved : views (saved c ++ more) a ≡ shows_attached c a
+  pub views-saved : views (saved c ++ more) a ≡ shows_attached (attached c) a
   unfolding views
   views-saved =
       sym (lent-enough (length (saved c ++ more)) (length a) (λ (code : ℕ). record { code = code; bytes = a })
-      (shows_attached (loaded (saved c ++ more)) a) whole room)
-      ∙ ap (λ (d : Client). shows_attached d a) (loaded-saved c h more)
+      (shows_attached (attached (loaded (saved c ++ more))) a) whole room)
+      ∙ ap (λ (d : Client). shows_attached (attached d) a) (loaded-saved c h more)
 
 -- Dropping the bytes before the place of the rest gives the rest.
 pub rest-from : (bytes : List ℕ) (at : ℕ) → drop (rest_from (length bytes) at) bytes ≡ rest bytes at

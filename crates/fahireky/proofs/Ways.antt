@@ -22,6 +22,7 @@ use Rattle.client.specs.declared.Outcome.TheVariants as Outcome
 use Rattle.client.specs.declared.Says.{Says}
 use Rattle.client.specs.declared.Says.TheVariants.{Over}
 use Rattle.client.specs.declared.Told.{Told}
+use Rattle.client.specs.Clients.{attached}
 use Rattle.client.specs.Verdicts.{front_of, client_of, started_of, told_of}
 use Rattle.client_request.specs.Request.{Asking, request}
 use Rattle.host_state.specs.State as State
@@ -44,18 +45,18 @@ module _ (s a : List ℕ) (k : ℕ) (o : Option ℕ) (e : o ≡ short_code (leng
   pub views-short : record { code = k; bytes = a } ≡ views s a
   unfolding views
   views-short = lent-short (length s) (length a) (λ (code : ℕ). record { code = code; bytes = a })
-      (shows_attached (loaded s) a) k (sym e ∙ q)
+      (shows_attached (attached (loaded s)) a) k (sym e ∙ q)
 
 -- Both are long enough: the decision on the front and the place is that of the call on the client in the state.
 module _ (s a : List ℕ) (short : Option ℕ) (f : Front) (e : short ≡ short_code (length s) (length a))
     (z : short ≡ None) (ef : f ≡ front_of (loaded s)) where
   pub views-is : (r : Coded) → r ≡ shows (Over (Outcome.Attached f.attached)) f.id a → r ≡ views s a
-  unfolding views shows_attached
+  unfolding views shows_attached attached
   views-is r er =
       er
       ∙ ap (λ (g : Front). shows (Over (Outcome.Attached g.attached)) g.id a) ef
       ∙ lent-none (length s) (length a) (λ (code : ℕ). record { code = code; bytes = a })
-      (shows_attached (loaded s) a) (sym e ∙ z)
+      (shows_attached (attached (loaded s)) a) (sym e ∙ z)
 
   pub requests-is : (p : Place) (image b b' s' a' : List ℕ) (r : ℕ) (o : Opening) → p ≡ place_of (loaded s).walk
       → ((t : Table) → record { answer = started_of o (walk_of p t); bytes = b' }

@@ -13,6 +13,8 @@ use Rattle.client.specs.declared.Says.{Says}
 use Rattle.client.specs.declared.Says.TheVariants.{Over, Refused}
 use Rattle.client.specs.declared.Started.{Started}
 use Rattle.client.specs.declared.Told.{Told}
+use Rattle.client.specs.declared.Attached.{Attached}
+use Rattle.client.specs.Clients.{attached}
 use Rattle.client.specs.declared.Opening.{Opening}
 use Rattle.client.specs.declared.Verdict.{Verdict}
 use Rattle.client.specs.Verdicts.{started_of, told_of}
@@ -97,12 +99,12 @@ requests image s b a =
 unfoldable pub shows : Says → Id → List ℕ → Coded
 shows says x a = record { code = code_of says; bytes = shown says None x no_table 0 ++ drop AnswerBytes.size a }
 
-unfoldable pub shows_attached : Client → List ℕ → Coded
-shows_attached c a = shows (Over (Outcome.Attached c.front.attached)) c.front.id a
+unfoldable pub shows_attached : Attached → List ℕ → Coded
+shows_attached x a = shows (Over (Outcome.Attached x.any)) x.id a
 
 unfoldable pub views : List ℕ → List ℕ → Coded
 views s a = lent (length s) (length a) (λ code. record { code = code; bytes = a })
-    (shows_attached (loaded s) a)
+    (shows_attached (attached (loaded s)) a)
 
 -- The answer of a plain select that heard h.
 unfoldable pub said_of : Heard → Says

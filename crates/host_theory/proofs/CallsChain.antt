@@ -12,7 +12,7 @@ use Rattle.lore.proofs.Choice.{by-test}
 use Rattle.paper.proofs.Words.{Bytes}
 use Rattle.client.specs.declared.Client.{Client}
 use Rattle.client.specs.declared.Started.{Started}
-use Rattle.client.specs.Clients.{fresh}
+use Rattle.client.specs.Clients.{fresh, attached}
 use Rattle.client.specs.Numbers.{changes_no_state}
 use Rattle.host_state.specs.State as State
 use Rattle.host_state.specs.State.{saved, loaded, Fits}
@@ -177,12 +177,12 @@ module _ (more : List ℕ) where
 
 -- The attached id in such a state.
 pub views-held : (s : List ℕ) (c : Client) (more a : List ℕ) → Holds s c more → AnswerBytes.size ≤ length a
-    → views s a ≡ shows_attached c a
+    → views s a ≡ shows_attached (attached c) a
 unfolding views
 views-held s c more a h room =
     sym (lent-enough (length s) (length a) (λ (code : ℕ). record { code = code; bytes = a })
-    (shows_attached (loaded s) a) h.whole room)
-    ∙ ap (λ (d : Client). shows_attached d a) h.client
+    (shows_attached (attached (loaded s)) a) h.whole room)
+    ∙ ap (λ (d : Client). shows_attached (attached d) a) h.client
 
 -- Any bytes hold a client; zero bytes hold a fresh one.
 pub any-holds : (s : List ℕ) → Bytes s → State.size ≤ length s → Holds s (loaded s) (drop State.size s)

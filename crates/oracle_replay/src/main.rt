@@ -83,7 +83,7 @@ fn print_outcome(out: &impl Print, o: Outcome, id: Id) -> io::Result<()> {
 fn print_end(out: &impl Print, c: Client) -> io::Result<()> {
     print!(out; "\ns")?;
     print_number(out, c.front.seed as u64)?;
-    print_id(out, c.attached().unwrap_or(Id::none()))?;
+    print_id(out, c.attached().id)?;
     print!(out; "\n")
 }
 

@@ -35,6 +35,7 @@ use Rattle.theory.proofs.client.MachineIsClient.{paper_of, fresh-sim, start_sele
 use Rattle.theory.proofs.client.MachineIsClient.{start_attach-sim, start_discover-sim, start_info-sim, start_erase-sim}
 use Rattle.theory.proofs.client.MachineIsClient.{start_flash-sim, start_reset-sim, start_set_baud-sim, request-sim}
 use Rattle.theory.proofs.client.MachineIsClient.{record-sim, link_failed-sim}
+use Rattle.ids.specs.declared.Id as CodeIds
 use Rattle.ids.specs.Ids.{no_id, id_from}
 use Rattle.walk_table.specs.Rows.{no_table}
 use Rattle.ids.proofs.Laws.{id-of-from}
@@ -339,10 +340,14 @@ idle-rests calls g e = rw r.client (idle-is r.machine r.fits r.bytes (rw r.clien
     r : Reached (reached CodeClients.fresh calls)
     r = rw new-client (reaches Machine.fresh fresh-fits (fresh_holds Bytes) calls g)
 
+-- The attached id, if there is one.
+abbrev known_id : Client → Std.Option CodeIds.Id
+known_id c = CodeClients.known (CodeClients.attached c)
+
 same-rests : (s t : ℕ) (x y : Option Id) → s ≡ t
-    → CodeClients.attached (record_of s x idle) ≡ CodeClients.attached (record_of t y idle)
+    → known_id (record_of s x idle) ≡ known_id (record_of t y idle)
     → record_of s x idle ≡ record_of t y idle
-unfolding CodeClients.attached
+unfolding CodeClients.attached CodeClients.known
 same-rests s t none none e a = ap (λ (n : ℕ). record_of n none idle) e
 same-rests s t none (some y) e a = absurd (none-some _ a)
 same-rests s t (some x) none e a = absurd (none-some _ (sym a))
@@ -356,12 +361,13 @@ same-rests s t (some x) (some y) e a =
 pub idle-canonical : (xs ys : List Call) → All Good xs → All Good ys → (reached CodeClients.fresh xs).front.turn ≡ Idle
     → (reached CodeClients.fresh ys).front.turn ≡ Idle
     → (reached CodeClients.fresh xs).front.seed ≡ (reached CodeClients.fresh ys).front.seed
-    → CodeClients.attached (reached CodeClients.fresh xs) ≡ CodeClients.attached (reached CodeClients.fresh ys)
+    → CodeClients.known (CodeClients.attached (reached CodeClients.fresh xs))
+    ≡ CodeClients.known (CodeClients.attached (reached CodeClients.fresh ys))
     → reached CodeClients.fresh xs ≡ reached CodeClients.fresh ys
 idle-canonical xs ys g h e f s a =
     p.client
     ∙ same-rests p.seed q.seed p.id q.id (sym (ap (λ (c : Client). c.front.seed) p.client) ∙ s ∙ ap (λ (c : Client). c.front.seed) q.client)
-    (sym (ap CodeClients.attached p.client) ∙ a ∙ ap CodeClients.attached q.client)
+    (sym (ap known_id p.client) ∙ a ∙ ap known_id q.client)
     ∙ sym q.client
   where
     p : Rests (reached CodeClients.fresh xs)
