@@ -25,32 +25,32 @@ module _ (h : Head) (n : ℕ) (b d₁ d₂ d₃ : List ℕ) where
   headed e₁ e₂ e₃ = rw (e₃, e₂, e₁) (ap (λ (r : List ℕ). head_of h n ++ r) (drop-drop 2 4 (drop 4 b) ∙ drop-drop 6 4 b))
 
 -- Bytes at the front, then pad bytes FF written to the part after them.
-module _ (p dst d₁ d₂ : List ℕ) (pad : ℕ) (room : length p + pad ≤ length dst) (e₁ : d₁ ≡ p) where
+module _ (p dst d₁ d₂ : List ℕ) (pad : ℕ) (room : length p + pad ≤ length dst)
+    (e₁ : d₁ ≡ p ++ drop (length p) dst) where
   abbrev rest : List ℕ
   rest = drop (length p) dst
 
-  pub padded : d₂ ≡ replicate (length (take (length p + pad - length p) (drop (length p) (d₁ ++ rest)))) 0xFF
-      → put_mid (length p) (length p + pad - length p) (d₁ ++ rest) d₂
-      ≡ p ++ replicate pad 0xFF ++ drop (length p + pad) dst
+  pub padded : d₂ ≡ replicate (length (take (length p + pad - length p) (drop (length p) d₁))) 0xFF
+      → put_mid (length p) (length p + pad - length p) d₁ d₂ ≡ p ++ replicate pad 0xFF ++ drop (length p + pad) dst
   padded e₂ =
-      mid-is (length p) (length p + pad - length p) (d₁ ++ rest) d₂
+      mid-is (length p) (length p + pad - length p) d₁ d₂
       ∙ ap₂ (λ (x y : List ℕ). x ++ y) (ap₂ (λ (x y : List ℕ). x ++ y) front filled) back
     where
       size : length p + pad - length p ≡ pad
       size = omega arith
 
-      front : take (length p) (d₁ ++ rest) ≡ p
-      front = ap (λ (x : List ℕ). take (length p) (x ++ rest)) e₁ ∙ take-append_seam p rest
+      front : take (length p) d₁ ≡ p
+      front = ap (take (length p)) e₁ ∙ take-append_seam p rest
 
       filled : d₂ ≡ replicate pad 0xFF
       filled =
-          part-filled (length p) (length p + pad - length p) 0xFF (d₁ ++ rest) d₂
-          (omega (arith, size, length-append d₁ rest, ap length e₁, length-drop (length p) dst)) e₂
+          part-filled (length p) (length p + pad - length p) 0xFF d₁ d₂
+          (omega (arith, size, ap length e₁, length-append p rest, length-drop (length p) dst)) e₂
           ∙ ap (λ (n : ℕ). replicate n 0xFF) size
 
-      back : drop (length p + (length p + pad - length p)) (d₁ ++ rest) ≡ drop (length p + pad) dst
+      back : drop (length p + (length p + pad - length p)) d₁ ≡ drop (length p + pad) dst
       back =
-          ap₂ (λ (n : ℕ) (x : List ℕ). drop (length p + n) (x ++ rest)) size e₁
+          ap₂ (λ (n : ℕ) (x : List ℕ). drop (length p + n) x) size e₁
           ∙ sym (drop-drop pad (length p) (p ++ rest)) ∙ ap (drop pad) (drop-append_seam p rest)
           ∙ drop-drop pad (length p) dst
 

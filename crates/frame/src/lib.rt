@@ -44,7 +44,7 @@ pub fn put_padded(dst: &mut [u8], bytes: &[u8], pad: usize)
         ≡ (bytes.now ++ replicate pad 0xFF) ++ drop (length bytes.now + pad) dst.old }
 {
     let n = bytes.len();
-    dst[..n].copy_from_slice(bytes);
+    wire::copy(dst, bytes);
     dst[n..n + pad].fill(0xFF);
 }
 

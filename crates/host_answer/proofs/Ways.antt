@@ -100,9 +100,10 @@ module _ (a : List ℕ) (room : size ≤ length a) where
     list_over d h e = e ∙ rw (← en, lt-leb n 64 h)
 
     module _ (hs : State.size ≤ length s) (h : n ≤ 64) (rows-in d₂ : List ℕ)
-        (e₁ : rows-in ≡ take 1088 (drop 239 s)) where
+        (e₁ : rows-in ≡ take 1088 (drop 239 s)
+        ++ drop (length (take 1088 (drop 239 s))) (take (length a - 83) (drop 83 a))) where
       abbrev d₁ : List ℕ
-      d₁ = put_mid 83 1088 a rows-in
+      d₁ = put_mid 83 (length a - 83) a rows-in
 
       abbrev list : Table
       list = loaded_table 239 s
@@ -127,10 +128,11 @@ module _ (a : List ℕ) (room : size ≤ length a) where
       }
 
       pasted : Put 83 1088 (take 1088 (drop 239 s)) a d₁
-      pasted = record {
-        sized = length-take-le 1088 (drop 239 s) (omega (arith, length-drop 239 s));
-        holds = mid-is 83 1088 a rows-in ∙ ap (λ (l : List ℕ). take 83 a ++ l ++ drop 1171 a) e₁;
-      }
+      pasted =
+          let sized : length (take 1088 (drop 239 s)) ≡ 1088 =
+          length-take-le 1088 (drop 239 s) (omega (arith, length-drop 239 s)) in
+          part-put 83 1088 (take 1088 (drop 239 s)) a rows-in sized
+          (e₁ ∙ ap (λ (k : ℕ). take 1088 (drop 239 s) ++ drop k (take (length a - 83) (drop 83 a))) sized)
 
       list-in : table_in part n ≡ list
       unfolding loaded loaded_walk loaded_table

@@ -95,7 +95,7 @@ pub fn write_list(bytes: &[u8], out: &mut [u8])
         no_list(out);
         return;
     }
-    out[83..1171].copy_from_slice(&bytes[239..1327]);
+    wire::copy(&mut out[83..], &bytes[239..1327]);
     walk_table::sort(&mut out[83..], n);
     wire::put(out, 1171, n as u64);
 }

@@ -167,3 +167,14 @@ pub fn put<const N: usize, W: Word<N>>(buf: &mut [u8], at: usize, x: W)
 {
     arrays::put_bytes(buf, at, x.to_bytes());
 }
+
+// Writes src to the front of dst. Kept as a loop: with the library's copy_from_slice on a part of any length, an
+// archive for C needs memmove from outside.
+pub fn copy(dst: &mut [u8], src: &[u8])
+    requires { length src.now ≤ length dst.old }
+    ensures { dst.new ≡ src.now ++ drop (length src.now) dst.old }
+{
+    for (i, b) in src.iter().enumerate() {
+        dst[i] = *b;
+    }
+}
