@@ -8,7 +8,9 @@ use client::{Front, Job, Phase, Refusal, Says, Verdict};
 use client_job::{Next, Then};
 use hearing::NoReply;
 
-// The verdict for what is next. The unread rest begins at the place given.
+// The verdict for what is next. The unread rest begins at the place given. Kept inline: as a call of its own it leaves
+// its verdict in memory, to be copied three times, and a record takes half as long again.
+#[inline(always)]
 #[tactic(auto, unfolding(crate::specs::Answer::goes))]
 fn goes(f: Front, next: Next, at: usize) -> Verdict
     ensures { (w : Walk) → told_of result w ≡ goes (client_of f w) next at }
