@@ -9,7 +9,7 @@ use client_job::{Next, Then};
 use hearing::NoReply;
 
 // The verdict for what is next. The unread rest begins at the place given. Kept inline: as a call of its own it leaves
-// its verdict in memory, to be copied three times, and a record takes half as long again.
+// its verdict in memory, to be copied three times, and a record takes up to a quarter longer.
 #[inline(always)]
 #[tactic(auto, unfolding(crate::specs::Answer::goes))]
 fn goes(f: Front, next: Next, at: usize) -> Verdict

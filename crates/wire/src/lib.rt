@@ -1,4 +1,4 @@
-// Document 01's numbers, little-endian numbers in slices, and why a writer writes nothing.
+// Document 01's numbers, little-endian numbers in slices, bytes copied, and why a writer writes nothing.
 #![tactic(auto)]
 
 pub mod arrays;
@@ -168,8 +168,8 @@ pub fn put<const N: usize, W: Word<N>>(buf: &mut [u8], at: usize, x: W)
     arrays::put_bytes(buf, at, x.to_bytes());
 }
 
-// Writes src to the front of dst. Kept as a loop: with the library's copy_from_slice on a part of any length, an
-// archive for C needs memmove from outside.
+// Writes src to the front of dst. Kept as a loop: with the library's copy_from_slice in its two callers, an archive for
+// C needs memmove from outside.
 pub fn copy(dst: &mut [u8], src: &[u8])
     requires { length src.now ≤ length dst.old }
     ensures { dst.new ≡ src.now ++ drop (length src.now) dst.old }
